@@ -1,0 +1,14 @@
+-- Little-endian numbers of any byte count (the sheet, "The image": all numbers are little-endian).
+-- Assumes nothing.
+use Prim.Native.Nat.{ℕ, zero, suc, _+_, _*_, _/_, _%_}
+use mathlib.Core.List.{List, [], _∷_}
+
+-- The number that a list of bytes stands for: the first byte counts units, the next 256s, and so on.
+unfoldable pub le : List ℕ → ℕ
+le [] = 0
+le (b ∷ bs) = le bs * 256 + b
+
+-- The `count` bytes that stand for n, lowest first; what does not fit is dropped.
+unfoldable pub toLe : ℕ → ℕ → List ℕ
+toLe zero n = []
+toLe (suc count) n = n % 256 ∷ toLe count (n / 256)
