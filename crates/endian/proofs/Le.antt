@@ -1,0 +1,57 @@
+-- Laws of little-endian numbers. Assumes nothing.
+use Prim.Native.Nat.{ℕ, zero, suc, _+_, _-_, _*_, _/_, _%_, _^_, _≤_, _<_, zero-le, suc-le-suc}
+use native.Mathlib.Omega.{arith}
+use native.Mathlib.Nat.{pow-suc, pow-le-pow-right, one-le-pow, lt-of-lt-of-le, sub-zero}
+use mathlib.Core.Path.{_≡_, refl, sym, ap, _∙_}
+use mathlib.Core.List.{List, [], _∷_, _++_}
+use lib.ListN.{length, take, drop, getD, length-take, drop-of-length-le}
+use lib.Seq.{drop-cons}
+use lib.Arith.{digits-lt}
+use lib.Dec.{lit<}
+use Rattle.endian.specs.Parts.{part, Bytes}
+use Rattle.endian.specs.Le.{le, toLe}
+use Rattle.endian.proofs.Parts.{length-part, getD-part}
+
+-- One more byte below.
+pub digit : (k : ℕ) {n b : ℕ} → n < 256 ^ k → b < 256 → n * 256 + b < 256 ^ suc k
+digit k h g = rw pow-suc (digits-lt h g)
+
+pub fewer : (j k : ℕ) {n : ℕ} → n < 256 ^ j → j ≤ k → n < 256 ^ k
+fewer j k h g = lt-of-lt-of-le h (pow-le-pow-right (lit< tt) g)
+
+-- The bytes from place j of a part on, by the byte there and those after it.
+pub le-from : (at n j : ℕ) (l : List ℕ) → at + n ≤ length l → j < n →
+    le (drop j (part at n l)) ≡ le (drop (suc j) (part at n l)) * 256 + getD l (at + j) 0
+unfolding le
+le-from at n j l fits below =
+    let long : j < length (part at n l) = rw (length-part at n l fits) below in
+    rw (drop-cons (part at n l) j 0 long, getD-part at n l j 0 below)
+
+-- What a loop that reads the part's bytes from the last one down has in `sum` when it has still `left` bytes to read.
+pub record Reading (at n left sum : ℕ) (l : List ℕ) : Type 0 where
+  pub within : left ≤ n
+  pub reads : sum ≡ le (drop left (part at n l))
+  pub small : sum < 256 ^ (n - left)
+
+pub reading-none : (at n : ℕ) (l : List ℕ) → Reading at n n 0 l
+unfolding le part
+reading-none at n l =
+    record {
+      within = omega arith;
+      reads = rw (drop-of-length-le (take n (drop at l)) {i = n} (simp length-take (omega arith)));
+      small = one-le-pow (n - n) 256 (lit< tt);
+    }
+
+pub reading-more : {at n left sum : ℕ} (l : List ℕ) → at + n ≤ length l → 0 < left → getD l (at + (left - 1)) 0 < 256 → Reading at n left sum l →
+    Reading at n (left - 1) (sum * 256 + getD l (at + (left - 1)) 0) l
+reading-more {at} {n} {left} {sum} l fits some byte r =
+    let one : suc (left - 1) ≡ left = omega arith in
+    let more : suc (n - left) ≡ n - (left - 1) = omega arith in
+    record {
+      within = omega arith;
+      reads = rw (le-from at n (left - 1) l fits (omega arith), one, r .reads);
+      small = rw more at (digit (n - left) (r .small) byte);
+    }
+
+pub reading-whole : {at n sum : ℕ} (l : List ℕ) → Reading at n 0 sum l → (sum ≡ le (part at n l)) × (sum < 256 ^ n)
+reading-whole {at} {n} l r = (r .reads, rw sub-zero at (r .small))
