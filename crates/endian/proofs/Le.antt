@@ -55,3 +55,7 @@ reading-more {at} {n} {left} {sum} l fits some byte r =
 
 pub reading-whole : {at n sum : ℕ} (l : List ℕ) → Reading at n 0 sum l → (sum ≡ le (part at n l)) × (sum < 256 ^ n)
 reading-whole {at} {n} l r = (r .reads, rw sub-zero at (r .small))
+
+pub toLe-left : {i count : ℕ} (n : ℕ) → i < count → toLe (count - i) n ≡ n % 256 ∷ toLe (count - (i + 1)) (n / 256)
+unfolding toLe
+toLe-left {i} {count} n h = let one : count - i ≡ suc (count - (i + 1)) = omega arith in rw one

@@ -38,3 +38,62 @@ pub fn read_u64(s: &[u8], at: usize) -> u64
 {
     read(s, at, 8)
 }
+
+// Writes the lowest `count` bytes of `value`, lowest first, from `at` on.
+pub fn write(s: &mut [u8], at: usize, count: usize, value: u64)
+    requires { ⌜ at + count ≤ length (now s) ⌝ }
+    ensures { λ _. ⌜ now (s .exit) ≡ splice at (toLe count value) (now (s .entry)) ⌝ }
+{
+    let mut rest = value;
+    let mut i = 0;
+    while i < count {
+        s[at + i] = (rest % 256) as u8;
+        rest /= 256;
+        i += 1;
+    }
+}
+
+pub fn write_u16(s: &mut [u8], at: usize, value: u16)
+    requires { ⌜ at + 2 ≤ length (now s) ⌝ }
+    ensures { λ _. ⌜ now (s .exit) ≡ splice at (toLe 2 value) (now (s .entry)) ⌝ }
+{
+    write(s, at, 2, value as u64);
+}
+
+pub fn write_u32(s: &mut [u8], at: usize, value: u32)
+    requires { ⌜ at + 4 ≤ length (now s) ⌝ }
+    ensures { λ _. ⌜ now (s .exit) ≡ splice at (toLe 4 value) (now (s .entry)) ⌝ }
+{
+    write(s, at, 4, value as u64);
+}
+
+pub fn write_u64(s: &mut [u8], at: usize, value: u64)
+    requires { ⌜ at + 8 ≤ length (now s) ⌝ }
+    ensures { λ _. ⌜ now (s .exit) ≡ splice at (toLe 8 value) (now (s .entry)) ⌝ }
+{
+    write(s, at, 8, value);
+}
+
+// Copies the whole of `v` into `s` from `at` on.
+pub fn put(s: &mut [u8], at: usize, v: &[u8])
+    requires { ⌜ at + length (now v) ≤ length (now s) ⌝ }
+    ensures { λ _. ⌜ now (s .exit) ≡ splice at (now (v .entry)) (now (s .entry)) ⌝ }
+{
+    let mut i = 0;
+    while i < v.len() {
+        s[at + i] = v[i];
+        i += 1;
+    }
+}
+
+// Makes the `count` bytes from `at` on zero.
+pub fn clear(s: &mut [u8], at: usize, count: usize)
+    requires { ⌜ at + count ≤ length (now s) ⌝ }
+    ensures { λ _. ⌜ now (s .exit) ≡ splice at (replicate count 0) (now (s .entry)) ⌝ }
+{
+    let mut i = 0;
+    while i < count {
+        s[at + i] = 0;
+        i += 1;
+    }
+}
