@@ -1,0 +1,4 @@
+pub mod Stamp
+pub mod Command
+pub mod Table
+pub mod Judge
