@@ -1,7 +1,15 @@
 // The guard of one card: stamps and pairs, commands in bytes, and an entry that judges a command.
-ghost use mathlib.Core.Path.{_≡_};
-ghost use Rattle.guard.specs.Judge.{judged, replied};
-ghost use Rattle.guard.specs.Command.{parsed};
+pub mod stamp;
+
+pub use stamp::EXCLUSIVE;
+pub use stamp::SHARED;
+pub use stamp::desk_of;
+pub use stamp::larger;
+pub use stamp::mark_whole;
+pub use stamp::own_stamp;
+pub use stamp::session_ok;
+pub use stamp::stale;
+pub use stamp::stamp_valid;
 
 // A shared stamp s and an exclusive stamp x (Minuet: a session identifier). Zero means none.
 pub struct Pair {
