@@ -2,3 +2,4 @@ pub mod Stamp
 pub mod Command
 pub mod Table
 pub mod Judge
+pub mod Entry

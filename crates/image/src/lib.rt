@@ -1,0 +1,1 @@
+// The image: the bytes of a store's cards.
