@@ -27,35 +27,6 @@ le-from at n j l fits below =
     let long : j < length (part at n l) = rw (length-part at n l fits) below in
     rw (drop-cons (part at n l) j 0 long, getD-part at n l j 0 below)
 
--- What a loop that reads the part's bytes from the last one down has in `sum` when it has still `left` bytes to read.
-pub record Reading (at n left sum : ℕ) (l : List ℕ) : Type 0 where
-  pub within : left ≤ n
-  pub reads : sum ≡ le (drop left (part at n l))
-  pub small : sum < 256 ^ (n - left)
-
-pub reading-none : (at n : ℕ) (l : List ℕ) → Reading at n n 0 l
-unfolding le part
-reading-none at n l =
-    record {
-      within = omega arith;
-      reads = rw (drop-of-length-le (take n (drop at l)) {i = n} (simp length-take (omega arith)));
-      small = one-le-pow (n - n) 256 (lit< tt);
-    }
-
-pub reading-more : {at n left sum : ℕ} (l : List ℕ) → at + n ≤ length l → 0 < left → getD l (at + (left - 1)) 0 < 256 → Reading at n left sum l →
-    Reading at n (left - 1) (sum * 256 + getD l (at + (left - 1)) 0) l
-reading-more {at} {n} {left} {sum} l fits some byte r =
-    let one : suc (left - 1) ≡ left = omega arith in
-    let more : suc (n - left) ≡ n - (left - 1) = omega arith in
-    record {
-      within = omega arith;
-      reads = rw (le-from at n (left - 1) l fits (omega arith), one, r .reads);
-      small = rw more at (digit (n - left) (r .small) byte);
-    }
-
-pub reading-whole : {at n sum : ℕ} (l : List ℕ) → Reading at n 0 sum l → (sum ≡ le (part at n l)) × (sum < 256 ^ n)
-reading-whole {at} {n} l r = (r .reads, rw sub-zero at (r .small))
-
 pub toLe-left : {i count : ℕ} (n : ℕ) → i < count → toLe (count - i) n ≡ n % 256 ∷ toLe (count - (i + 1)) (n / 256)
 unfolding toLe
 toLe-left {i} {count} n h = let one : count - i ≡ suc (count - (i + 1)) = omega arith in rw one

@@ -1,3 +1,4 @@
 pub mod Parts
 pub mod Le
+pub mod Loops
 pub mod Tests

@@ -1,10 +1,10 @@
 -- The loop: the bytes before place i are zero, so that those from there on decide. Assumes nothing.
-use Prim.Native.Nat.{_≤_, _<_, _-_}
+use Prim.Native.Nat.{_≤_, _-_}
 use native.Mathlib.Omega.{arith}
-use mathlib.Core.Path.{_≡_, refl, sym, ap, _∙_}
+use mathlib.Core.Path.{_≡_, refl}
 use borrow.Author.Tests.{eq-eqb, ne-eqb}
 use lib.ListN.{length, drop}
-use Rattle.endian.proofs.Parts.{zeros-from, zeros-end}
+use Rattle.endian.proofs.Loops.{zeros-from, zeros-end}
 use Rattle.endian.specs.Parts.{zeros}
 use Rattle.endian.proofs.all_zero.Statement.{statement}
 use Rattle.endian.proofs.all_zero.Tie as tie

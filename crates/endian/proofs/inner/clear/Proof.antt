@@ -4,7 +4,7 @@ use native.Mathlib.Omega.{arith}
 use native.Mathlib.Nat.{sub-zero}
 use mathlib.Core.Path.{_≡_}
 use lib.ListN.{replicate}
-use Rattle.endian.proofs.Parts.{Writing, writing-none, writing-more, writing-done, replicate-left}
+use Rattle.endian.proofs.Loops.{Writing, writing-none, writing-more, writing-done, replicate-left}
 use Rattle.endian.proofs.inner.clear.Statement.{statement}
 use Rattle.endian.proofs.inner.clear.Tie as tie
 

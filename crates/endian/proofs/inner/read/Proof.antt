@@ -1,11 +1,9 @@
 -- The loop: what is read so far is the number of the bytes from place `left` of the part on. Assumes nothing.
 use Prim.Native.Nat.{_+_, _-_}
 use native.Mathlib.Omega.{arith}
-use mathlib.Core.Path.{_≡_, refl, sym, ap, _∙_}
-use lib.ListN.{length, drop}
-use Rattle.endian.specs.Parts.{part}
-use Rattle.endian.specs.Le.{le}
-use Rattle.endian.proofs.Le.{Reading, reading-none, reading-more, reading-whole, fewer}
+use mathlib.Core.Path.{_≡_}
+use Rattle.endian.proofs.Le.{fewer}
+use Rattle.endian.proofs.Loops.{Reading, reading-none, reading-more, reading-done}
 use Rattle.endian.proofs.inner.read.Statement.{statement}
 use Rattle.endian.proofs.inner.read.Tie as tie
 
@@ -43,7 +41,7 @@ loop-again : tie.Need-loop-again Inv-loop μ-loop
 loop-again c = reading-more _ (omega arith) (omega arith) (omega (arith, c .shared-slice-known .given (c .before .before .before .args .at + (c .before .before .loop .left - 1)))) (c .before .before .loop .inv)
 
 returns : tie.Need-returns Inv-loop μ-loop
-returns c = let none : c .before .loop .left ≡ 0 = omega arith in reading-whole _ (rw none at (c .before .loop .inv))
+returns c = let none : c .before .loop .left ≡ 0 = omega arith in reading-done _ (rw none at (c .before .loop .inv))
 
 pub read-spec : {M : Type 1} → statement M
 read-spec =

@@ -4,7 +4,7 @@ use native.Mathlib.Omega.{arith}
 use native.Mathlib.Nat.{sub-zero}
 use mathlib.Core.Path.{_≡_}
 use Rattle.endian.specs.Le.{toLe}
-use Rattle.endian.proofs.Parts.{Writing, writing-none, writing-more, writing-done}
+use Rattle.endian.proofs.Loops.{Writing, writing-none, writing-more, writing-done}
 use Rattle.endian.proofs.Le.{toLe-left}
 use Rattle.endian.proofs.inner.write.Statement.{statement}
 use Rattle.endian.proofs.inner.write.Tie as tie
