@@ -1,0 +1,3 @@
+pub mod Serve
+pub mod Words
+pub mod Claims
