@@ -1,18 +1,22 @@
 -- Laws of little-endian numbers. Assumes nothing.
-use Prim.Native.Nat.{ℕ, zero, suc, _+_, _-_, _*_, _/_, _%_, _^_, _≤_, _<_, zero-le, suc-le-suc}
+use Prim.Native.Nat.{ℕ, zero, suc, _+_, _-_, _*_, _/_, _%_, _^_, _≤_, _<_}
 use native.Mathlib.Omega.{arith}
-use native.Mathlib.Nat.{pow-suc, pow-le-pow-right, one-le-pow, lt-of-lt-of-le, sub-zero}
+use native.Mathlib.Nat.{pow-suc, pow-zero, pow-le-pow-right, lt-of-lt-of-le, mod-lt, div-lt-iff-lt-mul, div-add-mod', mul-comm, mul-assoc, add-assoc, add-mul, mul-one}
 use mathlib.Core.Path.{_≡_, refl, sym, ap, _∙_}
 use mathlib.Core.List.{List, [], _∷_, _++_}
-use lib.ListN.{length, take, drop, getD, length-take, drop-of-length-le}
+use mathlib.Core.Bool.{Bool, true, false, _&&_}
+use borrow.Author.Tests.{eqb-true, eq-eqb}
+use lib.ListN.{length, drop, getD, replicate, length-take}
 use lib.Seq.{drop-cons}
-use lib.Arith.{digits-lt}
-use lib.Dec.{lit<}
-use Rattle.endian.specs.Parts.{part, Bytes}
+use lib.Arith.{digits-lt, digits-div, digits-mod}
+use lib.Dec.{T, eqb, lit<, eqb→eq}
+use Rattle.endian.specs.Parts.{part, splice, zeros, Bytes}
 use Rattle.endian.specs.Le.{le, toLe}
-use Rattle.endian.proofs.Parts.{length-part, getD-part}
+use Rattle.endian.proofs.Bytes.{Bytes-nil, Bytes-cons, Bytes-part, zeros-means}
+use Rattle.endian.proofs.Parts.{length-part, getD-part, splice-here, splice-part}
+use Rattle.endian.proofs.Tests.{same, T-and, T-and-left, T-and-right, eq→eqb}
 
--- One more byte below.
+-- One more byte below, and fewer bytes than k.
 pub digit : (k : ℕ) {n b : ℕ} → n < 256 ^ k → b < 256 → n * 256 + b < 256 ^ suc k
 digit k h g = rw pow-suc (digits-lt h g)
 
@@ -30,3 +34,85 @@ le-from at n j l fits below =
 pub toLe-left : {i count : ℕ} (n : ℕ) → i < count → toLe (count - i) n ≡ n % 256 ∷ toLe (count - (i + 1)) (n / 256)
 unfolding toLe
 toLe-left {i} {count} n h = let one : count - i ≡ suc (count - (i + 1)) = omega arith in rw one
+
+-- ---- sizes
+
+pub length-toLe : (count n : ℕ) → length (toLe count n) ≡ count
+unfolding toLe
+length-toLe zero n = refl
+length-toLe (suc count) n = ap suc (length-toLe count (n / 256))
+
+pub Bytes-toLe : (count n : ℕ) → Bytes (toLe count n)
+unfolding toLe
+Bytes-toLe zero n = Bytes-nil
+Bytes-toLe (suc count) n = Bytes-cons (toLe count (n / 256)) (mod-lt n (lit< tt)) (Bytes-toLe count (n / 256))
+
+pub le-bound : (l : List ℕ) → Bytes l → le l < 256 ^ length l
+unfolding le
+le-bound [] h = lit< tt
+le-bound (b ∷ l) h = digit (length l) (le-bound l (λ i. h (suc i))) (h zero)
+
+pub le-part-bound : (at n : ℕ) (l : List ℕ) → Bytes l → le (part at n l) < 256 ^ n
+unfolding part
+le-part-bound at n l h =
+    fewer (length (part at n l)) n (le-bound (part at n l) (Bytes-part at n l h)) (simp length-take (omega arith))
+
+-- ---- both round trips
+
+pub le-toLe : (count n : ℕ) → n < 256 ^ count → le (toLe count n) ≡ n
+unfolding le toLe
+le-toLe zero n h = omega arith
+le-toLe (suc count) n h =
+    let more : n / 256 < 256 ^ count = div-lt-iff-lt-mul (lit< tt) .1 (rw pow-suc at h) in
+    rw (le-toLe count (n / 256) more) (div-add-mod' n 256)
+
+pub toLe-le : (l : List ℕ) → Bytes l → toLe (length l) (le l) ≡ l
+unfolding le toLe
+toLe-le [] h = refl
+toLe-le (b ∷ l) h = rw (digits-mod (le l) (h zero), digits-div (le l) (h zero), toLe-le l (λ i. h (suc i)))
+
+-- Two lists of bytes of one length that stand for the same number are the same.
+pub le-injective : (a b : List ℕ) → Bytes a → Bytes b → length a ≡ length b → le a ≡ le b → a ≡ b
+le-injective a b h k e f = sym (toLe-le a h) ∙ rw (e, f) (toLe-le b k)
+
+-- What is written at a place is read there, and what is read, written back, changes nothing.
+pub le-splice : (at count n : ℕ) (l : List ℕ) → at ≤ length l → n < 256 ^ count → le (part at count (splice at (toLe count n) l)) ≡ n
+le-splice at count n l h k =
+    ap (λ (m : ℕ). le (part at m (splice at (toLe count n) l))) (sym (length-toLe count n))
+    ∙ ap le (splice-here at (toLe count n) l h)
+    ∙ le-toLe count n k
+
+pub splice-le : (at count : ℕ) (l : List ℕ) → Bytes l → at + count ≤ length l → splice at (toLe count (le (part at count l))) l ≡ l
+splice-le at count l h k =
+    let whole : toLe count (le (part at count l)) ≡ part at count l =
+    ap (λ (m : ℕ). toLe m (le (part at count l))) (sym (length-part at count l k)) ∙ toLe-le (part at count l) (Bytes-part at count l h) in
+    rw whole (splice-part at count l k)
+
+-- ---- two numbers end to end, and zero
+
+pub le-append : (a b : List ℕ) → le (a ++ b) ≡ le b * 256 ^ length a + le a
+unfolding le
+le-append [] b = omega arith
+le-append (x ∷ a) b = rw (le-append a b, pow-suc) (rw (add-mul, mul-assoc, add-assoc))
+
+-- The number is zero exactly when every byte is.
+pub le-zero : (l : List ℕ) → eqb (le l) 0 ≡ zeros l
+unfolding le zeros
+le-zero [] = refl
+le-zero (b ∷ l) = same (eqb (le l * 256 + b) 0) (eqb b 0 && zeros l) (there (le-zero l)) (back (le-zero l))
+  where
+    there : eqb (le l) 0 ≡ zeros l → T (eqb (le l * 256 + b) 0) → T (eqb b 0 && zeros l)
+    there e t =
+        let none : le l * 256 + b ≡ 0 = eqb→eq (le l * 256 + b) 0 t in
+        T-and (eqb b 0) (zeros l) (eq→eqb b 0 (omega arith)) (rw e at (eq→eqb (le l) 0 (omega arith)))
+
+    back : eqb (le l) 0 ≡ zeros l → T (eqb b 0 && zeros l) → T (eqb (le l * 256 + b) 0)
+    back e t =
+        let low : b ≡ 0 = eqb→eq b 0 (T-and-left (eqb b 0) (zeros l) t) in
+        let high : le l ≡ 0 = eqb→eq (le l) 0 (rw e (T-and-right (eqb b 0) (zeros l) t)) in
+        eq→eqb (le l * 256 + b) 0 (omega arith)
+
+pub toLe-zero : (count : ℕ) → toLe count 0 ≡ replicate count 0
+unfolding toLe
+toLe-zero zero = refl
+toLe-zero (suc count) = ap (λ (m : List ℕ). 0 ∷ m) (toLe-zero count)

@@ -1,4 +1,5 @@
+pub mod Tests
 pub mod Parts
+pub mod Bytes
 pub mod Le
 pub mod Loops
-pub mod Tests
