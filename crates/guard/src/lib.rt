@@ -1,15 +1,18 @@
 // The guard of one card: stamps and pairs, commands in bytes, and an entry that judges a command.
-pub mod stamp;
+pub mod commands;
+pub mod stamps;
 
-pub use stamp::EXCLUSIVE;
-pub use stamp::SHARED;
-pub use stamp::desk_of;
-pub use stamp::larger;
-pub use stamp::mark_whole;
-pub use stamp::own_stamp;
-pub use stamp::session_ok;
-pub use stamp::stale;
-pub use stamp::stamp_valid;
+pub use commands::FIXED;
+pub use commands::parse;
+pub use stamps::EXCLUSIVE;
+pub use stamps::SHARED;
+pub use stamps::desk_of;
+pub use stamps::larger;
+pub use stamps::mark_whole;
+pub use stamps::own_stamp;
+pub use stamps::session_ok;
+pub use stamps::stale;
+pub use stamps::stamp_valid;
 
 // A shared stamp s and an exclusive stamp x (Minuet: a session identifier). Zero means none.
 pub struct Pair {

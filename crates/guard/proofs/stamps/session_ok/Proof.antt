@@ -1,8 +1,8 @@
 -- The tests in their order, by what each call ensures. Assumes nothing.
 use borrow.Author.Needs.{needs}
 use Rattle.endian.specs.Tests.{all, allFrom}
-use Rattle.guard.proofs.stamp.session_ok.Statement.{statement}
-use Rattle.guard.proofs.stamp.session_ok.Tie as tie
+use Rattle.guard.proofs.stamps.session_ok.Statement.{statement}
+use Rattle.guard.proofs.stamps.session_ok.Tie as tie
 
 stamp-valid-requires : tie.Need-stamp-valid-requires
 stamp-valid-requires c κs = search needs

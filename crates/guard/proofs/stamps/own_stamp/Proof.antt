@@ -1,7 +1,7 @@
 -- By the test of the mode. Assumes nothing.
 use borrow.Author.Tests.{eq-eqb, ne-eqb}
-use Rattle.guard.proofs.stamp.own_stamp.Statement.{statement}
-use Rattle.guard.proofs.stamp.own_stamp.Tie as tie
+use Rattle.guard.proofs.stamps.own_stamp.Statement.{statement}
+use Rattle.guard.proofs.stamps.own_stamp.Tie as tie
 
 returns : tie.Need-returns
 returns c = rw (eq-eqb _ _ (c .if1 .taken))
