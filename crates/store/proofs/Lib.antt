@@ -1,1 +1,4 @@
+pub mod Meaning
+pub mod Formed
+pub mod Isolation
 pub mod Cases
