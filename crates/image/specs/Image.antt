@@ -11,6 +11,8 @@ use Rattle.endian.specs.Tests.{all}
 use Rattle.guard.specs.Command.{Language, original, translation, field}
 use Rattle.guard.specs.Entry.{entrySound, noEntry}
 use Rattle.guard.specs.declared.Entry.{Entry}
+use Rattle.guard.specs.declared.Mark.{Mark}
+use Rattle.guard.specs.declared.Pair.{Pair}
 
 -- One card: its entry and its two texts.
 pub record Card : Type 0 where
@@ -83,22 +85,25 @@ magic = 0x52 ∷ 0x43 ∷ 0x31 ∷ 0x00 ∷ []
 abbrev pub version : ℕ
 version = 1
 
+unfoldable pub headerNumbers : ℕ → ℕ → List ℕ
+headerNumbers n c = magic ++ toLe 2 version ++ toLe 2 n ++ toLe 2 c
+
 unfoldable pub header : ℕ → ℕ → List ℕ
-header n c = magic ++ toLe 2 version ++ toLe 2 n ++ toLe 2 c ++ replicate 6 0
+header n c = headerNumbers n c ++ replicate 6 0
 
 -- "Entry: 0 s u64; 8 x u64; 16 commit desk u16; 18 zero u16; 20 commit transaction u32; 24 edition u16; 26 translated-from u16;
 -- 28 original length u16; 30 translation length u16."
+unfoldable pub pairBytes : Pair → List ℕ
+pairBytes p = toLe 8 (p .s) ++ toLe 8 (p .x)
+
+unfoldable pub markBytes : Mark → List ℕ
+markBytes m = toLe 2 (m .desk) ++ toLe 2 0 ++ toLe 4 (m .transaction)
+
+unfoldable pub countBytes : Entry → List ℕ
+countBytes e = toLe 2 (e .edition) ++ toLe 2 (e .from) ++ toLe 2 (e .original) ++ toLe 2 (e .translation)
+
 unfoldable pub entryBytes : Entry → List ℕ
-entryBytes e =
-    toLe 8 (e .pair .s)
-    ++ toLe 8 (e .pair .x)
-    ++ toLe 2 (e .mark .desk)
-    ++ toLe 2 0
-    ++ toLe 4 (e .mark .transaction)
-    ++ toLe 2 (e .edition)
-    ++ toLe 2 (e .from)
-    ++ toLe 2 (e .original)
-    ++ toLe 2 (e .translation)
+entryBytes e = pairBytes (e .pair) ++ markBytes (e .mark) ++ countBytes e
 
 -- A body: the text, and zeros up to the room.
 unfoldable pub pad : ℕ → List ℕ → List ℕ
