@@ -11,7 +11,18 @@ use lib.Dec.{T, leb, eqb}
 use lib.ListN.{getD}
 use Rattle.endian.specs.Tests.{all, allFrom}
 use Rattle.endian.proofs.Tests.{cases, never-both, all-out, from-T}
-use Rattle.image.specs.Image.{sizeOf, shapeOk, bodyPlace, mostCards, mostRoom, leastRoom, roomStep, mostBytes}
+use Rattle.image.specs.Image.{
+  sizeOf,
+  shapeOk,
+  entryPlace,
+  entrySize,
+  bodyPlace,
+  mostCards,
+  mostRoom,
+  leastRoom,
+  roomStep,
+  mostBytes,
+}
 
 -- ---- lists of tests
 
@@ -72,3 +83,10 @@ shape n c e =
 -- A product of a number up to m with one of two bytes.
 pub product : (a b m : ℕ) → a ≤ m → b < 65536 → a * b ≤ m * 65535
 product a b m h g = mul-le-mul h (omega arith)
+
+-- An entry and a body lie within the whole.
+pub entry-within : (n c : ℕ) {k : ℕ} → k < n → entryPlace k + entrySize ≤ sizeOf n c
+entry-within n c h = omega arith
+
+pub body-within : (n c k side : ℕ) → k < n → side < 2 → bodyPlace n c k side + c ≤ sizeOf n c
+body-within n c k side h g = let fits : (2 * k + side + 1) * c ≤ 2 * n * c = mul-le-mul-right c (omega arith) in omega arith

@@ -23,9 +23,10 @@ ghost use Rattle.image.specs.Image.{
   fresh,
 };
 use crate::layout;
-use crate::layout::HEADER;
 use crate::layout::ENTRY;
+use crate::layout::HEADER;
 use crate::layout::MAGIC;
+use crate::layout::NUMBERS;
 use crate::layout::VERSION;
 use endian::inner as le;
 use guard::Entry;
@@ -209,6 +210,7 @@ pub fn write_fresh(image: &mut [u8], n: u16, c: u16)
     requires { ⌜ length (now image) ≡ sizeOf n c ⌝ }
     ensures { λ _. ⌜ now (image .exit) ≡ fresh n c ⌝ }
 {
+    let size = image.len();
     write_header(image, n, c);
-    le::clear(image, 10, image.len() - 10);
+    le::clear(image, NUMBERS, size - NUMBERS);
 }

@@ -17,6 +17,9 @@ pub const HEADER: usize = 16;
 
 pub const ENTRY: usize = 32;
 
+// Up to where the header has numbers; the rest of it is zeros.
+pub const NUMBERS: usize = 10;
+
 // The header's first numbers: the bytes 52 43 31 00, and the version.
 pub const MAGIC: u32 = 0x0031_4352;
 

@@ -31,10 +31,8 @@ pub fn sound(image: &[u8]) -> bool
 // Makes a fresh image, and answers 0; or answers 14 and writes nothing, if N, C or the lent length breaks the rules.
 pub fn make(image: &mut [u8], cards: usize, room: usize) -> u8
     ensures number { λ r. ⌜ r ≡ makeNumber cards room (length (now (image .entry))) ⌝ }
-    ensures bytes {
-      λ r. ⌜ now (image .exit)
-      ≡ settled (makeNumber cards room (length (now (image .entry)))) (fresh cards room) (now (image .entry)) ⌝
-    }
+    ensures bytes { λ r. ⌜ now (image .exit)
+        ≡ settled (makeNumber cards room (length (now (image .entry)))) (fresh cards room) (now (image .entry)) ⌝ }
 {
     if !layout::shape_ok(cards, room) {
         return 14;

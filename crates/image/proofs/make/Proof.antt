@@ -1,47 +1,44 @@
+-- Refused by the shape, refused by the length, or made. Assumes nothing.
+use Rattle.image.proofs.Bytes.{not-shaped, not-lent, made}
+use Rattle.image.proofs.Shape.{shape}
+use native.Mathlib.Omega.{arith}
+use lib.ListN.{length}
+use borrow.Author.Tests.{not-true, not-false}
+use mathlib.Core.Path.{sym, _∙_}
 use borrow.Author.Needs.{needs}
 use Rattle.image.proofs.make.Statement.{statement}
 use Rattle.image.proofs.make.Tie as tie
-use Rattle.image.proofs.make.Reads as reads
-use Rattle.image.proofs.make.Lts as lts
-use Rattle.image.proofs.inner.write_fresh.Reads as write-fresh-reads
-use Rattle.image.proofs.layout.shape_ok.Reads as shape-ok-reads
-use Rattle.image.proofs.layout.size_of.Reads as size-of-reads
 
--- src/lib.rt:39:9
 shape-ok-requires : tie.Need-shape-ok-requires
 shape-ok-requires c κs = search needs
 
--- src/lib.rt:40:9
 returns : tie.Need-returns
-returns c = ?
+returns c = let refused = not-shaped (c .before .before .before .args .cards) (c .before .before .before .args .room) (length (c .before .before .before .args .image .now)) (sym (c .before .shape-ok .ensures) ∙ not-true _ (c .if1 .taken)) in
+    (rw refused, rw refused)
 
--- src/lib.rt:42:13
 cast-n : tie.Need-cast-n
-cast-n c = ?
+cast-n c = let s = shape _ _ (sym (c .before .shape-ok .ensures) ∙ not-false _ (c .if1 .left)) in omega arith
 
--- src/lib.rt:43:13
 cast-c : tie.Need-cast-c
-cast-c c = ?
+cast-c c = let s = shape _ _ (sym (c .before .shape-ok .ensures) ∙ not-false _ (c .if1 .left)) in omega arith
 
--- src/lib.rt:44:23
 size-of-requires : tie.Need-size-of-requires
 size-of-requires c κs = search needs
 
--- src/lib.rt:45:9
 returns-2 : tie.Need-returns-2
-returns-2 c = ?
+returns-2 c = let refused =
+    not-lent (c .before .before .before .before .before .args .cards) (c .before .before .before .before .before .args .room) (length (c .before .before .before .before .before .args .image .now)) (sym (c .before .before .before .shape-ok .ensures) ∙ not-false _ (c .before .before .if1 .left)) (λ e. c .if2 .taken (e ∙ sym (c .before .size-of .ensures))) in
+    (rw refused, rw refused)
 
--- src/lib.rt:47:5
 write-fresh-requires : tie.Need-write-fresh-requires
 write-fresh-requires c κs = search needs
 
--- src/lib.rt:32:1
 same-length : tie.Need-same-length
 same-length c = search needs
 
--- src/lib.rt:32:1
 returns-3 : tie.Need-returns-3
-returns-3 c = ?
+returns-3 c = let accepted = made (c .before .before .before .before .before .before .before .before .before .args .cards) (c .before .before .before .before .before .before .before .before .before .args .room) (length (c .before .before .before .before .before .before .before .before .before .args .image .now)) (sym (c .before .before .before .before .before .before .before .shape-ok .ensures) ∙ not-false _ (c .before .before .before .before .before .before .if1 .left)) (c .before .before .before .before .if2 .left ∙ c .before .before .before .before .before .size-of .ensures) in
+    (rw accepted, rw accepted (c .before .before .write-fresh .ensures))
 
 pub make-spec : {M : Type 1} → statement M
 make-spec =

@@ -1,60 +1,60 @@
+-- The loop: every card before k keeps the rules. Assumes nothing.
+use Rattle.image.proofs.Bytes.{short, header-size, header-fails, card-fails, all-hold}
+use Rattle.image.specs.Image.{cardSound, countOf}
+use Rattle.endian.proofs.Every.{every-none, every-more}
+use Rattle.endian.specs.Parts.{every}
+use native.Mathlib.Omega.{arith}
+use borrow.Author.Tests.{not-true, not-false}
+use mathlib.Core.Bool.{true}
+use mathlib.Core.Path.{_≡_, sym, _∙_}
+use Prim.Native.Nat.{_≤_, _-_}
 use Rattle.image.proofs.sound.Statement.{statement}
 use Rattle.image.proofs.sound.Tie as tie
-use Rattle.image.proofs.sound.Reads as reads
-use Rattle.image.proofs.sound.Lts as lts
-use Rattle.image.proofs.inner.card_sound.Reads as card-sound-reads
-use Rattle.image.proofs.inner.count.Reads as count-reads
-use Rattle.image.proofs.inner.header_sound.Reads as header-sound-reads
 
 abbrev Inv-loop : tie.InvT-loop
-Inv-loop image n k₀ k = ?
+Inv-loop image n k₀ k = (k ≤ n) × (every (cardSound image) k ≡ true)
 
 abbrev μ-loop : tie.MeasureT-loop
-μ-loop image n k₀ k = ?
+μ-loop image n k₀ k = n - k
 
--- src/lib.rt:15:9
 returns : tie.Need-returns Inv-loop μ-loop
-returns c = ?
+returns c = sym (header-fails (c .before .before .args .image .now) (short (c .before .before .args .image .now) (c .if1 .taken)))
 
--- src/lib.rt:17:9
 header-sound-requires : tie.Need-header-sound-requires Inv-loop μ-loop
-header-sound-requires c κs = ?
+header-sound-requires c κs = omega arith
 
--- src/lib.rt:18:9
 returns-2 : tie.Need-returns-2 Inv-loop μ-loop
-returns-2 c = ?
+returns-2 c = sym (header-fails (c .before .before .before .before .args .image .now) (sym (c .before .header-sound .ensures) ∙ not-true _ (c .if2 .taken)))
 
--- src/lib.rt:20:9
 count-requires : tie.Need-count-requires Inv-loop μ-loop
-count-requires c κs = ?
+count-requires c κs = omega arith
 
--- src/lib.rt:22:5
 loop-holds : tie.Need-loop-holds Inv-loop μ-loop
-loop-holds c = ?
+loop-holds c = (omega arith, every-none (cardSound (c .before .before .before .before .before .args .image .now)))
 
--- src/lib.rt:23:13
 card-sound-requires : tie.Need-card-sound-requires Inv-loop μ-loop
-card-sound-requires c κs = ?
+card-sound-requires c κs = (header-size (c .before .before .before .before .before .before .before .args .image .now) (sym (c .before .before .before .before .header-sound .ensures) ∙ not-false _ (c .before .before .before .if2 .left)), omega (arith, c .before .before .count .ensures))
 
--- src/lib.rt:24:13
 returns-3 : tie.Need-returns-3 Inv-loop μ-loop
-returns-3 c = ?
+returns-3 c = sym
+    (card-fails (c .before .before .before .before .before .before .before .before .before .args .image .now) (c .before .before .before .loop .k) (sym (c .before .before .before .before .before .before .header-sound .ensures) ∙ not-false _ (c .before .before .before .before .before .if2 .left)) (omega (arith, c .before .before .before .before .count .ensures))
+    (sym (c .before .card-sound .ensures) ∙ not-true _ (c .if3 .taken)))
 
--- src/lib.rt:26:9
 add-k : tie.Need-add-k Inv-loop μ-loop
-add-k c = ?
+add-k c = omega arith
 
--- src/lib.rt:22:5
 loop-less : tie.Need-loop-less Inv-loop μ-loop
-loop-less c = ?
+loop-less c = omega arith
 
--- src/lib.rt:22:5
 loop-again : tie.Need-loop-again Inv-loop μ-loop
-loop-again c = ?
+loop-again c = (
+  omega arith,
+  every-more (cardSound (c .before .before .before .before .before .before .before .before .before .args .image .now)) (c .before .before .before .loop .k) (c .before .before .before .loop .inv .1) (sym (c .before .card-sound .ensures) ∙ not-false _ (c .if3 .left)),
+)
 
--- src/lib.rt:11:1
 returns-4 : tie.Need-returns-4 Inv-loop μ-loop
-returns-4 c = ?
+returns-4 c = let last : c .before .loop .k ≡ countOf (c .before .before .before .before .before .before .before .args .image .now) = omega (arith, c .before .before .count .ensures) in
+    sym (all-hold (c .before .before .before .before .before .before .before .args .image .now) (sym (c .before .before .before .before .header-sound .ensures) ∙ not-false _ (c .before .before .before .if2 .left)) (rw last at (c .before .loop .inv .1)))
 
 pub sound-spec : {M : Type 1} → statement M
 sound-spec =

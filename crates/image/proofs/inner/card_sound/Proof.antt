@@ -1,68 +1,90 @@
+-- The entry first, since its lengths bound the tails; then the other three tests decide. Assumes nothing.
+use lib.Dec.{lit<}
+use native.Mathlib.Omega.{arith}
+use Rattle.image.specs.Image.{bodyPlace, countOf, roomOf, tailZero}
+use Rattle.image.proofs.Shape.{body-within}
+use Rattle.image.proofs.Bytes.{entry-fails, entry-holds, lengths}
+use borrow.Author.Tests.{not-true, not-false}
+use mathlib.Core.Path.{_≡_, sym, _∙_}
 use borrow.Author.Needs.{needs}
 use Rattle.image.proofs.inner.card_sound.Statement.{statement}
 use Rattle.image.proofs.inner.card_sound.Tie as tie
-use Rattle.image.proofs.inner.card_sound.Reads as reads
-use Rattle.image.proofs.inner.card_sound.Lts as lts
-use Rattle.endian.proofs.inner.read_u16.Reads as read-u16-reads
-use Rattle.image.proofs.inner.count.Reads as count-reads
-use Rattle.image.proofs.inner.entry_sound.Reads as entry-sound-reads
-use Rattle.image.proofs.inner.read_entry.Reads as read-entry-reads
-use Rattle.image.proofs.inner.room.Reads as room-reads
-use Rattle.image.proofs.inner.tail_zero.Reads as tail-zero-reads
-use Rattle.image.proofs.layout.body_place.Reads as body-place-reads
-use Rattle.image.proofs.layout.entry_place.Reads as entry-place-reads
 
--- src/inner.rt:185:9
 count-requires : tie.Need-count-requires
 count-requires c κs = search needs
 
--- src/inner.rt:186:9
 room-requires : tie.Need-room-requires
 room-requires c κs = search needs
 
--- src/inner.rt:187:9
 read-entry-requires : tie.Need-read-entry-requires
 read-entry-requires c κs = search needs
 
--- src/inner.rt:188:9
 entry-sound-requires : tie.Need-entry-sound-requires
 entry-sound-requires c κs = search needs
 
--- src/inner.rt:189:9
 returns : tie.Need-returns
-returns c = ?
+returns c = let fails = sym (c .before .entry-sound .ensures) ∙ not-true _ (c .if1 .taken) in
+    sym (entry-fails (c .before .before .before .before .before .before .args .image .now) (c .before .before .before .before .before .before .args .k) (rw (c .before .before .read-entry .ensures, c .before .before .before .room .ensures) at fails))
 
--- src/inner.rt:191:26
 entry-place-requires : tie.Need-entry-place-requires
 entry-place-requires c κs = search needs
 
--- src/inner.rt:191:26
 add-read-u16 : tie.Need-add-read-u16
 add-read-u16 c = search needs
 
--- src/inner.rt:191:6
 read-u16-requires : tie.Need-read-u16-requires
 read-u16-requires c κs = search needs
 
--- src/inner.rt:192:28
 body-place-requires : tie.Need-body-place-requires
 body-place-requires c κs = search needs
 
--- src/inner.rt:192:11
 tail-zero-requires : tie.Need-tail-zero-requires
-tail-zero-requires c κs = ?
+tail-zero-requires c κs = let image = c .before .before .before .before .before .before .before .before .before .args .image .now in
+    let k = c .before .before .before .before .before .before .before .before .before .args .k in
+    let placed : c .body-place .result ≡ bodyPlace (countOf image) (roomOf image) k 0 =
+    c .body-place .ensures ∙ rw (c .before .before .before .before .before .before .room .ensures, c .before .before .before .before .before .before .before .count .ensures) in
+    omega (
+      arith,
+      placed,
+      c .before .before .before .before .before .before .room .ensures,
+      c .before .before .before .before .before .before .before .before .before .pre,
+      lengths _ _ (sym (c .before .before .before .before .entry-sound .ensures) ∙ not-false _ (c .before .before .before .if1 .left)),
+      body-within (countOf image) (roomOf image) k 0 (omega (arith, c .before .before .before .before .before .before .before .before .before .pre)) (lit< tt),
+    )
 
--- src/inner.rt:193:28
 body-place-requires-2 : tie.Need-body-place-requires-2
 body-place-requires-2 c κs = search needs
 
--- src/inner.rt:193:11
 tail-zero-requires-2 : tie.Need-tail-zero-requires-2
-tail-zero-requires-2 c κs = ?
+tail-zero-requires-2 c κs = let image = c .before .before .before .before .before .before .before .before .before .before .before .args .image .now in
+    let k = c .before .before .before .before .before .before .before .before .before .before .before .args .k in
+    let placed : c .body-place2 .result ≡ bodyPlace (countOf image) (roomOf image) k 1 =
+    c .body-place2 .ensures ∙ rw (c .before .before .before .before .before .before .before .before .room .ensures, c .before .before .before .before .before .before .before .before .before .count .ensures) in
+    omega (
+      arith,
+      placed,
+      c .before .before .before .before .before .before .before .before .room .ensures,
+      c .before .before .before .before .before .before .before .before .before .before .before .pre,
+      lengths _ _ (sym (c .before .before .before .before .before .before .entry-sound .ensures) ∙ not-false _ (c .before .before .before .before .before .if1 .left)),
+      body-within (countOf image) (roomOf image) k 1 (omega (arith, c .before .before .before .before .before .before .before .before .before .before .before .pre)) (lit< tt),
+    )
 
--- src/inner.rt:181:1
 returns-2 : tie.Need-returns-2
-returns-2 c = ?
+unfolding tailZero
+returns-2 c = let image = c .before .before .before .before .before .before .before .before .before .before .before .before .args .image .now in
+    let holds = sym (c .before .before .before .before .before .before .before .entry-sound .ensures) ∙ not-false _ (c .before .before .before .before .before .before .if1 .left) in
+    rw (
+      c .tail-zero2 .ensures,
+      c .before .body-place2 .ensures,
+      c .before .before .tail-zero .ensures,
+      c .before .before .before .body-place .ensures,
+      c .before .before .before .before .read-u16 .ensures,
+      c .before .before .before .before .before .entry-place .ensures,
+      c .before .before .before .before .before .before .before .before .read-entry .ensures,
+      c .before .before .before .before .before .before .before .before .before .room .ensures,
+      c .before .before .before .before .before .before .before .before .before .before .count .ensures,
+    )
+    (entry-holds image (c .before .before .before .before .before .before .before .before .before .before .before .before .args .k) (rw (c .before .before .before .before .before .before .before .before .read-entry .ensures, c .before .before .before .before .before .before .before .before .before .room .ensures) at holds))
 
 pub card-sound-spec : {M : Type 1} → statement M
 card-sound-spec =

@@ -30,15 +30,16 @@ read-u16-requires-5 c κs = search needs
 
 returns : tie.Need-returns
 unfolding readEntry
-returns c = rw
-    (c .read-u165 .ensures,
-    c .before .read-u164 .ensures,
-    c .before .before .read-u163 .ensures,
-    c .before .before .before .read-u162 .ensures,
-    c .before .before .before .before .read-u32 .ensures,
-    c .before .before .before .before .before .read-u16 .ensures,
-    c .before .before .before .before .before .before .read-u642 .ensures,
-    c .before .before .before .before .before .before .before .read-u64 .ensures)
+returns c = rw (
+  c .read-u165 .ensures,
+  c .before .read-u164 .ensures,
+  c .before .before .read-u163 .ensures,
+  c .before .before .before .read-u162 .ensures,
+  c .before .before .before .before .read-u32 .ensures,
+  c .before .before .before .before .before .read-u16 .ensures,
+  c .before .before .before .before .before .before .read-u642 .ensures,
+  c .before .before .before .before .before .before .before .read-u64 .ensures,
+)
 
 pub entry-of-spec : {M : Type 1} → statement M
 entry-of-spec =

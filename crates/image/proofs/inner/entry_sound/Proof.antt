@@ -16,10 +16,11 @@ mark-whole-requires c κs = search needs
 
 returns : tie.Need-returns
 unfolding entrySound all allFrom
-returns c = rw
-    (c .before .before .before .before .before .before .before .mark-whole .ensures,
-    c .before .before .before .before .before .before .before .before .stamp-valid2 .ensures,
-    c .before .before .before .before .before .before .before .before .before .stamp-valid .ensures)
+returns c = rw (
+  c .before .before .before .before .before .before .before .mark-whole .ensures,
+  c .before .before .before .before .before .before .before .before .stamp-valid2 .ensures,
+  c .before .before .before .before .before .before .before .before .before .stamp-valid .ensures,
+)
 
 pub entry-sound-spec : {M : Type 1} → statement M
 entry-sound-spec =

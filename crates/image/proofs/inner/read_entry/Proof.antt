@@ -1,4 +1,7 @@
 -- The entry that its bytes stand for. Assumes nothing.
+use mathlib.Core.Path.{refl}
+use Prim.Native.Nat.{_+_}
+use Rattle.image.proofs.Bytes.{cut}
 use Rattle.endian.specs.Parts.{part}
 use Rattle.image.specs.Image.{entryAt}
 use borrow.Author.Needs.{needs}
@@ -24,8 +27,8 @@ entry-of-requires : tie.Need-entry-of-requires
 entry-of-requires c κs = search needs
 
 returns : tie.Need-returns
-unfolding entryAt part
-returns c = rw (c .entry-of .ensures) ?
+unfolding entryAt
+returns c = rw (c .entry-of .ensures, cut (c .before .before .entry-place .result) 32 (c .before .before .entry-place .result + 32) (c .before .before .before .before .args .image .now) refl, c .before .before .entry-place .ensures)
 
 pub read-entry-spec : {M : Type 1} → statement M
 read-entry-spec =

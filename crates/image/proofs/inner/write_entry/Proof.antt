@@ -1,44 +1,43 @@
+-- The three groups end to end. Assumes nothing.
+use Rattle.image.specs.Image.{entryBytes, pairBytes, markBytes, countBytes}
+use native.Mathlib.Omega.{arith}
+use Rattle.endian.specs.Le.{toLe}
+use Rattle.image.proofs.Bytes.{splice-three}
 use borrow.Author.Needs.{needs}
 use Rattle.image.proofs.inner.write_entry.Statement.{statement}
 use Rattle.image.proofs.inner.write_entry.Tie as tie
-use Rattle.image.proofs.inner.write_entry.Reads as reads
-use Rattle.image.proofs.inner.write_entry.Lts as lts
-use Rattle.image.proofs.inner.write_counts.Reads as write-counts-reads
-use Rattle.image.proofs.inner.write_mark.Reads as write-mark-reads
-use Rattle.image.proofs.inner.write_pair.Reads as write-pair-reads
-use Rattle.image.proofs.layout.entry_place.Reads as entry-place-reads
 
--- src/inner.rt:131:9
 entry-place-requires : tie.Need-entry-place-requires
 entry-place-requires c κs = search needs
 
--- src/inner.rt:132:5
 write-pair-requires : tie.Need-write-pair-requires
 write-pair-requires c κs = search needs
 
--- src/inner.rt:133:23
 add-write-mark : tie.Need-add-write-mark
 add-write-mark c = search needs
 
--- src/inner.rt:133:5
 write-mark-requires : tie.Need-write-mark-requires
 write-mark-requires c κs = search needs
 
--- src/inner.rt:134:25
 add-write-counts : tie.Need-add-write-counts
 add-write-counts c = search needs
 
--- src/inner.rt:134:5
 write-counts-requires : tie.Need-write-counts-requires
 write-counts-requires c κs = search needs
 
--- src/inner.rt:127:1
 same-length : tie.Need-same-length
 same-length c = search needs
 
--- src/inner.rt:127:1
 returns : tie.Need-returns
-returns c = ?
+unfolding entryBytes pairBytes markBytes toLe
+returns c = let e = c .before .before .before .before .before .before .before .before .before .before .before .before .before .before .args .e in
+    rw (
+      c .before .before .write-counts .ensures,
+      c .before .before .before .before .before .before .write-mark .ensures,
+      c .before .before .before .before .before .before .before .before .before .before .write-pair .ensures,
+      c .before .before .before .before .before .before .before .before .before .before .before .before .entry-place .ensures,
+    )
+    (splice-three _ (pairBytes (e .pair)) (markBytes (e .mark)) (countBytes e) _ (omega arith))
 
 pub write-entry-spec : {M : Type 1} → statement M
 write-entry-spec =

@@ -1,34 +1,36 @@
+-- The numbers end to end. Assumes nothing.
+use Rattle.image.specs.Image.{headerNumbers, magic, version}
+use native.Mathlib.Omega.{arith}
+use Rattle.endian.specs.Le.{toLe}
+use Rattle.image.proofs.Bytes.{splice-four}
 use borrow.Author.Needs.{needs}
 use Rattle.image.proofs.inner.write_header.Statement.{statement}
 use Rattle.image.proofs.inner.write_header.Tie as tie
-use Rattle.image.proofs.inner.write_header.Reads as reads
-use Rattle.image.proofs.inner.write_header.Lts as lts
-use Rattle.endian.proofs.inner.write_u16.Reads as write-u16-reads
-use Rattle.endian.proofs.inner.write_u32.Reads as write-u32-reads
 
--- src/inner.rt:201:5
 write-u32-requires : tie.Need-write-u32-requires
 write-u32-requires c κs = search needs
 
--- src/inner.rt:202:5
 write-u16-requires : tie.Need-write-u16-requires
 write-u16-requires c κs = search needs
 
--- src/inner.rt:203:5
 write-u16-requires-2 : tie.Need-write-u16-requires-2
 write-u16-requires-2 c κs = search needs
 
--- src/inner.rt:204:5
 write-u16-requires-3 : tie.Need-write-u16-requires-3
 write-u16-requires-3 c κs = search needs
 
--- src/inner.rt:197:1
 same-length : tie.Need-same-length
 same-length c = search needs
 
--- src/inner.rt:197:1
 returns : tie.Need-returns
-returns c = ?
+unfolding headerNumbers toLe
+returns c = rw (
+  c .before .before .write-u163 .ensures,
+  c .before .before .before .before .before .before .write-u162 .ensures,
+  c .before .before .before .before .before .before .before .before .before .before .write-u16 .ensures,
+  c .before .before .before .before .before .before .before .before .before .before .before .before .before .before .write-u32 .ensures,
+)
+    (splice-four 0 magic (toLe 2 version) (toLe 2 (c .before .before .before .before .before .before .before .before .before .before .before .before .before .before .before .before .before .args .n)) (toLe 2 (c .before .before .before .before .before .before .before .before .before .before .before .before .before .before .before .before .before .args .c)) _ (omega arith))
 
 pub write-header-spec : {M : Type 1} → statement M
 write-header-spec =

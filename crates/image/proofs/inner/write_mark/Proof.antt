@@ -1,38 +1,34 @@
+-- The numbers end to end. Assumes nothing.
+use Rattle.image.proofs.Bytes.{splice-three}
+use Rattle.image.specs.Image.{markBytes}
+use native.Mathlib.Omega.{arith}
+use Rattle.endian.specs.Le.{toLe}
 use borrow.Author.Needs.{needs}
 use Rattle.image.proofs.inner.write_mark.Statement.{statement}
 use Rattle.image.proofs.inner.write_mark.Tie as tie
-use Rattle.image.proofs.inner.write_mark.Reads as reads
-use Rattle.image.proofs.inner.write_mark.Lts as lts
-use Rattle.endian.proofs.inner.write_u16.Reads as write-u16-reads
-use Rattle.endian.proofs.inner.write_u32.Reads as write-u32-reads
 
--- src/inner.rt:110:5
 write-u16-requires : tie.Need-write-u16-requires
 write-u16-requires c κs = search needs
 
--- src/inner.rt:111:26
 add-write-u16 : tie.Need-add-write-u16
 add-write-u16 c = search needs
 
--- src/inner.rt:111:5
 write-u16-requires-2 : tie.Need-write-u16-requires-2
 write-u16-requires-2 c κs = search needs
 
--- src/inner.rt:112:26
 add-write-u32 : tie.Need-add-write-u32
 add-write-u32 c = search needs
 
--- src/inner.rt:112:5
 write-u32-requires : tie.Need-write-u32-requires
 write-u32-requires c κs = search needs
 
--- src/inner.rt:106:1
 same-length : tie.Need-same-length
 same-length c = search needs
 
--- src/inner.rt:106:1
 returns : tie.Need-returns
-returns c = ?
+unfolding markBytes toLe
+returns c = rw (c .before .before .write-u32 .ensures, c .before .before .before .before .before .before .write-u162 .ensures, c .before .before .before .before .before .before .before .before .before .before .write-u16 .ensures)
+    (splice-three _ (toLe 2 (c .before .before .before .before .before .before .before .before .before .before .before .before .before .args .mark .desk)) (toLe 2 0) (toLe 4 (c .before .before .before .before .before .before .before .before .before .before .before .before .before .args .mark .transaction)) _ (omega arith))
 
 pub write-mark-spec : {M : Type 1} → statement M
 write-mark-spec =
