@@ -1,11 +1,11 @@
 -- How an entry judges a command: the table's rows, the raised entry and the reply fields (the sheet, "How the guard judges" and "When the
 -- store says no").
 -- Assumes nothing.
-use Prim.Native.Nat.{ℕ, zero, suc, _+_, max}
+use Prim.Native.Nat.{ℕ, zero, suc, _+_}
 use mathlib.Core.List.{List, [], _∷_}
 use mathlib.Core.Bool.{Bool, cond, not, _&&_, _||_}
 use lib.Dec.{ltb, eqb}
-use Rattle.guard.specs.Stamp.{stale}
+use Rattle.guard.specs.Stamp.{stale, largerOfEach}
 use Rattle.guard.specs.Command.{Language, original, translation, reads, writes, verifier, update, wellFormed, noPair, noMark}
 use Rattle.guard.specs.Table.{Row, row, first, settled}
 use Rattle.guard.specs.declared.Answer.{Answer}
@@ -65,7 +65,7 @@ rows e c room lent = row (not (wellFormed c)) 1 ∷ entryRows e c room lent
 unfoldable pub raise : Entry → Command → Entry
 raise e c =
     record {
-      pair = record { s = max (e .pair .s) (update c .s); x = max (e .pair .x) (update c .x) };
+      pair = largerOfEach (e .pair) (update c);
       mark = c .next;
       edition = cond (writes original c) (e .edition + 1) (e .edition);
       from = cond (writes (translation 0) c) (c .edition) (e .from);
@@ -101,3 +101,7 @@ replied number e c =
       from = cond (blank number) 0 (e .from);
       length = settled number (readLength e c) 0;
     }
+
+-- The answer of a number whose reply fields are zeros.
+abbrev pub refused : ℕ → Answer
+refused number = record { number = number; pair = noPair; mark = noMark; edition = 0; from = 0; length = 0 }

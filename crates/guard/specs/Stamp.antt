@@ -1,6 +1,6 @@
 -- Stamps, pairs, modes and desks: the sheet, "Stamps, pairs and sessions" and the first sentences of "How the guard judges".
 -- Assumes nothing.
-use Prim.Native.Nat.{ℕ, _+_, _*_, _/_, _%_}
+use Prim.Native.Nat.{ℕ, _+_, _*_, _/_, _%_, max}
 use mathlib.Core.List.{List, [], _∷_}
 use mathlib.Core.Bool.{Bool, cond, not, _&&_, _||_}
 use lib.Dec.{ltb, eqb}
@@ -51,3 +51,7 @@ sessionChecks mode pair =
 -- Minuet: EBADSESSION.
 abbrev pub stale : ℕ → Pair → Pair → Bool
 stale mode stored new = ltb (new .x) (stored .x) || eqb mode exclusive && ltb (new .s) (stored .s)
+
+-- "Each to the larger of old and new": what an accepted command makes of the stored pair, in an entry and in the lock queue.
+abbrev pub largerOfEach : Pair → Pair → Pair
+largerOfEach old new = record { s = max (old .s) (new .s); x = max (old .x) (new .x) }

@@ -45,7 +45,7 @@ const NEXT: usize = 42;
 
 const EDITION: usize = 48;
 
-pub const LENGTH: usize = 50;
+const LENGTH: usize = 50;
 
 impl Command {
     pub fn reads_original(self) -> bool
@@ -73,7 +73,7 @@ impl Command {
     }
 
     // Whether the command writes a text.
-    pub fn is_write(self) -> bool
+    fn is_write(self) -> bool
         ensures { λ r. ⌜ r ≡ isWrite self ⌝ }
     {
         (self.act == WRITE_ORIGINAL) | (self.act == WRITE_TRANSLATION)

@@ -1,15 +1,17 @@
 // The guard of one card: stamps and pairs, commands in bytes, and an entry that judges a command.
 pub mod commands;
+pub mod entries;
 pub mod stamps;
 
 pub use commands::FIXED;
 pub use commands::parse;
+pub use entries::refusal;
 pub use stamps::EXCLUSIVE;
 pub use stamps::SHARED;
 pub use stamps::desk_of;
 pub use stamps::larger;
+pub use stamps::larger_of_each;
 pub use stamps::mark_whole;
-pub use stamps::own_stamp;
 pub use stamps::session_ok;
 pub use stamps::stale;
 pub use stamps::stamp_valid;

@@ -1,7 +1,7 @@
 ghost use mathlib.Core.Path.{_≡_};
 ghost use Prim.Native.Nat.{max};
 ghost use Rattle.endian.specs.Tests.{all};
-ghost use Rattle.guard.specs.Stamp.{stampValid, own, deskOf, sessionChecks, stale};
+ghost use Rattle.guard.specs.Stamp.{stampValid, own, deskOf, sessionChecks, stale, largerOfEach};
 ghost use Rattle.guard.specs.Command.{markWhole};
 use crate::Mark;
 use crate::Pair;
@@ -26,7 +26,7 @@ pub fn stamp_valid(n: u64) -> bool
 }
 
 // The mode's own stamp: x if exclusive, else s.
-pub fn own_stamp(mode: u8, pair: Pair) -> u64
+fn own_stamp(mode: u8, pair: Pair) -> u64
     ensures { λ r. ⌜ r ≡ own mode pair ⌝ }
 {
     if mode == EXCLUSIVE {
@@ -73,4 +73,14 @@ pub fn larger(a: u64, b: u64) -> u64
         return b;
     }
     a
+}
+
+// The larger of each stamp of two pairs.
+pub fn larger_of_each(old: Pair, new: Pair) -> Pair
+    ensures { λ r. ⌜ r ≡ largerOfEach old new ⌝ }
+{
+    Pair {
+        s: larger(old.s, new.s),
+        x: larger(old.x, new.x),
+    }
 }
