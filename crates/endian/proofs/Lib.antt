@@ -4,4 +4,5 @@ pub mod Bytes
 pub mod Spread
 pub mod Every
 pub mod Le
+pub mod Claims
 pub mod Loops

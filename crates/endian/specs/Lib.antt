@@ -1,3 +1,4 @@
 pub mod Parts
 pub mod Le
 pub mod Tests
+pub mod Claims

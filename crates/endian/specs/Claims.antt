@@ -1,0 +1,20 @@
+-- What is claimed of little-endian numbers: `le` and `toLe` are each other's inverse. Proved in proofs/Claims.antt.
+-- Assumes nothing.
+use mathlib.Core.Path.{_≡_}
+use Prim.Native.Nat.{ℕ, _^_, _<_}
+use mathlib.Core.List.{List}
+use lib.ListN.{length}
+use Rattle.endian.specs.Parts.{Bytes}
+use Rattle.endian.specs.Le.{le, toLe}
+
+-- A number that fits in `count` bytes is what its bytes stand for.
+abbrev pub NumberComesBack : Type 0
+NumberComesBack = (count n : ℕ) → n < 256 ^ count → le (toLe count n) ≡ n
+
+-- A list of bytes is the bytes of the number that it stands for.
+abbrev pub BytesComeBack : Type 0
+BytesComeBack = (l : List ℕ) → Bytes l → toLe (length l) (le l) ≡ l
+
+-- A list of bytes stands for a number that fits in as many bytes.
+abbrev pub NumberFits : Type 0
+NumberFits = (l : List ℕ) → Bytes l → le l < 256 ^ length l
