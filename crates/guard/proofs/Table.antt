@@ -81,3 +81,17 @@ module _ {A : Type 0} {n : ℕ} (new old : A) where
       go : (k : ℕ) → n ≡ k → settled n new old ≡ old
       go zero e = absurd (h e)
       go (suc k) e = rw e
+
+-- Each row's number, and 0, has a property: so has the answer.
+abbrev pub givesAll : (ℕ → Bool) → List Row → Bool
+givesAll p [] = true
+givesAll p (r ∷ rs) = p (r .gives) && givesAll p rs
+
+pub first-all : (p : ℕ → Bool) (rs : List Row) → T (p 0) → T (givesAll p rs) → T (p (first rs))
+first-all p [] z t = z
+first-all p (r ∷ rs) z t =
+    go (r .applies) (T-and-left (p (r .gives)) (givesAll p rs) t) (first-all p rs z (T-and-right (p (r .gives)) (givesAll p rs) t))
+  where
+    go : (a : Bool) → T (p (r .gives)) → T (p (first rs)) → T (p (cond a (r .gives) (first rs)))
+    go true here rest = here
+    go false here rest = rest
