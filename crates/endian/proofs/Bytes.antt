@@ -1,12 +1,11 @@
 -- Laws of `Bytes` and `zeros`. Assumes nothing.
-use Prim.Native.Nat.{ℕ, zero, suc, _+_, _-_, _≤_, _<_, zero-le, suc-le-suc}
-use native.Mathlib.Omega.{arith}
+use Prim.Native.Nat.{ℕ, zero, suc, _+_, _-_, _<_, zero-le, suc-le-suc}
 use mathlib.Core.Path.{_≡_, refl, sym, ap, _∙_}
 use mathlib.Core.List.{List, [], _∷_, _++_}
 use mathlib.Core.Bool.{true, _&&_, and-assoc}
 use borrow.Author.Tests.{eqb-true, eq-eqb}
 use lib.Dec.{eqb, lit<}
-use lib.ListN.{length, take, drop, getD, set, replicate, length-drop, take-append-drop}
+use lib.ListN.{length, take, drop, getD, replicate, length-drop, take-append-drop}
 use lib.Seq.{getD-drop}
 use Rattle.endian.specs.Parts.{part, splice, zeros, Bytes}
 use Rattle.endian.proofs.Tests.{and-left, and-right, and-in}

@@ -1,19 +1,18 @@
 -- Laws of little-endian numbers. Assumes nothing.
 use Prim.Native.Nat.{ℕ, zero, suc, _+_, _-_, _*_, _/_, _%_, _^_, _≤_, _<_}
 use native.Mathlib.Omega.{arith}
-use native.Mathlib.Nat.{pow-suc, pow-zero, pow-le-pow-right, lt-of-lt-of-le, mod-lt, div-lt-iff-lt-mul, div-add-mod', mul-comm, mul-assoc, add-assoc, add-mul, mul-one}
+use native.Mathlib.Nat.{pow-suc, pow-le-pow-right, lt-of-lt-of-le, mod-lt, div-lt-iff-lt-mul, div-add-mod', mul-assoc, add-assoc, add-mul}
 use mathlib.Core.Path.{_≡_, refl, sym, ap, _∙_}
 use mathlib.Core.List.{List, [], _∷_, _++_}
-use mathlib.Core.Bool.{Bool, true, false, _&&_}
-use borrow.Author.Tests.{eqb-true, eq-eqb}
+use mathlib.Core.Bool.{_&&_}
 use lib.ListN.{length, drop, getD, replicate, length-take}
 use lib.Seq.{drop-cons}
 use lib.Arith.{digits-lt, digits-div, digits-mod}
 use lib.Dec.{T, eqb, lit<, eqb→eq}
 use Rattle.endian.specs.Parts.{part, splice, zeros, Bytes}
 use Rattle.endian.specs.Le.{le, toLe}
-use Rattle.endian.proofs.Bytes.{Bytes-nil, Bytes-cons, Bytes-part, zeros-means}
-use Rattle.endian.proofs.Parts.{length-part, getD-part, splice-here, splice-part}
+use Rattle.endian.proofs.Bytes.{Bytes-nil, Bytes-cons, Bytes-part}
+use Rattle.endian.proofs.Parts.{drop-left, length-part, getD-part, splice-here, splice-part}
 use Rattle.endian.proofs.Tests.{same, T-and, T-and-left, T-and-right, eq→eqb}
 
 -- One more byte below, and fewer bytes than k.
@@ -75,6 +74,10 @@ toLe-le (b ∷ l) h = rw (digits-mod (le l) (h zero), digits-div (le l) (h zero)
 pub le-injective : (a b : List ℕ) → Bytes a → Bytes b → length a ≡ length b → le a ≡ le b → a ≡ b
 le-injective a b h k e f = sym (toLe-le a h) ∙ rw (e, f) (toLe-le b k)
 
+-- Two numbers that fit and have the same bytes are the same.
+pub toLe-injective : (count m n : ℕ) → m < 256 ^ count → n < 256 ^ count → toLe count m ≡ toLe count n → m ≡ n
+toLe-injective count m n h k e = sym (le-toLe count m h) ∙ ap le e ∙ le-toLe count n k
+
 -- What is written at a place is read there, and what is read, written back, changes nothing.
 pub le-splice : (at count n : ℕ) (l : List ℕ) → at ≤ length l → n < 256 ^ count → le (part at count (splice at (toLe count n) l)) ≡ n
 le-splice at count n l h k =
@@ -88,7 +91,11 @@ splice-le at count l h k =
     ap (λ (m : ℕ). toLe m (le (part at count l))) (sym (length-part at count l k)) ∙ toLe-le (part at count l) (Bytes-part at count l h) in
     rw whole (splice-part at count l k)
 
--- ---- two numbers end to end, and zero
+-- ---- one byte, two numbers end to end, and zero
+
+pub le-one : (at : ℕ) (l : List ℕ) → at < length l → le (part at 1 l) ≡ getD l at 0
+unfolding le part
+le-one at l h = rw (drop-left l 0 h) (omega arith)
 
 pub le-append : (a b : List ℕ) → le (a ++ b) ≡ le b * 256 ^ length a + le a
 unfolding le

@@ -1,12 +1,12 @@
 -- Laws of `part` and `splice`. Assumes nothing.
-use Prim.Native.Nat.{ℕ, zero, suc, _+_, _-_, _≤_, _<_, min}
+use Prim.Native.Nat.{ℕ, zero, suc, _+_, _-_, _≤_, _<_}
 use native.Mathlib.Omega.{arith}
-use native.Mathlib.Nat.{add-zero, zero-add, add-assoc, suc-add, sub-zero, suc-sub-suc}
+use native.Mathlib.Nat.{add-zero, zero-add, add-assoc, sub-zero, suc-sub-suc}
 use native.Mathlib.Numerals.{add-one}
 use mathlib.Core.Path.{_≡_, refl, sym, ap, _∙_}
 use mathlib.Core.List.{List, [], _∷_, _++_, append-assoc, append-nil}
-use lib.ListN.{length, take, drop, getD, set, replicate, length-take, length-drop, length-append, length-set, drop-of-length-le, take-append-drop, List·getD-append}
-use lib.Seq.{getD-take, getD-drop, getD-append-add, drop-cons, drop-set-lt, take-suc-set, append-snoc, length-take-le, take-all, take-take, drop-drop, take-add, take-append-le, drop-append-le, take-append-add, drop-append-add, take-at, drop-at, take-length, take-nil, set-split}
+use lib.ListN.{length, take, drop, getD, set, replicate, length-take, length-drop, length-append, length-replicate, replicate-append-replicate, drop-of-length-le, take-append-drop, List·getD-append}
+use lib.Seq.{getD-take, getD-drop, getD-append-add, drop-cons, length-take-le, take-take, drop-drop, take-add, take-append-le, drop-append-le, take-append-add, drop-append-add, take-at, drop-at, take-length, take-nil, set-split}
 use Rattle.endian.specs.Parts.{part, splice}
 
 module _ {A : Type 0} where
@@ -75,10 +75,29 @@ module _ {A : Type 0} where
   unfolding part
   part-append-right k at n a b e = ap (take n) (sym (drop-drop at k (a ++ b)) ∙ ap (drop at) (drop-at a b k e))
 
+  -- Across the seam.
+  pub part-append-across : (at n : ℕ) (a b : List A) → at ≤ length a → length a ≤ at + n → part at n (a ++ b) ≡ drop at a ++ take (at + n - length a) b
+  unfolding part
+  part-append-across at n a b h k =
+      let count : n ≡ length (drop at a) + (at + n - length a) = rw length-drop (omega arith) in
+      ap (take n) (drop-append-le at a b h)
+      ∙ ap (λ (m : ℕ). take m (drop at a ++ b)) count
+      ∙ take-append-add (drop at a) b (at + n - length a)
+
   -- The middle one of three lists.
   pub part-middle : (at n : ℕ) (a b c : List A) → length a ≡ at → length b ≡ n → part at n (a ++ (b ++ c)) ≡ b
   unfolding part
   part-middle at n a b c e f = ap (take n) (drop-at a (b ++ c) at e) ∙ take-at b c n f
+
+  pub part-replicate : (at n m : ℕ) (a : A) → at + n ≤ m → part at n (replicate m a) ≡ replicate n a
+  part-replicate at n m a h =
+      let whole : replicate m a ≡ replicate at a ++ (replicate n a ++ replicate (m - (at + n)) a) =
+      let count : m ≡ at + (n + (m - (at + n))) = omega arith in
+      ap (λ (k : ℕ). replicate k a) count
+      ∙ sym (replicate-append-replicate at (n + (m - (at + n))) a)
+      ∙ ap (λ (r : List A). replicate at a ++ r) (sym (replicate-append-replicate n (m - (at + n)) a)) in
+      ap (part at n) whole
+      ∙ part-middle at n (replicate at a) (replicate n a) (replicate (m - (at + n)) a) (length-replicate at a) (length-replicate n a)
 
   -- ---- splice
 

@@ -1,15 +1,15 @@
 -- Laws of `spread` and `table`. Assumes nothing.
-use Prim.Native.Nat.{ℕ, zero, suc, _+_, _-_, _*_, _≤_, _<_, zero-le, suc-le-suc}
+use Prim.Native.Nat.{ℕ, zero, suc, _+_, _*_, _≤_, _<_, zero-le, suc-le-suc}
 use native.Mathlib.Omega.{arith}
-use native.Mathlib.Nat.{add-zero, zero-add, add-suc, suc-add, suc-mul, zero-mul, le-of-suc-le-suc, not-suc-le-zero, eq-or-lt-of-le}
+use native.Mathlib.Nat.{zero-mul, le-of-suc-le-suc, not-suc-le-zero, eq-or-lt-of-le}
 use native.Mathlib.Numerals.{add-one}
 use mathlib.Core.Path.{_≡_, refl, sym, ap, _∙_}
 use mathlib.Core.Logic.{_⊎_, inl, inr}
 use mathlib.Core.List.{List, [], _∷_, _++_, map, map-append, append-assoc, append-nil}
-use lib.ListN.{length, take, drop, getD, set, length-append, List·getD-append}
-use lib.Seq.{getD-append-seam, ext-getD, take-at, drop-at}
+use lib.ListN.{length, take, drop, getD, set, replicate, length-append, take-append-drop, replicate-append-replicate, List·getD-append}
+use lib.Seq.{getD-append-seam, ext-getD, take-at, drop-at, length-take-le}
 use Rattle.endian.specs.Parts.{part, splice, table, spread, Bytes}
-use Rattle.endian.proofs.Parts.{part-append-right, part-middle, splice-append-right, splice-middle}
+use Rattle.endian.proofs.Parts.{part-join, part-append-right, part-middle, splice-append-right, splice-middle}
 use Rattle.endian.proofs.Bytes.{Bytes-nil, Bytes-append}
 
 -- ---- spread
@@ -53,6 +53,28 @@ module _ {A B : Type 0} where
         let place : suc k * w ≡ w + k * w = omega arith in
         rw place
         (splice-append-right w (k * w) (f a) (f b) (spread f l) (wide b) ∙ ap (λ (m : List B). f b ++ m) (splice-spread l k a (le-of-suc-le-suc h)))
+
+    pub take-spread : (k : ℕ) (l : List A) → k ≤ length l → take (k * w) (spread f l) ≡ spread f (take k l)
+    take-spread k l h =
+        let long : length (spread f (take k l)) ≡ k * w = length-spread (take k l) ∙ rw (length-take-le k l h) in
+        ap (λ (m : List A). take (k * w) (spread f m)) (sym (take-append-drop k l))
+        ∙ ap (take (k * w)) (spread-append f (take k l) (drop k l))
+        ∙ take-at (spread f (take k l)) (spread f (drop k l)) (k * w) long
+
+    pub drop-spread : (k : ℕ) (l : List A) → k ≤ length l → drop (k * w) (spread f l) ≡ spread f (drop k l)
+    drop-spread k l h =
+        let long : length (spread f (take k l)) ≡ k * w = length-spread (take k l) ∙ rw (length-take-le k l h) in
+        ap (λ (m : List A). drop (k * w) (spread f m)) (sym (take-append-drop k l))
+        ∙ ap (drop (k * w)) (spread-append f (take k l) (drop k l))
+        ∙ drop-at (spread f (take k l)) (spread f (drop k l)) (k * w) long
+
+  -- An element that makes a repeat.
+  pub spread-replicate : (f : A → List B) (a : A) (w : ℕ) (b : B) → f a ≡ replicate w b → (n : ℕ) → spread f (replicate n a) ≡ replicate (n * w) b
+  unfolding spread
+  spread-replicate f a w b e zero = rw zero-mul
+  spread-replicate f a w b e (suc n) =
+      let count : suc n * w ≡ w + n * w = omega arith in
+      rw (e, spread-replicate f a w b e n, count) (replicate-append-replicate w (n * w) b)
 
 pub Bytes-spread : {A : Type 0} (f : A → List ℕ) (l : List A) (d : A) → ((i : ℕ) → i < length l → Bytes (f (getD l i d))) → Bytes (spread f l)
 unfolding spread
@@ -106,3 +128,11 @@ module _ {A : Type 0} where
   pub part-spread-table : {B : Type 0} (g : A → List B) (w : ℕ) → ((a : A) → length (g a) ≡ w) → (f : ℕ → A) (n k : ℕ) → k < n → part (k * w) w (spread g (table f n)) ≡ g (f k)
   part-spread-table g w wide f n k h =
       part-spread g w wide (table f n) k (f k) (rw (length-table f n) h) ∙ ap g (getD-table f n k (f k) h)
+
+  -- A list that is cut into parts of w elements, each of which comes back from what is made of it, comes back whole.
+  pub spread-parts : {B : Type 0} (g : A → List B) (f : ℕ → A) (at w : ℕ) (s : List B) (n : ℕ) → ((k : ℕ) → k < n → g (f k) ≡ part (at + k * w) w s) → spread g (table f n) ≡ part at (n * w) s
+  unfolding table spread part
+  spread-parts g f at w s zero h = rw zero-mul
+  spread-parts g f at w s (suc n) h =
+      let count : suc n * w ≡ n * w + w = omega arith in
+      spread-table g f n ∙ rw (spread-parts g f at w s n (λ k i. h k (omega arith)), h n (omega arith), count) (sym (part-join at (n * w) w s))
