@@ -64,13 +64,12 @@ unfolding fresh header
 fresh-numbers n c =
     let rest : 6 + (sizeOf n c - headerSize) ≡ sizeOf n c - 10 = omega arith in
     append-assoc (headerNumbers n c) (replicate 6 0) (replicate (sizeOf n c - headerSize) 0)
-    ∙ ap (λ (z : List ℕ). headerNumbers n c ++ z)
-    (replicate-append-replicate 6 (sizeOf n c - headerSize) 0 ∙ ap (λ (m : ℕ). replicate m 0) rest)
+    ∙ rw (replicate-append-replicate {A = ℕ} 6 (sizeOf n c - headerSize) 0, rest)
 
 -- Writing the numbers of the header, and then zeros up to the end.
 pub fresh-written : (n c : ℕ) (l : List ℕ) → length l ≡ sizeOf n c →
     splice 10 (replicate (length l - 10) 0) (splice 0 (headerNumbers n c) l) ≡ fresh n c
-unfolding headerNumbers toLe
+unfolding toLe
 fresh-written n c l e =
     let long : length (headerNumbers n c ++ replicate (length l - 10) 0) ≡ length l =
     length-append (headerNumbers n c) (replicate (length l - 10) 0) ∙ rw length-replicate (omega arith) in

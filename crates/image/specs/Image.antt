@@ -30,6 +30,19 @@ text original card = card .original
 text (translation zero) card = card .translation
 text (translation (suc t)) card = []
 
+-- The text of a side: side 0 is the original, side 1 the translation.
+abbrev pub sideText : ℕ → Card → List ℕ
+sideText zero card = card .original
+sideText (suc side) card = card .translation
+
+-- The card with another entry, and with another text on one side.
+abbrev pub withEntry : Entry → Card → Card
+withEntry e card = record { entry = e; original = card .original; translation = card .translation }
+
+abbrev pub withText : ℕ → List ℕ → Card → Card
+withText zero t card = record { entry = card .entry; original = t; translation = card .translation }
+withText (suc side) t card = record { entry = card .entry; original = card .original; translation = t }
+
 -- The cards with another card at place k: every other card stays.
 abbrev pub withCard : ℕ → Card → Cards → Cards
 withCard k card cs = record { room = cs .room; cards = set (cs .cards) k card }
@@ -85,7 +98,7 @@ magic = 0x52 ∷ 0x43 ∷ 0x31 ∷ 0x00 ∷ []
 abbrev pub version : ℕ
 version = 1
 
-unfoldable pub headerNumbers : ℕ → ℕ → List ℕ
+abbrev pub headerNumbers : ℕ → ℕ → List ℕ
 headerNumbers n c = magic ++ toLe 2 version ++ toLe 2 n ++ toLe 2 c
 
 unfoldable pub header : ℕ → ℕ → List ℕ
@@ -93,17 +106,17 @@ header n c = headerNumbers n c ++ replicate 6 0
 
 -- "Entry: 0 s u64; 8 x u64; 16 commit desk u16; 18 zero u16; 20 commit transaction u32; 24 edition u16; 26 translated-from u16;
 -- 28 original length u16; 30 translation length u16."
-unfoldable pub pairBytes : Pair → List ℕ
-pairBytes p = toLe 8 (p .s) ++ toLe 8 (p .x)
+abbrev pub entryPair : Pair → List ℕ
+entryPair p = toLe 8 (p .s) ++ toLe 8 (p .x)
 
-unfoldable pub markBytes : Mark → List ℕ
-markBytes m = toLe 2 (m .desk) ++ toLe 2 0 ++ toLe 4 (m .transaction)
+abbrev pub entryMark : Mark → List ℕ
+entryMark m = toLe 2 (m .desk) ++ toLe 2 0 ++ toLe 4 (m .transaction)
 
-unfoldable pub countBytes : Entry → List ℕ
-countBytes e = toLe 2 (e .edition) ++ toLe 2 (e .from) ++ toLe 2 (e .original) ++ toLe 2 (e .translation)
+abbrev pub entryCounts : Entry → List ℕ
+entryCounts e = toLe 2 (e .edition) ++ toLe 2 (e .from) ++ toLe 2 (e .original) ++ toLe 2 (e .translation)
 
 unfoldable pub entryBytes : Entry → List ℕ
-entryBytes e = pairBytes (e .pair) ++ markBytes (e .mark) ++ countBytes e
+entryBytes e = entryPair (e .pair) ++ entryMark (e .mark) ++ entryCounts e
 
 -- A body: the text, and zeros up to the room.
 unfoldable pub pad : ℕ → List ℕ → List ℕ

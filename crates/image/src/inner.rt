@@ -16,9 +16,9 @@ ghost use Rattle.image.specs.Image.{
   pad,
   headerSound,
   cardSound,
-  pairBytes,
-  markBytes,
-  countBytes,
+  entryPair,
+  entryMark,
+  entryCounts,
   headerNumbers,
   fresh,
 };
@@ -97,7 +97,7 @@ pub fn read_entry(image: &[u8], k: u16) -> Entry
 // Writes a pair at `at`: s u64, x u64.
 fn write_pair(image: &mut [u8], at: usize, pair: Pair)
     requires { ⌜ at + 16 ≤ length (now image) ⌝ }
-    ensures { λ _. ⌜ now (image .exit) ≡ splice at (pairBytes pair) (now (image .entry)) ⌝ }
+    ensures { λ _. ⌜ now (image .exit) ≡ splice at (entryPair pair) (now (image .entry)) ⌝ }
 {
     le::write_u64(image, at, pair.s);
     le::write_u64(image, at + 8, pair.x);
@@ -106,7 +106,7 @@ fn write_pair(image: &mut [u8], at: usize, pair: Pair)
 // Writes a commit mark at `at`: desk u16, zero u16, transaction u32.
 fn write_mark(image: &mut [u8], at: usize, mark: Mark)
     requires { ⌜ at + 8 ≤ length (now image) ⌝ }
-    ensures { λ _. ⌜ now (image .exit) ≡ splice at (markBytes mark) (now (image .entry)) ⌝ }
+    ensures { λ _. ⌜ now (image .exit) ≡ splice at (entryMark mark) (now (image .entry)) ⌝ }
 {
     le::write_u16(image, at, mark.desk);
     le::write_u16(image, at + 2, 0);
@@ -116,7 +116,7 @@ fn write_mark(image: &mut [u8], at: usize, mark: Mark)
 // Writes an entry's last numbers at `at`: edition, translated-from, original length, translation length, u16 each.
 fn write_counts(image: &mut [u8], at: usize, e: Entry)
     requires { ⌜ at + 8 ≤ length (now image) ⌝ }
-    ensures { λ _. ⌜ now (image .exit) ≡ splice at (countBytes e) (now (image .entry)) ⌝ }
+    ensures { λ _. ⌜ now (image .exit) ≡ splice at (entryCounts e) (now (image .entry)) ⌝ }
 {
     le::write_u16(image, at, e.edition);
     le::write_u16(image, at + 2, e.from);

@@ -1,5 +1,4 @@
 -- The numbers end to end. Assumes nothing.
-use Rattle.image.specs.Image.{countBytes}
 use native.Mathlib.Omega.{arith}
 use Rattle.endian.specs.Le.{toLe}
 use Rattle.image.proofs.Bytes.{splice-four}
@@ -32,7 +31,7 @@ same-length : tie.Need-same-length
 same-length c = search needs
 
 returns : tie.Need-returns
-unfolding countBytes toLe
+unfolding toLe
 returns c = let e = c .before .before .before .before .before .before .before .before .before .before .before .before .before .before .before .before .before .args .e in
     rw (
       c .before .before .write-u164 .ensures,

@@ -1,5 +1,5 @@
 -- The three groups end to end. Assumes nothing.
-use Rattle.image.specs.Image.{entryBytes, pairBytes, markBytes, countBytes}
+use Rattle.image.specs.Image.{entryBytes, entryPair, entryMark, entryCounts}
 use native.Mathlib.Omega.{arith}
 use Rattle.endian.specs.Le.{toLe}
 use Rattle.image.proofs.Bytes.{splice-three}
@@ -29,7 +29,7 @@ same-length : tie.Need-same-length
 same-length c = search needs
 
 returns : tie.Need-returns
-unfolding entryBytes pairBytes markBytes toLe
+unfolding entryBytes toLe
 returns c = let e = c .before .before .before .before .before .before .before .before .before .before .before .before .before .before .args .e in
     rw (
       c .before .before .write-counts .ensures,
@@ -37,7 +37,7 @@ returns c = let e = c .before .before .before .before .before .before .before .b
       c .before .before .before .before .before .before .before .before .before .before .write-pair .ensures,
       c .before .before .before .before .before .before .before .before .before .before .before .before .entry-place .ensures,
     )
-    (splice-three _ (pairBytes (e .pair)) (markBytes (e .mark)) (countBytes e) _ (omega arith))
+    (splice-three _ (entryPair (e .pair)) (entryMark (e .mark)) (entryCounts e) _ (omega arith))
 
 pub write-entry-spec : {M : Type 1} → statement M
 write-entry-spec =

@@ -1,5 +1,5 @@
 -- The numbers end to end. Assumes nothing.
-use Rattle.image.specs.Image.{headerNumbers, magic, version}
+use Rattle.image.specs.Image.{magic, version}
 use native.Mathlib.Omega.{arith}
 use Rattle.endian.specs.Le.{toLe}
 use Rattle.image.proofs.Bytes.{splice-four}
@@ -23,7 +23,7 @@ same-length : tie.Need-same-length
 same-length c = search needs
 
 returns : tie.Need-returns
-unfolding headerNumbers toLe
+unfolding toLe
 returns c = rw (
   c .before .before .write-u163 .ensures,
   c .before .before .before .before .before .before .write-u162 .ensures,

@@ -1,6 +1,5 @@
 -- The numbers end to end. Assumes nothing.
 use Rattle.image.proofs.Bytes.{splice-three}
-use Rattle.image.specs.Image.{markBytes}
 use native.Mathlib.Omega.{arith}
 use Rattle.endian.specs.Le.{toLe}
 use borrow.Author.Needs.{needs}
@@ -26,7 +25,7 @@ same-length : tie.Need-same-length
 same-length c = search needs
 
 returns : tie.Need-returns
-unfolding markBytes toLe
+unfolding toLe
 returns c = rw (c .before .before .write-u32 .ensures, c .before .before .before .before .before .before .write-u162 .ensures, c .before .before .before .before .before .before .before .before .before .before .write-u16 .ensures)
     (splice-three _ (toLe 2 (c .before .before .before .before .before .before .before .before .before .before .before .before .before .args .mark .desk)) (toLe 2 0) (toLe 4 (c .before .before .before .before .before .before .before .before .before .before .before .before .before .args .mark .transaction)) _ (omega arith))
 

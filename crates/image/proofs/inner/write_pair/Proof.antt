@@ -1,5 +1,4 @@
 -- The numbers end to end. Assumes nothing.
-use Rattle.image.specs.Image.{pairBytes}
 use native.Mathlib.Omega.{arith}
 use Rattle.endian.specs.Le.{toLe}
 use Rattle.endian.proofs.Parts.{splice-adjacent}
@@ -20,7 +19,7 @@ same-length : tie.Need-same-length
 same-length c = search needs
 
 returns : tie.Need-returns
-unfolding pairBytes toLe
+unfolding toLe
 returns c = rw (c .before .before .write-u642 .ensures, c .before .before .before .before .before .before .write-u64 .ensures)
     (splice-adjacent _ (toLe 8 (c .before .before .before .before .before .before .before .before .before .args .pair .s)) (toLe 8 (c .before .before .before .before .before .before .before .before .before .args .pair .x)) _ (omega arith))
 
