@@ -1,0 +1,33 @@
+//! The card store a second time: plain Rust that follows the sheet alone and
+//! shares no code with the proved library, so that the two can be compared on
+//! random and damaged input.
+//!
+//! The modules stand in the sheet's order. Every function takes any input:
+//! what the sheet refuses gets a number of its tables, and nothing panics.
+//! The library prints nothing.
+//!
+//! - [`stamp`], [`language`], [`entry`], [`image`]: stamps, pairs, the image
+//!   and its soundness, a fresh image.
+//! - [`number`]: the names of the numbers. [`endian`]: little-endian numbers.
+
+#![forbid(unsafe_code)]
+#![deny(missing_docs)]
+#![deny(
+    clippy::arithmetic_side_effects,
+    clippy::expect_used,
+    clippy::indexing_slicing,
+    clippy::panic,
+    clippy::unwrap_used
+)]
+
+pub mod endian;
+pub mod entry;
+pub mod image;
+pub mod language;
+pub mod number;
+pub mod stamp;
+
+pub use entry::Entry;
+pub use image::{is_sound, make_fresh, Layout};
+pub use language::Language;
+pub use stamp::{Mark, Mode, Pair, Session};
