@@ -8,6 +8,8 @@
 //!
 //! - [`stamp`], [`language`], [`entry`], [`image`]: stamps, pairs, the image
 //!   and its soundness, a fresh image.
+//! - [`command`], [`guard`](Entry::take), [`store`]: commands and the answers
+//!   0 to 9.
 //! - [`number`]: the names of the numbers. [`endian`]: little-endian numbers.
 
 #![forbid(unsafe_code)]
@@ -20,14 +22,19 @@
     clippy::unwrap_used
 )]
 
+pub mod command;
 pub mod endian;
 pub mod entry;
+mod guard;
 pub mod image;
 pub mod language;
 pub mod number;
 pub mod stamp;
+pub mod store;
 
+pub use command::{Act, Command, CommandFields};
 pub use entry::Entry;
 pub use image::{is_sound, make_fresh, Layout};
 pub use language::Language;
 pub use stamp::{Mark, Mode, Pair, Session};
+pub use store::{answer, Answer, ReplyFields};
