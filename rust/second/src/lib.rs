@@ -10,6 +10,7 @@
 //!   and its soundness, a fresh image.
 //! - [`command`], [`guard`](Entry::take), [`store`]: commands and the answers
 //!   0 to 9.
+//! - [`desk`]: the text a desk shows.
 //! - [`number`]: the names of the numbers. [`endian`]: little-endian numbers.
 
 #![forbid(unsafe_code)]
@@ -23,6 +24,7 @@
 )]
 
 pub mod command;
+pub mod desk;
 pub mod endian;
 pub mod entry;
 mod guard;
@@ -33,6 +35,7 @@ pub mod stamp;
 pub mod store;
 
 pub use command::{Act, Command, CommandFields};
+pub use desk::{shown, Held};
 pub use entry::Entry;
 pub use image::{is_sound, make_fresh, Layout};
 pub use language::Language;
