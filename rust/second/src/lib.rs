@@ -11,6 +11,7 @@
 //! - [`command`], [`guard`](Entry::take), [`store`]: commands and the answers
 //!   0 to 9.
 //! - [`desk`]: the text a desk shows.
+//! - [`queue`]: the lock queue of one card, numbers 10 to 13 and 15.
 //! - [`number`]: the names of the numbers. [`endian`]: little-endian numbers.
 
 #![forbid(unsafe_code)]
@@ -31,6 +32,7 @@ mod guard;
 pub mod image;
 pub mod language;
 pub mod number;
+pub mod queue;
 pub mod stamp;
 pub mod store;
 
@@ -39,5 +41,6 @@ pub use desk::{shown, Held};
 pub use entry::Entry;
 pub use image::{is_sound, make_fresh, Layout};
 pub use language::Language;
+pub use queue::{Place, Queue, QueueAnswer};
 pub use stamp::{Mark, Mode, Pair, Session};
 pub use store::{answer, Answer, ReplyFields};
