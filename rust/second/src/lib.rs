@@ -12,6 +12,7 @@
 //!   0 to 9.
 //! - [`desk`]: the text a desk shows.
 //! - [`queue`]: the lock queue of one card, numbers 10 to 13 and 15.
+//! - [`stream`], [`program`]: streams and the program's output.
 //! - [`number`]: the names of the numbers. [`endian`]: little-endian numbers.
 
 #![forbid(unsafe_code)]
@@ -32,15 +33,19 @@ mod guard;
 pub mod image;
 pub mod language;
 pub mod number;
+pub mod program;
 pub mod queue;
 pub mod stamp;
 pub mod store;
+pub mod stream;
 
 pub use command::{Act, Command, CommandFields};
 pub use desk::{shown, Held};
 pub use entry::Entry;
 pub use image::{is_sound, make_fresh, Layout};
 pub use language::Language;
+pub use program::output;
 pub use queue::{Place, Queue, QueueAnswer};
 pub use stamp::{Mark, Mode, Pair, Session};
 pub use store::{answer, Answer, ReplyFields};
+pub use stream::{standing_at, walk, Reader, Standing, Walk};
