@@ -14,6 +14,7 @@
 //! - [`queue`]: the lock queue of one card, numbers 10 to 13 and 15.
 //! - [`stream`], [`program`]: streams and the program's output.
 //! - [`number`]: the names of the numbers. [`endian`]: little-endian numbers.
+//!   [`random`]: random numbers for tests.
 
 #![forbid(unsafe_code)]
 #![deny(missing_docs)]
@@ -35,6 +36,7 @@ pub mod language;
 pub mod number;
 pub mod program;
 pub mod queue;
+pub mod random;
 pub mod stamp;
 pub mod store;
 pub mod stream;
