@@ -32,7 +32,7 @@ impl Numbers {
 fn answers_on_images_and_commands_of_any_sort() {
     let mut random = Random::new(1);
     let mut numbers = Numbers::default();
-    for _ in 0..60_000 {
+    for _ in 0..40_000 {
         let mut image = generate::image(&mut random);
         let length = random.index(40);
         let mut reply = random.bytes(length);
@@ -83,7 +83,7 @@ fn lists_from_a_fresh_image_show_the_last_accepted_write() {
 fn soundness_of_any_bytes() {
     let mut random = Random::new(3);
     let mut sound = 0;
-    for _ in 0..60_000 {
+    for _ in 0..40_000 {
         let image = generate::image(&mut random);
         if is_sound(&image) {
             sound += 1;

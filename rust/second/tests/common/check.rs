@@ -28,9 +28,9 @@ pub fn answer(image: &mut [u8], command: &[u8], reply: &mut [u8]) -> Answer {
     answer
 }
 
-/// The entry a well-formed command is about, on a sound image.
+/// The entry a well-formed command is about.
 fn entry_of(image: &[u8], command: &[u8]) -> (Entry, Layout) {
-    let layout = Layout::of_sound(image).expect("rows 3 to 8 need a sound image");
+    let layout = Layout::of_header(image).expect("rows 3 to 8 need a sound image");
     let command = Command::parse(command).expect("rows 3 to 8 need a well-formed command");
     let entry = layout.entry(image, command.card);
     (entry.expect("rows 3 to 8 need a card"), layout)
