@@ -1,0 +1,191 @@
+//! A command: its bytes, its fields, and when it is well formed (sheet, "A
+//! command").
+
+use crate::endian::{put, u16_at, u32_at, u64_at};
+use crate::language::Language;
+use crate::stamp::{Mark, Mode, Pair, Session};
+
+/// The bytes of a command before its payload.
+pub const COMMAND_BYTES: usize = 52;
+/// Where a command holds the length of its payload.
+pub const LENGTH_OFFSET: usize = 50;
+
+/// What a command does.
+#[derive(Clone, Copy, Debug, PartialEq, Eq, Hash)]
+pub enum Act {
+    /// Act 1, read original, and act 2, read translation.
+    Read(Language),
+    /// Act 3, write original, and act 4, write translation.
+    Write(Language),
+    /// Act 5.
+    Verify,
+}
+
+impl Act {
+    /// The act with this number.
+    pub fn from_number(number: u8) -> Option<Act> {
+        match number {
+            1 => Some(Act::Read(Language::Original)),
+            2 => Some(Act::Read(Language::Translation)),
+            3 => Some(Act::Write(Language::Original)),
+            4 => Some(Act::Write(Language::Translation)),
+            5 => Some(Act::Verify),
+            _ => None,
+        }
+    }
+
+    /// The number of this act.
+    pub fn number(self) -> u8 {
+        match self {
+            Act::Read(Language::Original) => 1,
+            Act::Read(Language::Translation) => 2,
+            Act::Write(Language::Original) => 3,
+            Act::Write(Language::Translation) => 4,
+            Act::Verify => 5,
+        }
+    }
+}
+
+/// The fields of a command as its bytes hold them; any values at all.
+#[derive(Clone, Copy, Debug, Default, PartialEq, Eq, Hash)]
+pub struct CommandFields {
+    /// Offset 0.
+    pub act: u8,
+    /// Offset 1.
+    pub mode: u8,
+    /// Offset 2.
+    pub card: u16,
+    /// Offsets 4 and 12.
+    pub pair: Pair,
+    /// Offset 20, sixteen zeros in a well-formed command.
+    pub zeros: [u8; 16],
+    /// Offsets 36 and 38.
+    pub expected: Mark,
+    /// Offsets 42 and 44.
+    pub next: Mark,
+    /// Offset 48.
+    pub edition: u16,
+    /// Offset 50.
+    pub length: u16,
+}
+
+impl CommandFields {
+    /// Reads the fields from the first 52 bytes, if there are as many.
+    pub fn from_bytes(bytes: &[u8]) -> Option<CommandFields> {
+        let bytes = bytes.get(..COMMAND_BYTES)?;
+        Some(CommandFields {
+            act: *bytes.first()?,
+            mode: *bytes.get(1)?,
+            card: u16_at(bytes, 2)?,
+            pair: Pair::new(u64_at(bytes, 4)?, u64_at(bytes, 12)?),
+            zeros: *bytes.get(20..)?.first_chunk()?,
+            expected: Mark::new(u16_at(bytes, 36)?, u32_at(bytes, 38)?),
+            next: Mark::new(u16_at(bytes, 42)?, u32_at(bytes, 44)?),
+            edition: u16_at(bytes, 48)?,
+            length: u16_at(bytes, LENGTH_OFFSET)?,
+        })
+    }
+
+    /// The 52 bytes of these fields. Nothing is checked.
+    pub fn to_bytes(&self) -> [u8; COMMAND_BYTES] {
+        let mut bytes = [0; COMMAND_BYTES];
+        put(&mut bytes, 0, &[self.act, self.mode]);
+        put(&mut bytes, 2, &self.card.to_le_bytes());
+        put(&mut bytes, 4, &self.pair.s.to_le_bytes());
+        put(&mut bytes, 12, &self.pair.x.to_le_bytes());
+        put(&mut bytes, 20, &self.zeros);
+        put(&mut bytes, 36, &self.expected.desk.to_le_bytes());
+        put(&mut bytes, 38, &self.expected.transaction.to_le_bytes());
+        put(&mut bytes, 42, &self.next.desk.to_le_bytes());
+        put(&mut bytes, 44, &self.next.transaction.to_le_bytes());
+        put(&mut bytes, 48, &self.edition.to_le_bytes());
+        put(&mut bytes, LENGTH_OFFSET, &self.length.to_le_bytes());
+        bytes
+    }
+
+    /// The bytes of these fields followed by a payload, with the length field
+    /// as it stands. Nothing is checked.
+    pub fn followed_by(&self, payload: &[u8]) -> Vec<u8> {
+        let mut bytes = self.to_bytes().to_vec();
+        bytes.extend_from_slice(payload);
+        bytes
+    }
+
+    /// The bytes of these fields followed by a payload, with the length field
+    /// set to the payload's length (65,535 for a longer one).
+    pub fn with_payload(&self, payload: &[u8]) -> Vec<u8> {
+        let length = u16::try_from(payload.len()).unwrap_or(u16::MAX);
+        CommandFields { length, ..*self }.followed_by(payload)
+    }
+}
+
+/// A well-formed command.
+#[derive(Clone, Copy, Debug, PartialEq, Eq, Hash)]
+pub struct Command<'a> {
+    /// What it does.
+    pub act: Act,
+    /// Shared or exclusive.
+    pub mode: Mode,
+    /// The card, from 0.
+    pub card: u16,
+    /// The pair it carries.
+    pub pair: Pair,
+    /// Its desk: desk and start in the mode's own stamp.
+    pub desk: u32,
+    /// The commit mark it expects to be stored.
+    pub expected: Mark,
+    /// The commit mark to be stored next.
+    pub next: Mark,
+    /// The edition named by act 4, else zero.
+    pub edition: u16,
+    /// The text of act 3 or 4, else empty.
+    pub payload: &'a [u8],
+}
+
+impl<'a> Command<'a> {
+    /// The command in these lent bytes, or none if they are malformed.
+    pub fn parse(bytes: &'a [u8]) -> Option<Command<'a>> {
+        let fields = CommandFields::from_bytes(bytes)?;
+        let payload = bytes.get(COMMAND_BYTES..)?;
+        let act = Act::from_number(fields.act)?;
+        let mode = Mode::from_number(fields.mode)?;
+        let desk = mode.desk(fields.pair)?;
+        let well_formed = payload.len() == usize::from(fields.length)
+            && fields.zeros == [0; 16]
+            && fields.expected.is_valid()
+            && fields.next.is_valid()
+            && fits_act(act, mode, &fields);
+        well_formed.then_some(Command {
+            act,
+            mode,
+            card: fields.card,
+            pair: fields.pair,
+            desk,
+            expected: fields.expected,
+            next: fields.next,
+            edition: fields.edition,
+            payload,
+        })
+    }
+
+    /// The session this command belongs to.
+    pub fn session(&self) -> Session {
+        Session {
+            card: self.card,
+            desk: self.desk,
+            mode: self.mode,
+            pair: self.pair,
+        }
+    }
+}
+
+/// Writes are exclusive; the edition is nonzero for act 4 and zero for every
+/// other act; the length is zero unless act 3 or 4.
+fn fits_act(act: Act, mode: Mode, fields: &CommandFields) -> bool {
+    let names_edition = act == Act::Write(Language::Translation);
+    let mode_and_length = match act {
+        Act::Write(_) => mode == Mode::Exclusive,
+        Act::Read(_) | Act::Verify => fields.length == 0,
+    };
+    mode_and_length && (fields.edition != 0) == names_edition
+}

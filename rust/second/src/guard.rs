@@ -1,0 +1,80 @@
+//! The guard of one card: its entry takes a command and comes back as the new
+//! entry (sheet, "How the guard judges" and rows 3 to 8 of "When the store
+//! says no").
+
+use crate::command::{Act, Command};
+use crate::entry::Entry;
+use crate::language::Language;
+use crate::number::{BEHIND, BUFFER_SHORT, LAST_EDITION, MARK_DIFFERS, PAYLOAD_TOO_LONG, STALE};
+
+impl Entry {
+    /// The new entry if the command is accepted, else the number of the first
+    /// row that applies.
+    pub fn take(self, command: &Command, room: usize, reply_length: usize) -> Result<Entry, u8> {
+        match self.refusal(command, room, reply_length) {
+            Some(number) => Err(number),
+            None => Ok(self.accepted(command)),
+        }
+    }
+
+    /// A translation is behind if translated-from is 0 or is not the edition.
+    pub fn is_behind(self) -> bool {
+        self.translated_from == 0 || self.translated_from != self.edition
+    }
+
+    /// Rows 3 to 8, in the table's order.
+    fn refusal(self, command: &Command, room: usize, reply_length: usize) -> Option<u8> {
+        if command.mode.is_below(command.pair, self.pair) {
+            Some(STALE)
+        } else if command.expected != self.mark {
+            Some(MARK_DIFFERS)
+        } else if command.payload.len() > room {
+            Some(PAYLOAD_TOO_LONG)
+        } else if self.edition_refuses(command) {
+            Some(BEHIND)
+        } else if command.act == Act::Write(Language::Original) && self.edition == u16::MAX {
+            Some(LAST_EDITION)
+        } else if self.length_read(command.act) > reply_length {
+            Some(BUFFER_SHORT)
+        } else {
+            None
+        }
+    }
+
+    /// Row 6.
+    fn edition_refuses(self, command: &Command) -> bool {
+        match command.act {
+            Act::Read(Language::Translation) => self.is_behind(),
+            Act::Write(Language::Translation) => command.edition != self.edition,
+            _ => false,
+        }
+    }
+
+    /// The length of the text a read hands over, zero for every other act.
+    fn length_read(self, act: Act) -> usize {
+        match act {
+            Act::Read(language) => usize::from(self.length(language)),
+            Act::Write(_) | Act::Verify => 0,
+        }
+    }
+
+    /// The entry after an accepted command.
+    fn accepted(self, command: &Command) -> Entry {
+        let mut entry = self;
+        entry.pair = self.pair.larger(command.pair);
+        entry.mark = command.next;
+        let length = u16::try_from(command.payload.len()).unwrap_or(u16::MAX);
+        match command.act {
+            Act::Write(Language::Original) => {
+                entry.edition = self.edition.saturating_add(1);
+                entry.original_length = length;
+            }
+            Act::Write(Language::Translation) => {
+                entry.translated_from = command.edition;
+                entry.translation_length = length;
+            }
+            Act::Read(_) | Act::Verify => {}
+        }
+        entry
+    }
+}

@@ -1,0 +1,53 @@
+//! The card store a second time: plain Rust that follows the sheet alone and
+//! shares no code with the proved library, so that the two can be compared on
+//! random and damaged input.
+//!
+//! The modules stand in the sheet's order. Every function takes any input:
+//! what the sheet refuses gets a number of its tables, and nothing panics.
+//! The library prints nothing.
+//!
+//! - [`stamp`], [`language`], [`entry`], [`image`]: stamps, pairs, the image
+//!   and its soundness, a fresh image.
+//! - [`command`], [`guard`](Entry::take), [`store`]: commands and the answers
+//!   0 to 9.
+//! - [`desk`]: the text a desk shows.
+//! - [`queue`]: the lock queue of one card, numbers 10 to 13 and 15.
+//! - [`stream`], [`program`]: streams and the program's output.
+//! - [`number`]: the names of the numbers. [`endian`]: little-endian numbers.
+//!   [`random`]: random numbers for tests.
+
+#![forbid(unsafe_code)]
+#![deny(missing_docs)]
+#![deny(
+    clippy::arithmetic_side_effects,
+    clippy::expect_used,
+    clippy::indexing_slicing,
+    clippy::panic,
+    clippy::unwrap_used
+)]
+
+pub mod command;
+pub mod desk;
+pub mod endian;
+pub mod entry;
+mod guard;
+pub mod image;
+pub mod language;
+pub mod number;
+pub mod program;
+pub mod queue;
+pub mod random;
+pub mod stamp;
+pub mod store;
+pub mod stream;
+
+pub use command::{Act, Command, CommandFields};
+pub use desk::{shown, Held};
+pub use entry::Entry;
+pub use image::{is_sound, make_fresh, Layout};
+pub use language::Language;
+pub use program::output;
+pub use queue::{Place, Queue, QueueAnswer};
+pub use stamp::{Mark, Mode, Pair, Session};
+pub use store::{answer, Answer, ReplyFields};
+pub use stream::{standing_at, walk, Reader, Standing, Walk};

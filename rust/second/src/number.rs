@@ -1,0 +1,36 @@
+//! The answer numbers (sheet, "When the store says no" and "The lock queue of
+//! one card").
+
+/// Accepted; also an image made, a text shown, a lock asked for or left.
+pub const ACCEPTED: u8 = 0;
+/// The command is malformed; in the queue, its mode or stamps are.
+pub const MALFORMED: u8 = 1;
+/// The card is N or more.
+pub const NO_SUCH_CARD: u8 = 2;
+/// The pair is stale.
+pub const STALE: u8 = 3;
+/// The expected commit mark differs from the stored one.
+pub const MARK_DIFFERS: u8 = 4;
+/// The payload is longer than C.
+pub const PAYLOAD_TOO_LONG: u8 = 5;
+/// Act 2: the translation is behind; act 4: the named edition is not the
+/// stored one.
+pub const BEHIND: u8 = 6;
+/// Act 3 at edition 65,535.
+pub const LAST_EDITION: u8 = 7;
+/// The text is longer than the lent buffer.
+pub const BUFFER_SHORT: u8 = 8;
+/// The image is not sound.
+pub const UNSOUND: u8 = 9;
+/// The queue is bad.
+pub const BAD_QUEUE: u8 = 10;
+/// Asking is denied.
+pub const DENIED: u8 = 11;
+/// This desk and start already stands in the queue.
+pub const ALREADY_STANDING: u8 = 12;
+/// The queue is full.
+pub const FULL: u8 = 13;
+/// No fresh image can be made of this N, C and lent length.
+pub const NOT_MADE: u8 = 14;
+/// This desk and start does not stand in the queue.
+pub const NOT_STANDING: u8 = 15;

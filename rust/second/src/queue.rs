@@ -1,0 +1,186 @@
+//! The lock queue of one card (sheet, "The lock queue of one card").
+
+use crate::number::{ACCEPTED, ALREADY_STANDING, BAD_QUEUE, DENIED, FULL, MALFORMED, NOT_STANDING};
+use crate::stamp::{Mode, Pair};
+
+/// The most places a queue has.
+pub const PLACES_LIMIT: usize = 32;
+
+/// One place of the queue, and what a desk asks with; any values at all.
+#[derive(Clone, Copy, Debug, Default, PartialEq, Eq, Hash)]
+pub struct Place {
+    /// 1 shared, 2 exclusive.
+    pub mode: u8,
+    /// The shared and the exclusive stamp.
+    pub pair: Pair,
+}
+
+impl Place {
+    /// The place of this mode and these stamps.
+    pub fn new(mode: u8, s: u64, x: u64) -> Place {
+        let pair = Pair::new(s, x);
+        Place { mode, pair }
+    }
+
+    /// The desk and start that stands here, or none if mode or stamps are
+    /// malformed by a command's rules.
+    pub fn desk(self) -> Option<u32> {
+        Mode::from_number(self.mode)?.desk(self.pair)
+    }
+
+    fn is_exclusive(self) -> bool {
+        Mode::from_number(self.mode) == Some(Mode::Exclusive)
+    }
+}
+
+/// A queue: lent places, how many stand, and the largest s and x ever
+/// accepted; any values at all.
+#[derive(Debug, PartialEq, Eq)]
+pub struct Queue<'a> {
+    /// The lent places.
+    pub places: &'a mut [Place],
+    /// How many stand, from the first place on.
+    pub count: usize,
+    /// The largest s and x.
+    pub largest: Pair,
+}
+
+/// What asking and leaving answer.
+#[derive(Clone, Copy, Debug, Default, PartialEq, Eq, Hash)]
+pub struct QueueAnswer {
+    /// 0, 1 or 10 to 13 for asking; 0, 10 or 15 for leaving.
+    pub number: u8,
+    /// Whether that desk holds the lock in the queue as it now is.
+    pub holds: bool,
+    /// The largest pair as it now is; zeros for 10 and 1.
+    pub largest: Pair,
+    /// How many entries were looked at, in the queue at entry.
+    pub looked_at: usize,
+}
+
+impl QueueAnswer {
+    fn zeros(number: u8) -> QueueAnswer {
+        QueueAnswer {
+            number,
+            ..QueueAnswer::default()
+        }
+    }
+}
+
+impl Queue<'_> {
+    /// Asks for the lock. Every number but 0 leaves the queue as it was.
+    pub fn ask(&mut self, asked: Place) -> QueueAnswer {
+        let Some(standing) = self.standing() else {
+            return QueueAnswer::zeros(BAD_QUEUE);
+        };
+        let (Some(mode), Some(desk)) = (Mode::from_number(asked.mode), asked.desk()) else {
+            return QueueAnswer::zeros(MALFORMED);
+        };
+        let found = position(standing, desk);
+        let looked_at = looked_at(standing, found);
+        let number = if found.is_some() {
+            ALREADY_STANDING
+        } else if mode.is_below(asked.pair, self.largest) {
+            DENIED
+        } else if self.count == self.places.len() {
+            FULL
+        } else {
+            self.join(asked);
+            ACCEPTED
+        };
+        self.answer(number, desk, looked_at)
+    }
+
+    /// Leaves the queue, by desk and start. Every number but 0 leaves the
+    /// queue as it was.
+    pub fn leave(&mut self, desk: u32) -> QueueAnswer {
+        let Some(standing) = self.standing() else {
+            return QueueAnswer::zeros(BAD_QUEUE);
+        };
+        let found = position(standing, desk);
+        let looked_at = looked_at(standing, found);
+        let number = match found {
+            None => NOT_STANDING,
+            Some(at) => {
+                self.close_gap(at);
+                ACCEPTED
+            }
+        };
+        self.answer(number, desk, looked_at)
+    }
+
+    /// The entries that stand, or none if the queue is bad (number 10).
+    pub fn standing(&self) -> Option<&[Place]> {
+        let length_is_right = (1..=PLACES_LIMIT).contains(&self.places.len());
+        let standing = self.places.get(..self.count)?;
+        let good = length_is_right
+            && self.largest.is_valid()
+            && standing.iter().all(|place| self.entry_is_good(*place))
+            && desks_differ(standing);
+        good.then_some(standing)
+    }
+
+    /// Well formed, and neither stamp above the largest.
+    fn entry_is_good(&self, place: Place) -> bool {
+        place.desk().is_some() && place.pair.s <= self.largest.s && place.pair.x <= self.largest.x
+    }
+
+    /// An accepted entry joins the end and raises the largest s and x.
+    fn join(&mut self, asked: Place) {
+        if let Some(place) = self.places.get_mut(self.count) {
+            *place = asked;
+            self.count = self.count.saturating_add(1);
+            self.largest = self.largest.larger(asked.pair);
+        }
+    }
+
+    /// Leaving closes the gap and zeroes the freed last place.
+    fn close_gap(&mut self, at: usize) {
+        if let Some(from_gap @ [_, ..]) = self.places.get_mut(at..self.count) {
+            from_gap.rotate_left(1);
+            if let Some(freed) = from_gap.last_mut() {
+                *freed = Place::default();
+            }
+            self.count = self.count.saturating_sub(1);
+        }
+    }
+
+    /// The answer for a desk, on the queue as it now is.
+    fn answer(&self, number: u8, desk: u32, looked_at: usize) -> QueueAnswer {
+        let standing = self.places.get(..self.count).unwrap_or_default();
+        QueueAnswer {
+            number,
+            holds: holds(standing, desk),
+            largest: self.largest,
+            looked_at,
+        }
+    }
+}
+
+/// Where a desk and start stands.
+fn position(standing: &[Place], desk: u32) -> Option<usize> {
+    standing.iter().position(|place| place.desk() == Some(desk))
+}
+
+/// Those from the front up to and including the desk's own, or all standing.
+fn looked_at(standing: &[Place], found: Option<usize>) -> usize {
+    found.map_or(standing.len(), |at| at.saturating_add(1))
+}
+
+/// Shared holds the lock if no exclusive stands before it; exclusive holds if
+/// it is first.
+fn holds(standing: &[Place], desk: u32) -> bool {
+    match position(standing, desk).and_then(|at| standing.get(..=at)) {
+        Some([before @ .., own]) if own.is_exclusive() => before.is_empty(),
+        Some([before @ .., _]) => !before.iter().any(|place| place.is_exclusive()),
+        _ => false,
+    }
+}
+
+/// No desk and start stands twice.
+fn desks_differ(standing: &[Place]) -> bool {
+    standing.iter().enumerate().all(|(at, place)| {
+        let mut earlier = standing.iter().take(at);
+        !earlier.any(|other| other.desk() == place.desk())
+    })
+}

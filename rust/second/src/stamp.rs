@@ -1,0 +1,129 @@
+//! Stamps, pairs, modes, commit marks and sessions (sheet, "Stamps, pairs and
+//! sessions").
+
+/// The stamp T.desk.start: 32, 16 and 16 bits, T highest.
+pub fn stamp(time: u32, desk: u16, start: u16) -> u64 {
+    u64::from(time) << 32 | u64::from(desk) << 16 | u64::from(start)
+}
+
+/// A stamp is valid if it is zero (none) or its desk is at least 1.
+pub fn is_valid(stamp: u64) -> bool {
+    stamp == 0 || desk_and_start(stamp) >> 16 >= 1
+}
+
+/// The desk and start of a stamp, as one number with the desk highest.
+pub fn desk_and_start(stamp: u64) -> u32 {
+    (stamp & 0xffff_ffff) as u32
+}
+
+/// A shared stamp s and an exclusive stamp x.
+#[derive(Clone, Copy, Debug, Default, PartialEq, Eq, Hash)]
+pub struct Pair {
+    /// The shared stamp.
+    pub s: u64,
+    /// The exclusive stamp.
+    pub x: u64,
+}
+
+impl Pair {
+    /// The pair of these two stamps.
+    pub fn new(s: u64, x: u64) -> Pair {
+        Pair { s, x }
+    }
+
+    /// Whether both stamps are valid.
+    pub fn is_valid(self) -> bool {
+        is_valid(self.s) && is_valid(self.x)
+    }
+
+    /// The larger of each stamp.
+    pub fn larger(self, other: Pair) -> Pair {
+        Pair::new(self.s.max(other.s), self.x.max(other.x))
+    }
+}
+
+/// The mode of a command or of a place in the queue.
+#[derive(Clone, Copy, Debug, PartialEq, Eq, Hash)]
+pub enum Mode {
+    /// Mode 1.
+    Shared,
+    /// Mode 2.
+    Exclusive,
+}
+
+impl Mode {
+    /// The mode with this number: 1 shared, 2 exclusive.
+    pub fn from_number(number: u8) -> Option<Mode> {
+        match number {
+            1 => Some(Mode::Shared),
+            2 => Some(Mode::Exclusive),
+            _ => None,
+        }
+    }
+
+    /// The number of this mode.
+    pub fn number(self) -> u8 {
+        match self {
+            Mode::Shared => 1,
+            Mode::Exclusive => 2,
+        }
+    }
+
+    /// The mode's own stamp: s if shared, x if exclusive.
+    pub fn own_stamp(self, pair: Pair) -> u64 {
+        match self {
+            Mode::Shared => pair.s,
+            Mode::Exclusive => pair.x,
+        }
+    }
+
+    /// The desk and start in the mode's own stamp, or none if the pair is
+    /// malformed for this mode: a stamp not valid, or the own stamp zero.
+    pub fn desk(self, pair: Pair) -> Option<u32> {
+        let own = self.own_stamp(pair);
+        (pair.is_valid() && own != 0).then(|| desk_and_start(own))
+    }
+
+    /// The test the guard and the queue have in common: shared looks at x
+    /// alone, exclusive at s and x; equal is not below.
+    pub fn is_below(self, pair: Pair, largest: Pair) -> bool {
+        match self {
+            Mode::Shared => pair.x < largest.x,
+            Mode::Exclusive => pair.s < largest.s || pair.x < largest.x,
+        }
+    }
+}
+
+/// A commit mark: a desk and its transaction.
+#[derive(Clone, Copy, Debug, Default, PartialEq, Eq, Hash)]
+pub struct Mark {
+    /// The commit desk.
+    pub desk: u16,
+    /// The commit transaction.
+    pub transaction: u32,
+}
+
+impl Mark {
+    /// The mark of this desk and transaction.
+    pub fn new(desk: u16, transaction: u32) -> Mark {
+        Mark { desk, transaction }
+    }
+
+    /// Whether desk and transaction are both zero or both not.
+    pub fn is_valid(self) -> bool {
+        (self.desk == 0) == (self.transaction == 0)
+    }
+}
+
+/// A card, a desk, a mode and a pair.
+#[derive(Clone, Copy, Debug, PartialEq, Eq, Hash)]
+pub struct Session {
+    /// The card, from 0.
+    pub card: u16,
+    /// The desk and start in the mode's own stamp.
+    pub desk: u32,
+    /// The mode.
+    pub mode: Mode,
+    /// The pair.
+    pub pair: Pair,
+}

@@ -1,0 +1,116 @@
+//! The answer to one command (sheet, "When the store says no").
+
+use crate::command::{Act, Command};
+use crate::entry::Entry;
+use crate::image::Layout;
+use crate::number::{ACCEPTED, MALFORMED, NO_SUCH_CARD, UNSOUND};
+use crate::stamp::{Mark, Pair};
+
+/// The seven reply fields.
+#[derive(Clone, Copy, Debug, Default, PartialEq, Eq, Hash)]
+pub struct ReplyFields {
+    /// s and x.
+    pub pair: Pair,
+    /// Commit desk and transaction.
+    pub mark: Mark,
+    /// The edition.
+    pub edition: u16,
+    /// Translated-from.
+    pub translated_from: u16,
+    /// The length of the text read if a read is accepted, else 0.
+    pub length: u16,
+}
+
+impl ReplyFields {
+    /// The seven fields in the sheet's order, as wide numbers.
+    pub fn numbers(&self) -> [u64; 7] {
+        [
+            self.pair.s,
+            self.pair.x,
+            self.mark.desk.into(),
+            self.mark.transaction.into(),
+            self.edition.into(),
+            self.translated_from.into(),
+            self.length.into(),
+        ]
+    }
+}
+
+/// An answer: its number, 0 to 9, and the reply fields.
+#[derive(Clone, Copy, Debug, Default, PartialEq, Eq, Hash)]
+pub struct Answer {
+    /// The number of the row that applies.
+    pub number: u8,
+    /// The reply fields.
+    pub fields: ReplyFields,
+}
+
+impl Answer {
+    /// An answer whose fields are zeros.
+    fn zeros(number: u8) -> Answer {
+        let fields = ReplyFields::default();
+        Answer { number, fields }
+    }
+
+    /// An answer whose fields are an entry's.
+    fn of_entry(number: u8, entry: Entry, length: u16) -> Answer {
+        let fields = ReplyFields {
+            pair: entry.pair,
+            mark: entry.mark,
+            edition: entry.edition,
+            translated_from: entry.translated_from,
+            length,
+        };
+        Answer { number, fields }
+    }
+}
+
+/// Judges a command on an image, with a lent reply buffer. Only an accepted
+/// command changes the image, and only an accepted read the reply buffer.
+pub fn answer(image: &mut [u8], command: &[u8], reply: &mut [u8]) -> Answer {
+    let Some(layout) = Layout::of_sound(image) else {
+        return Answer::zeros(UNSOUND);
+    };
+    let Some(command) = Command::parse(command) else {
+        return Answer::zeros(MALFORMED);
+    };
+    let Some(stored) = layout.entry(image, command.card) else {
+        return Answer::zeros(NO_SUCH_CARD);
+    };
+    match stored.take(&command, layout.room(), reply.len()) {
+        Ok(entry) => accept(layout, image, &command, entry, reply),
+        Err(number) => Answer::of_entry(number, stored, 0),
+    }
+}
+
+/// Carries out an accepted command.
+fn accept(
+    layout: Layout,
+    image: &mut [u8],
+    command: &Command,
+    entry: Entry,
+    reply: &mut [u8],
+) -> Answer {
+    layout.put_entry(image, command.card, entry);
+    let length = match command.act {
+        Act::Read(language) => {
+            let text = layout.text(image, command.card, language);
+            fill_first(reply, text.unwrap_or_default());
+            entry.length(language)
+        }
+        Act::Write(language) => {
+            layout.put_text(image, command.card, language, command.payload);
+            0
+        }
+        Act::Verify => 0,
+    };
+    Answer::of_entry(ACCEPTED, entry, length)
+}
+
+/// Fills the first bytes of the reply buffer; the rest keeps its bytes.
+fn fill_first(reply: &mut [u8], text: &[u8]) {
+    reply
+        .iter_mut()
+        .zip(text)
+        .for_each(|(to, from)| *to = *from);
+}

@@ -1,0 +1,287 @@
+//! Random inputs near the edges of the rules.
+
+use second::random::Random;
+use second::{CommandFields, Entry, Layout, Mark, Pair, Place};
+
+use super::{fresh, put_card};
+
+/// A few stamps that are often equal or near, some of them not valid.
+pub fn any_stamp(random: &mut Random) -> u64 {
+    match random.below(8) {
+        0 => 0,
+        1 => random.number(),
+        2 => random.below(0x2_0000),
+        _ => valid_stamp(random),
+    }
+}
+
+/// A stamp with a desk; few desks and few times, so that they meet.
+pub fn valid_stamp(random: &mut Random) -> u64 {
+    let time = random.pick(&[0, 1, 1, 2, 2, 3, u32::MAX]);
+    let desk = random.pick(&[1, 1, 2, 3, 0x8000, u16::MAX]);
+    let start = random.pick(&[0, 0, 0, 1, u16::MAX]);
+    second::stamp::stamp(time, desk, start)
+}
+
+/// A stamp that is valid: none or one with a desk.
+fn stored_stamp(random: &mut Random) -> u64 {
+    match random.below(4) {
+        0 => 0,
+        _ => valid_stamp(random),
+    }
+}
+
+/// A stamp near this one, mostly valid if this one is.
+fn near(random: &mut Random, stamp: u64) -> u64 {
+    match random.below(12) {
+        0 => stamp.saturating_sub(1),
+        1 => stamp.saturating_sub(1 << 32),
+        2 => stamp.saturating_add(1),
+        3 => stamp.saturating_add(1 << 32),
+        4 => any_stamp(random),
+        5 => valid_stamp(random),
+        _ => stamp,
+    }
+}
+
+/// A pair near the stored one, mostly with the mode's own stamp.
+fn near_pair(random: &mut Random, mode: u8, stored: Pair) -> Pair {
+    let mut pair = Pair::new(near(random, stored.s), near(random, stored.x));
+    let own = if mode == 1 { &mut pair.s } else { &mut pair.x };
+    if *own == 0 && !random.one_in(8) {
+        *own = valid_stamp(random);
+    }
+    pair
+}
+
+/// A mark by the rules.
+fn mark(random: &mut Random) -> Mark {
+    match random.below(3) {
+        0 => Mark::default(),
+        _ => Mark::new(
+            random.pick(&[1, 2, 0x8000, u16::MAX]),
+            random.pick(&[1, 2, 0x8000_0000, u32::MAX]),
+        ),
+    }
+}
+
+/// Any mark.
+fn any_mark(random: &mut Random) -> Mark {
+    let desk = random.pick(&[0, 1, u16::MAX]);
+    Mark::new(desk, random.pick(&[0, 1, u32::MAX]))
+}
+
+/// A text of up to `room` bytes, often empty or full.
+fn text(random: &mut Random, room: usize) -> Vec<u8> {
+    let any = random.index(room + 1);
+    let length = random.pick(&[0, 1, any, room - 1, room]);
+    random.bytes(length)
+}
+
+/// A sound image of a few cards.
+pub fn sound_image(random: &mut Random) -> Vec<u8> {
+    let cards = random.pick(&[1, 1, 2, 3]);
+    let room = random.pick(&[16, 16, 32, 48]);
+    let mut image = fresh(cards, room);
+    for card in 0..cards as u16 {
+        put_random_card(random, &mut image, card, room as usize);
+    }
+    image
+}
+
+fn put_random_card(random: &mut Random, image: &mut [u8], card: u16, room: usize) {
+    let edition = random.pick(&[0, 1, 1, 2, 65_534, 65_535]);
+    let earlier = random.between(0, edition.into()) as u16;
+    let translated_from = random.pick(&[0, edition, edition, earlier]);
+    let mut entry = Entry {
+        pair: Pair::new(stored_stamp(random), stored_stamp(random)),
+        mark: mark(random),
+        ..Entry::default()
+    };
+    entry.edition = edition;
+    entry.translated_from = translated_from;
+    let mut written = |edition: u16| match edition {
+        0 => Vec::new(),
+        _ => text(random, room),
+    };
+    let (original, translation) = (written(edition), written(translated_from));
+    put_card(image, card, entry, &original, &translation);
+}
+
+/// A command that fits a card of the image in most of its fields.
+pub fn fitting_command(random: &mut Random, image: &[u8]) -> Vec<u8> {
+    let layout = Layout::of_header(image);
+    let cards = layout.map_or(1, Layout::cards);
+    let room = layout.map_or(16, Layout::room);
+    let card = random.index(cards) as u16;
+    let stored = layout.and_then(|layout| layout.entry(image, card));
+    let stored = stored.unwrap_or_default();
+    let act = random.between(1, 5) as u8;
+    let write = act == 3 || act == 4;
+    let mode = if write { 2 } else { random.pick(&[1, 2]) };
+    let fields = CommandFields {
+        act,
+        mode,
+        card: if random.one_in(16) {
+            cards as u16
+        } else {
+            card
+        },
+        pair: near_pair(random, mode, stored.pair),
+        zeros: [0; 16],
+        expected: if random.one_in(8) {
+            mark(random)
+        } else {
+            stored.mark
+        },
+        next: mark(random),
+        edition: if act == 4 { named(random, stored) } else { 0 },
+        length: 0,
+    };
+    match write {
+        true => {
+            let room = if random.one_in(8) { room + 2 } else { room };
+            fields.with_payload(&text(random, room))
+        }
+        false => fields.with_payload(&[]),
+    }
+}
+
+/// The stored edition or one near it.
+fn named(random: &mut Random, stored: Entry) -> u16 {
+    let (below, above) = (
+        stored.edition.saturating_sub(1),
+        stored.edition.saturating_add(1),
+    );
+    random.pick(&[stored.edition, stored.edition, stored.edition, below, above])
+}
+
+/// A command with any fields.
+pub fn any_command(random: &mut Random) -> Vec<u8> {
+    let mut fields = CommandFields {
+        act: random.between(0, 6) as u8,
+        mode: random.between(0, 3) as u8,
+        card: random.pick(&[0, 0, 1, 2, 64, u16::MAX]),
+        pair: Pair::new(any_stamp(random), any_stamp(random)),
+        zeros: [0; 16],
+        expected: any_mark(random),
+        next: any_mark(random),
+        edition: random.pick(&[0, 0, 1, 2, u16::MAX]),
+        length: random.below(70) as u16,
+    };
+    fields.zeros[random.index(16)] = random.pick(&[0, 0, 0, 1]);
+    let length = random.index(70);
+    let payload = random.bytes(length);
+    match random.one_in(4) {
+        true => fields.followed_by(&payload),
+        false => fields.with_payload(&payload),
+    }
+}
+
+/// A command of any sort: fitting, with any fields, damaged, or any bytes.
+pub fn command(random: &mut Random, image: &[u8]) -> Vec<u8> {
+    let mut command = match random.below(8) {
+        0 => any_command(random),
+        1 => {
+            let length = random.index(120);
+            random.bytes(length)
+        }
+        _ => fitting_command(random, image),
+    };
+    if random.one_in(6) {
+        damage(random, &mut command);
+    }
+    command
+}
+
+/// An image of any sort: sound, damaged, or any bytes.
+pub fn image(random: &mut Random) -> Vec<u8> {
+    match random.below(16) {
+        0 => {
+            let length = random.index(200);
+            random.bytes(length)
+        }
+        1..=3 => {
+            let mut image = sound_image(random);
+            damage(random, &mut image);
+            image
+        }
+        _ => sound_image(random),
+    }
+}
+
+/// Changes one byte, or the length, or a few bytes in a row.
+pub fn damage(random: &mut Random, bytes: &mut Vec<u8>) {
+    if bytes.is_empty() {
+        return;
+    }
+    let place = random.index(bytes.len());
+    match random.below(6) {
+        0 => bytes.truncate(place),
+        1 => bytes.push(random.byte()),
+        2 => bytes[place] ^= 1 << random.below(8),
+        3 => bytes[place] = random.byte(),
+        4 => bytes[place..].iter_mut().take(8).for_each(|byte| *byte = 0),
+        _ => bytes[place..]
+            .iter_mut()
+            .take(8)
+            .for_each(|byte| *byte = 0xff),
+    }
+}
+
+/// A place of any sort, mostly well formed.
+pub fn place(random: &mut Random) -> Place {
+    match random.below(8) {
+        0 => Place::new(random.byte(), random.number(), random.number()),
+        1 => Place::new(
+            random.between(0, 3) as u8,
+            any_stamp(random),
+            any_stamp(random),
+        ),
+        _ => {
+            let mode = random.pick(&[1, 2]);
+            let (s, x) = (stored_stamp(random), stored_stamp(random));
+            Place::new(mode, s, x)
+        }
+    }
+}
+
+/// A queue's places, count and largest pair: good, or damaged in one way.
+pub fn queue(random: &mut Random) -> (Vec<Place>, usize, Pair) {
+    let length = random.pick(&[1, 2, 3, 3, 4, 5, 8, 32]);
+    let mut places: Vec<Place> = (0..length).map(|_| place(random)).collect();
+    let mut count = random.pick(&[0, 1, 2, 3, 5, length]).min(length);
+    let mut largest = Pair::default();
+    for (at, standing) in places.iter_mut().take(count).enumerate() {
+        let start = random.pick(&[0, 1]);
+        let own = second::stamp::stamp(random.below(4) as u32, at as u16 + 1, start);
+        *standing = match random.below(3) {
+            0 => Place::new(2, stored_stamp(random), own),
+            _ => Place::new(1, own, stored_stamp(random)),
+        };
+        largest = largest.larger(standing.pair);
+    }
+    if random.one_in(4) {
+        damage_queue(random, &mut places, &mut count, &mut largest);
+    }
+    (places, count, largest)
+}
+
+/// Changes the length, the count, the largest pair or one place.
+fn damage_queue(
+    random: &mut Random,
+    places: &mut Vec<Place>,
+    count: &mut usize,
+    largest: &mut Pair,
+) {
+    let at = random.index(places.len());
+    match random.below(7) {
+        0 => places.resize(33, Place::default()),
+        1 => places.clear(),
+        2 => *count = random.pick(&[places.len() + 1, usize::MAX]),
+        3 => largest.s = any_stamp(random),
+        4 => largest.x = any_stamp(random),
+        5 => places[at] = place(random),
+        _ => places[at] = places[random.index(places.len())],
+    }
+}

@@ -1,0 +1,472 @@
+//! Random and damaged input to every public function: nothing panics, and
+//! what the sheet says of all answers holds.
+
+mod common;
+
+use common::check::{self, turn, Turn};
+use common::{generate, layout, put_card, ORIGINAL, TRANSLATION};
+use second::random::Random;
+use second::stamp::desk_and_start;
+use second::{
+    endian, is_sound, make_fresh, output, shown, standing_at, stream, walk, Act, Command,
+    CommandFields, Entry, Held, Language, Layout, Mark, Mode, Pair, Place, Queue, Standing,
+};
+
+/// How often each number came.
+#[derive(Default)]
+struct Numbers([u32; 16]);
+
+impl Numbers {
+    fn count(&mut self, number: u8) {
+        self.0[usize::from(number)] += 1;
+    }
+
+    fn assert_all_came(&self, numbers: &[usize]) {
+        for &number in numbers {
+            assert!(self.0[number] > 100, "number {number}: {:?}", self.0);
+        }
+    }
+}
+
+#[test]
+fn answers_on_images_and_commands_of_any_sort() {
+    let mut random = Random::new(1);
+    let mut numbers = Numbers::default();
+    for _ in 0..40_000 {
+        let mut image = generate::image(&mut random);
+        let length = random.index(40);
+        let mut reply = random.bytes(length);
+        for _ in 0..3 {
+            let command = generate::command(&mut random, &image);
+            let answer = check::answer(&mut image, &command, &mut reply);
+            numbers.count(answer.number);
+        }
+    }
+    numbers.assert_all_came(&[0, 1, 2, 3, 4, 5, 6, 7, 8, 9]);
+}
+
+/// What a list of commands should show: for each card and language the
+/// payload of the last accepted write.
+#[test]
+fn lists_from_a_fresh_image_show_the_last_accepted_write() {
+    let mut random = Random::new(2);
+    let mut numbers = Numbers::default();
+    for _ in 0..1_000 {
+        let mut image = common::fresh(2, 16);
+        let mut written = vec![Vec::new(); 4];
+        let mut marks = [Mark::default(); 2];
+        for _ in 0..60 {
+            let bytes = generate::command(&mut random, &image);
+            let mut reply = vec![0xaa; random.index(20)];
+            let answer = check::answer(&mut image, &bytes, &mut reply);
+            numbers.count(answer.number);
+            if answer.number != 0 {
+                continue;
+            }
+            let command = Command::parse(&bytes).expect("accepted");
+            let card = usize::from(command.card);
+            assert_eq!(command.expected, marks[card]);
+            marks[card] = command.next;
+            let length = usize::from(answer.fields.length);
+            let place = |language| 2 * card + usize::from(language == Language::Translation);
+            match command.act {
+                Act::Read(language) => assert_eq!(reply[..length], written[place(language)]),
+                Act::Write(language) => written[place(language)] = command.payload.to_vec(),
+                Act::Verify => assert_eq!(length, 0),
+            }
+        }
+    }
+    numbers.assert_all_came(&[0, 1, 2, 3, 4, 5, 6, 8]);
+}
+
+#[test]
+fn soundness_of_any_bytes() {
+    let mut random = Random::new(3);
+    let mut sound = 0;
+    for _ in 0..40_000 {
+        let image = generate::image(&mut random);
+        if is_sound(&image) {
+            sound += 1;
+            assert_eq!(rebuilt(&image), image);
+        }
+        let length = random.index(300);
+        let mut bytes = random.bytes(length);
+        assert!(!is_sound(&bytes));
+        let header = image.len().min(bytes.len()).min(16);
+        bytes[..header].copy_from_slice(&image[..header]);
+        assert_eq!(is_sound(&bytes), Layout::of_sound(&bytes).is_some());
+    }
+    assert!(sound > 10_000);
+}
+
+/// A sound image built once more from its N, C, entry fields and texts.
+fn rebuilt(image: &[u8]) -> Vec<u8> {
+    let layout = layout(image);
+    let mut again = common::fresh(layout.cards() as u64, layout.room() as u64);
+    for card in 0..layout.cards() as u16 {
+        let entry = layout.entry(image, card).expect("a card");
+        let text = |language| layout.text(image, card, language).expect("a text");
+        put_card(&mut again, card, entry, text(ORIGINAL), text(TRANSLATION));
+    }
+    again
+}
+
+#[test]
+fn a_layout_over_bytes_that_are_not_its_image() {
+    let mut random = Random::new(4);
+    for _ in 0..20_000 {
+        let layout = Layout::new(random.between(1, 4), 16 * random.between(1, 3));
+        let layout = layout.expect("N and C keep the rules");
+        let length = random.index(400);
+        let mut bytes = random.bytes(length);
+        let card = random.pick(&[0, 1, 2, 3, 4, u16::MAX]);
+        let language = if random.one_in(2) {
+            ORIGINAL
+        } else {
+            TRANSLATION
+        };
+        let before = bytes.clone();
+        let entry = layout.entry(&bytes, card).unwrap_or_default();
+        let text = layout.text(&bytes, card, language).map(<[u8]>::to_vec);
+        assert_eq!(before, bytes);
+        layout.put_entry(&mut bytes, card, entry);
+        layout.put_text(&mut bytes, card, language, &text.unwrap_or_default());
+        if usize::from(card) >= layout.cards() {
+            assert_eq!(before, bytes);
+        }
+    }
+}
+
+#[test]
+fn making_a_fresh_image_of_anything() {
+    let mut random = Random::new(5);
+    let mut numbers = Numbers::default();
+    for _ in 0..100_000 {
+        let any = random.number();
+        let cards = random.pick(&[0, 1, 1, 2, 3, 64, 65, any]);
+        let room = random.pick(&[0, 15, 16, 16, 32, 48, 1_040, any]);
+        let right = Layout::new(cards, room).map_or(80, Layout::size);
+        let length = random.pick(&[0, 16, right, right, right, right + 1, right - 1]);
+        let mut image = random.bytes(length.min(400));
+        let before = image.clone();
+        let number = make_fresh(&mut image, cards, room);
+        numbers.count(number);
+        match number {
+            0 => assert!(is_sound(&image) && image[16..].iter().all(|&byte| byte == 0)),
+            _ => assert_eq!(image, before),
+        }
+    }
+    numbers.assert_all_came(&[0, 14]);
+}
+
+#[test]
+fn parsing_any_bytes() {
+    let mut random = Random::new(6);
+    let mut image = Vec::new();
+    let mut well_formed = 0;
+    for round in 0..150_000 {
+        if round % 100 == 0 {
+            image = generate::sound_image(&mut random);
+        }
+        let bytes = generate::command(&mut random, &image);
+        let fields = CommandFields::from_bytes(&bytes);
+        assert_eq!(fields.is_some(), bytes.len() >= 52);
+        if let Some(fields) = fields {
+            assert_eq!(fields.to_bytes()[..], bytes[..52]);
+            assert_eq!(fields.followed_by(&bytes[52..]), bytes);
+        }
+        if let Some(command) = Command::parse(&bytes) {
+            well_formed += 1;
+            assert_eq!(command.payload, &bytes[52..]);
+            assert_eq!(Act::from_number(command.act.number()), Some(command.act));
+            assert_eq!(Mode::from_number(command.mode.number()), Some(command.mode));
+            let session = command.session();
+            let own = session.mode.own_stamp(session.pair);
+            assert!(own != 0 && session.desk == desk_and_start(own));
+        }
+    }
+    assert!(well_formed > 30_000);
+}
+
+/// The guard alone, on any entry and with any room and reply length.
+#[test]
+fn an_entry_takes_any_command() {
+    let mut random = Random::new(7);
+    let image = common::fresh(1, 16);
+    for _ in 0..100_000 {
+        let bytes = random.bytes(32);
+        let entry = match random.one_in(2) {
+            true => Entry::from_bytes(&bytes).unwrap_or_default(),
+            false => common::entry(u16::MAX, random.pick(&[0, 1, u16::MAX])),
+        };
+        let command = generate::fitting_command(&mut random, &image);
+        let Some(command) = Command::parse(&command) else {
+            continue;
+        };
+        let room = random.pick(&[0, 16, usize::MAX]);
+        match entry.take(&command, room, random.pick(&[0, 16, usize::MAX])) {
+            Ok(now) => {
+                assert!(now.pair.s >= entry.pair.s.max(command.pair.s));
+                assert!(now.edition >= entry.edition);
+            }
+            Err(number) => assert!((3..=8).contains(&number)),
+        }
+    }
+}
+
+#[test]
+fn turns_on_a_queue_of_any_sort() {
+    let mut random = Random::new(8);
+    let mut numbers = Numbers::default();
+    for _ in 0..60_000 {
+        let (mut places, count, largest) = generate::queue(&mut random);
+        let mut queue = Queue {
+            places: &mut places,
+            count,
+            largest,
+        };
+        for _ in 0..2 {
+            let taken = random_turn(&mut random);
+            numbers.count(turn(&mut queue, taken).number);
+        }
+    }
+    numbers.assert_all_came(&[0, 1, 10, 11, 12, 13, 15]);
+}
+
+fn random_turn(random: &mut Random) -> Turn {
+    match random.below(3) {
+        0 => Turn::Leave(desk_and_start(generate::any_stamp(random))),
+        _ => Turn::Ask(generate::place(random)),
+    }
+}
+
+/// Chains from an empty queue: who holds the lock, found from the list.
+#[test]
+fn chains_of_asks_and_leaves() {
+    let mut random = Random::new(9);
+    let mut numbers = Numbers::default();
+    for _ in 0..3_000 {
+        let mut places = vec![Place::default(); random.pick(&[1, 2, 3, 5, 32])];
+        let mut queue = Queue {
+            places: &mut places,
+            count: 0,
+            largest: Pair::default(),
+        };
+        for step in 0..30 {
+            let taken = chain_turn(&mut random, step);
+            let count = queue.count;
+            let answer = turn(&mut queue, taken);
+            numbers.count(answer.number);
+            if answer.number != 1 {
+                assert_eq!(answer.holds, holds(&queue, taken));
+            }
+            if matches!(answer.number, 11 | 13 | 15) {
+                assert_eq!(answer.looked_at, count);
+            }
+        }
+        assert!(exclusive_holds_alone(&mut queue));
+    }
+    numbers.assert_all_came(&[0, 1, 11, 12, 13, 15]);
+}
+
+/// A turn of a chain whose times grow slowly.
+fn chain_turn(random: &mut Random, step: u32) -> Turn {
+    let time = random.between(u64::from(step / 4), u64::from(step / 2)) as u32;
+    let own = common::at(time, random.between(1, 6) as u16);
+    match random.below(8) {
+        0 => random_turn(random),
+        1 | 2 => Turn::Leave(desk_and_start(own)),
+        3..=5 => Turn::Ask(Place::new(1, own, common::at(time, 9))),
+        _ => Turn::Ask(Place::new(2, common::at(time + 1, 9), own)),
+    }
+}
+
+/// Whether the desk of this turn holds the lock, by the sheet's words.
+fn holds(queue: &Queue, taken: Turn) -> bool {
+    let desk = match taken {
+        Turn::Ask(asked) => asked.desk(),
+        Turn::Leave(desk) => Some(desk),
+    };
+    let standing = &queue.places[..queue.count];
+    let Some(at) = standing.iter().position(|place| place.desk() == desk) else {
+        return false;
+    };
+    match standing[at].mode {
+        1 => standing[..at].iter().all(|place| place.mode == 1),
+        _ => at == 0,
+    }
+}
+
+/// If an exclusive entry holds the lock, no other entry does.
+fn exclusive_holds_alone(queue: &mut Queue) -> bool {
+    let standing = queue.places[..queue.count].to_vec();
+    let holding: Vec<u8> = standing
+        .iter()
+        .filter(|&&place| queue.ask(place).holds)
+        .map(|place| place.mode)
+        .collect();
+    !holding.contains(&2) || holding.len() == 1
+}
+
+#[test]
+fn texts_shown_of_anything_held() {
+    let mut random = Random::new(10);
+    let mut numbers = Numbers::default();
+    for _ in 0..100_000 {
+        let (first, second) = (random.index(8), random.index(8));
+        let (original, translation) = (random.bytes(first), random.bytes(second));
+        let any = random.number();
+        let held = Held {
+            original: &original,
+            translation: &translation,
+            original_length: random.pick(&[0, 1, first as u64, 7, any]),
+            translation_length: random.pick(&[0, 1, second as u64, 7, any]),
+            edition: random.pick(&[0, 1, 2, any]),
+            translated_from: random.pick(&[0, 1, 2, any]),
+        };
+        for (language, buffer, length) in [
+            (ORIGINAL, &original, held.original_length),
+            (TRANSLATION, &translation, held.translation_length),
+        ] {
+            let (number, text) = shown(&held, language);
+            numbers.count(number);
+            assert_eq!(text.as_ptr(), buffer.as_ptr());
+            assert_eq!(text.len() as u64, if number == 0 { length } else { 0 });
+            assert!(number != 6 || language == TRANSLATION);
+        }
+    }
+    numbers.assert_all_came(&[0, 6, 8]);
+}
+
+/// A stream of commands, often cut or damaged.
+fn random_stream(random: &mut Random, image: &[u8]) -> Vec<u8> {
+    let mut stream = Vec::new();
+    for _ in 0..random.below(6) {
+        stream.extend(generate::command(random, image));
+    }
+    if random.one_in(3) {
+        generate::damage(random, &mut stream);
+    }
+    stream
+}
+
+#[test]
+fn walks_of_any_stream() {
+    let mut random = Random::new(11);
+    let image = common::fresh(2, 16);
+    let (mut ends, mut cuts) = (0, 0);
+    for _ in 0..30_000 {
+        let stream = random_stream(&mut random, &image);
+        let any = random.number() as usize;
+        let start = random.pick(&[0, 0, 0, 52, stream.len(), stream.len() + 1, any]);
+        let walk = walk(&stream, start);
+        assert!(walk.place >= start);
+        assert!(walk.place <= stream.len() || walk.place == start && walk.cut);
+        match standing_at(&stream, walk.place) {
+            Standing::End => ends += u32::from(!walk.cut),
+            Standing::Cut => cuts += u32::from(walk.cut),
+            Standing::Command { .. } => panic!("the walk ended at a whole command"),
+        }
+        if let Standing::Command { bytes, next } = standing_at(&stream, start) {
+            assert_eq!(bytes, &stream[start..next]);
+            let length = endian::u16_at(bytes, 50).map(usize::from);
+            assert_eq!(Some(bytes.len() - 52), length);
+        }
+    }
+    assert_eq!(ends + cuts, 30_000);
+    assert!(ends > 1_000 && cuts > 1_000);
+}
+
+#[test]
+fn runs_of_any_stream_on_any_image() {
+    let mut random = Random::new(12);
+    for _ in 0..10_000 {
+        let mut image = generate::image(&mut random);
+        let sound = is_sound(&image);
+        let commands = random_stream(&mut random, &image);
+        let mut reply = vec![0; random.index(40)];
+        let (answers, walked) = stream::run(&mut image, &commands, &mut reply);
+        assert_eq!(answers.len(), walked.commands);
+        assert_eq!(walked, walk(&commands, 0));
+        assert_eq!(is_sound(&image), sound);
+        assert!(answers.iter().all(|answer| (answer.number == 9) != sound));
+    }
+}
+
+#[test]
+fn the_program_on_any_input() {
+    let mut random = Random::new(13);
+    let (mut bad, mut run) = (0, 0);
+    for _ in 0..20_000 {
+        let mut input = generate::image(&mut random);
+        let stream = random_stream(&mut random, &input);
+        input.extend(stream);
+        if random.one_in(8) {
+            generate::damage(&mut random, &mut input);
+        }
+        match output(&input).as_str() {
+            "bad store\n" => bad += 1,
+            text => run += u32::from(is_whole_output(text)),
+        }
+    }
+    assert_eq!(bad + run, 20_000);
+    assert!(bad > 1_000 && run > 1_000);
+}
+
+/// The lines of a run: `cards`, numbered lines of nine numbers, the last line.
+fn is_whole_output(text: &str) -> bool {
+    let lines: Vec<&str> = text.lines().collect();
+    let [first, middle @ .., last] = &lines[..] else {
+        return false;
+    };
+    let numbered = (1..).zip(middle).all(|(count, line): (u64, _)| {
+        let numbers: Vec<Option<u64>> = line.split(' ').map(|word| word.parse().ok()).collect();
+        numbers.len() == 9 && numbers[0] == Some(count) && !numbers.contains(&None)
+    });
+    let last = *last == "end" || last.starts_with("cut ");
+    text.ends_with('\n') && first.starts_with("cards ") && numbered && last
+}
+
+#[test]
+fn numbers_at_any_offset() {
+    let mut random = Random::new(14);
+    for _ in 0..50_000 {
+        let length = random.index(12);
+        let mut bytes = random.bytes(length);
+        let any = random.number() as usize;
+        let at = random.pick(&[0, 1, length, usize::MAX, any]);
+        let fits = |width: usize| at <= length && length - at >= width;
+        assert_eq!(endian::u16_at(&bytes, at).is_some(), fits(2));
+        assert_eq!(endian::u32_at(&bytes, at).is_some(), fits(4));
+        assert_eq!(endian::u64_at(&bytes, at).is_some(), fits(8));
+        let before = bytes.clone();
+        let value = random.number() as u32;
+        endian::put(&mut bytes, at, &value.to_le_bytes());
+        match fits(4) {
+            true => assert_eq!(endian::u32_at(&bytes, at), Some(value)),
+            false => assert_eq!(bytes, before),
+        }
+    }
+}
+
+#[test]
+fn the_generator_is_deterministic_and_keeps_its_bounds() {
+    let numbers = |seed| {
+        let mut random = Random::new(seed);
+        (0..4).map(|_| random.number()).collect::<Vec<u64>>()
+    };
+    assert_eq!(numbers(1), numbers(1));
+    assert_ne!(numbers(1), numbers(2));
+    for seed in (0..1_000).chain([u64::MAX, 1 << 63]) {
+        let mut random = Random::new(seed);
+        assert!(random.below(7) < 7);
+        assert_eq!((random.below(0), random.index(0)), (0, 0));
+        assert!((3..=5).contains(&random.between(3, 5)));
+        assert_eq!(random.between(5, 3), 5);
+        assert_eq!(random.between(u64::MAX, u64::MAX), u64::MAX);
+        random.between(0, u64::MAX);
+        assert_eq!(random.bytes(9).len(), 9);
+        assert_eq!(random.pick::<u8>(&[]), 0);
+        assert!(random.one_in(1));
+    }
+}
