@@ -1,15 +1,13 @@
 -- What a desk shows: the steps of `shown`. Assumes nothing.
-use Prim.Native.Nat.{ℕ, zero, suc, _≤_}
+use Prim.Native.Nat.{ℕ, _≤_}
 use native.Mathlib.Omega.{arith}
-use mathlib.Core.Path.{_≡_, refl, sym, ap, _∙_}
-use mathlib.Core.List.{List}
+use mathlib.Core.Path.{_≡_, refl}
 use mathlib.Core.Bool.{Bool, true, false, _||_}
 use borrow.Author.Tests.{ltb-false}
-use lib.Dec.{ltb}
 use lib.ListN.{length, take}
 use Rattle.endian.proofs.Tests.{or-fails}
 use Rattle.guard.specs.Table.{first, settled}
-use Rattle.desk.specs.Show.{Text, text, of, beyond, behindAsked, showRows, shownNumber, shownPart}
+use Rattle.desk.specs.Show.{Text, of, beyond, showRows, shownNumber, shownPart}
 use Rattle.desk.specs.declared.Language.{Language}
 use Rattle.desk.specs.declared.Language.the-variants.{Original, Translation}
 
@@ -29,11 +27,3 @@ fits l o t late e = go l (or-fails (beyond o) (beyond t) (none-long (beyond o ||
 pub settles : (o t : Text) (edition from n : ℕ) (asked l : Language) → asked ≡ l → n ≡ shownNumber o t edition from asked →
     take (settled n (of l o t .length) 0) (of l o t .buffer) ≡ shownPart o t edition from asked
 settles o t edition from n asked l e k = rw (k, e)
-
--- After a refusal, what goes by the number is the old value.
-pub settled-old : {A : Type 0} {n : ℕ} (new old : A) → (n ≡ 0 → ⊥) → settled n new old ≡ old
-settled-old {n = n} new old h = go n refl
-  where
-    go : (k : ℕ) → n ≡ k → settled n new old ≡ old
-    go zero e = absurd (h e)
-    go (suc k) e = rw e

@@ -46,7 +46,8 @@ fn part_of<'a>(buffer: &'a [u8], count: usize, number: u8) -> &'a [u8]
     &buffer[..0]
 }
 
-// The text that a desk shows in the language asked for, and the number: all at the desk's own word.
+// The text that a desk shows, and the number by which nothing is shown: all at the desk's own word. The part, an empty one too, begins
+// where the buffer of the language asked for begins.
 pub fn shown<'a>(
     original: &'a [u8],
     translation: &'a [u8],
@@ -57,10 +58,9 @@ pub fn shown<'a>(
     asked: Language,
     number: &mut u8,
 ) -> &'a [u8]
-    ensures { λ r. ⌜
-        (now (number .exit) ≡ shownNumber (text (now (original .entry)) «original_length») (text (now (translation .entry)) «translation_length») edition from asked)
-        × (now r ≡ shownPart (text (now (original .entry)) «original_length») (text (now (translation .entry)) «translation_length») edition from asked)
-        × (ptr r ≡ of asked (ptr (original .entry)) (ptr (translation .entry))) ⌝ }
+    ensures number { λ _. ⌜ now (number .exit) ≡ shownNumber (text (now (original .entry)) «original_length») (text (now (translation .entry)) «translation_length») edition from asked ⌝ }
+    ensures part { λ r. ⌜ now r ≡ shownPart (text (now (original .entry)) «original_length») (text (now (translation .entry)) «translation_length») edition from asked ⌝ }
+    ensures place { λ r. ⌜ ptr r ≡ of asked (ptr (original .entry)) (ptr (translation .entry)) ⌝ }
 {
     let beyond = (original.len() < original_length) | (translation.len() < translation_length);
     let given = number_of(beyond, behind_asked(edition, from, asked));

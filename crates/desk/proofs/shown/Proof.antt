@@ -1,75 +1,82 @@
--- Assumes nothing.
+-- Each arm hands back the part of its own buffer, by the number that both share. Assumes nothing.
+use Prim.Native.Nat.{ℕ, _≤_}
 use mathlib.Core.Path.{_≡_, sym, ap, _∙_}
 use mathlib.Core.Bool.{Bool, _||_}
-use denote.Ref.{now, ptr}
-use Rattle.guard.specs.Table.{first}
-use Rattle.desk.specs.Show.{Text, text, of, beyond, showRows, shownNumber}
+use borrow.Author.Needs.{needs}
+use denote.Ref.{now}
+use lib.ListN.{length, take}
+use Rattle.guard.specs.Table.{first, settled}
+use Rattle.desk.specs.Show.{Text, text, of, beyond, showRows, shownNumber, shownPart}
 use Rattle.desk.specs.declared.Language.{Language}
 use Rattle.desk.specs.declared.Language.the-variants.{Original, Translation}
 use Rattle.desk.proofs.Show.{fits, settles}
-use borrow.Author.Needs.{needs}
 use Rattle.desk.proofs.shown.Statement.{statement}
 use Rattle.desk.proofs.shown.Tie as tie
-use Rattle.desk.proofs.shown.Reads as reads
-use Rattle.desk.proofs.shown.Lts as lts
-use Rattle.desk.proofs.behind_asked.Reads as behind-asked-reads
-use Rattle.desk.proofs.number_of.Reads as number-of-reads
-use Rattle.desk.proofs.part_of.Reads as part-of-reads
 
--- src/lib.rt:66:35
+-- What the desk holds, and the number that is given.
+module _ (c : tie.After-number-of) where
+  abbrev original : Text
+  original = text (now (c .before .before .before .before .args .original)) (c .before .before .before .before .args .original-length)
+
+  abbrev translation : Text
+  translation = text (now (c .before .before .before .before .args .translation)) (c .before .before .before .before .args .translation-length)
+
+  abbrev edition : ℕ
+  edition = c .before .before .before .before .args .edition
+
+  abbrev from : ℕ
+  from = c .before .before .before .before .args .from
+
+  abbrev asked : Language
+  asked = c .before .before .before .before .args .asked
+
+  number : c .number-of .result ≡ shownNumber original translation edition from asked
+  number = c .number-of .ensures ∙ ap (λ (b : Bool). first (showRows (beyond original || beyond translation) b)) (c .before .behind-asked .ensures)
+
+  within : (l : Language) → c .number-of .result ≡ 0 → of l original translation .length ≤ length (of l original translation .buffer)
+  within l e = fits l original translation (c .before .behind-asked .result) (sym (c .number-of .ensures) ∙ e)
+
+  part : (l : Language) → asked ≡ l →
+      take (settled (c .number-of .result) (of l original translation .length) 0) (of l original translation .buffer)
+      ≡ shownPart original translation edition from asked
+  part l told = settles original translation edition from (c .number-of .result) asked l told number
+
 behind-asked-requires : tie.Need-behind-asked-requires
 behind-asked-requires c κs = search needs
 
--- src/lib.rt:66:9
 number-of-requires : tie.Need-number-of-requires
 number-of-requires c κs = search needs
 
--- src/lib.rt:69:31
 enum-told : tie.Need-enum-told
 enum-told c = search needs
 
--- src/lib.rt:69:31
 part-of-requires : tie.Need-part-of-requires
-part-of-requires c κs = λ e. let a = c .before .before .before .before .before .before .args in
-    fits Original (text (now (a .original)) (a .original-length)) (text (now (a .translation)) (a .translation-length)) (c .before .before .before .behind-asked .result) (sym (c .before .before .number-of .ensures) ∙ e)
+part-of-requires c κs = within (c .before .before) Original
 
--- src/lib.rt:70:34
 enum-told-2 : tie.Need-enum-told-2
 enum-told-2 c = search needs
 
--- src/lib.rt:70:34
 part-of-requires-2 : tie.Need-part-of-requires-2
-part-of-requires-2 c κs = λ e. let a = c .before .before .before .before .before .before .args in
-    fits Translation (text (now (a .original)) (a .original-length)) (text (now (a .translation)) (a .translation-length)) (c .before .before .before .behind-asked .result) (sym (c .before .before .number-of .ensures) ∙ e)
+part-of-requires-2 c κs = within (c .before .before) Translation
 
--- src/lib.rt:50:1
 returns : tie.Need-returns
 returns c =
-    let a = c .before .before .before .before .before .before .before .args in
-    let o : Text = text (now (a .original)) (a .original-length) in
-    let t : Text = text (now (a .translation)) (a .translation-length) in
-    let told : a .asked ≡ Original = c .before .enum-told .given .1 in
-    let number : c .before .before .before .number-of .result ≡ shownNumber o t (a .edition) (a .from) (a .asked) =
-    c .before .before .before .number-of .ensures ∙ ap (λ (b : Bool). first (showRows (beyond o || beyond t) b)) (c .before .before .before .before .behind-asked .ensures) in
-    (
-      number,
-      c .part-of .ensures .0 ∙ settles o t (a .edition) (a .from) (c .before .before .before .number-of .result) (a .asked) Original told number,
-      c .part-of .ensures .1 ∙ sym (ap (λ (l : Language). of l (ptr (a .original)) (ptr (a .translation))) told),
+    let told = c .before .enum-told .given .1 in (
+      number (c .before .before .before),
+      (
+        c .part-of .ensures .0 ∙ part (c .before .before .before) Original told,
+        rw told (c .part-of .ensures .1),
+      ),
     )
 
--- src/lib.rt:50:1
 returns-2 : tie.Need-returns-2
 returns-2 c =
-    let a = c .before .before .before .before .before .before .before .args in
-    let o : Text = text (now (a .original)) (a .original-length) in
-    let t : Text = text (now (a .translation)) (a .translation-length) in
-    let told : a .asked ≡ Translation = c .before .enum-told2 .given .1 in
-    let number : c .before .before .before .number-of .result ≡ shownNumber o t (a .edition) (a .from) (a .asked) =
-    c .before .before .before .number-of .ensures ∙ ap (λ (b : Bool). first (showRows (beyond o || beyond t) b)) (c .before .before .before .before .behind-asked .ensures) in
-    (
-      number,
-      c .part-of2 .ensures .0 ∙ settles o t (a .edition) (a .from) (c .before .before .before .number-of .result) (a .asked) Translation told number,
-      c .part-of2 .ensures .1 ∙ sym (ap (λ (l : Language). of l (ptr (a .original)) (ptr (a .translation))) told),
+    let told = c .before .enum-told2 .given .1 in (
+      number (c .before .before .before),
+      (
+        c .part-of2 .ensures .0 ∙ part (c .before .before .before) Translation told,
+        rw told (c .part-of2 .ensures .1),
+      ),
     )
 
 pub shown-spec : {M : Type 1} → statement M
