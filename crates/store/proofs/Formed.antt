@@ -3,7 +3,7 @@ use Prim.Native.Nat.{ℕ, _+_}
 use mathlib.Core.Path.{_≡_, refl, sym, ap, _∙_}
 use mathlib.Core.Logic.{_⊎_, inl, inr}
 use mathlib.Core.List.{List, [], _∷_}
-use mathlib.Core.Bool.{Bool, true, false, cond, not, _&&_, _||_, Bool·beq}
+use mathlib.Core.Bool.{Bool, true, false, cond, not, _&&_, _||_, Bool·beq, or-false}
 use borrow.Author.Tests.{eqb-true, eqb-false, not-true}
 use lib.Dec.{leb, eqb}
 use lib.ListN.{length, length-drop}
@@ -17,6 +17,7 @@ use Rattle.guard.specs.declared.Command.{Command}
 -- The rules of a command's numbers, by name.
 pub record Rules (c : Command) : Type 0 where
   pub edition : eqb (c .act) 4 ≡ not (eqb (c .edition) 0)
+  pub empty : isWrite c ≡ false → c .length ≡ 0
   pub mode : (c .mode ≡ shared) ⊎ (c .mode ≡ exclusive)
   pub stamped : own (c .mode) (update c) ≡ 0 → ⊥
 
@@ -25,6 +26,7 @@ unfolding wellFormed
 rules c e =
     record {
       edition = beq-true (eqb (c .act) 4) (not (eqb (c .edition) 0)) (at 2);
+      empty = λ w. eqb-true (c .length) 0 (sym (or-false (eqb (c .length) 0)) ∙ sym (ap (λ (b : Bool). eqb (c .length) 0 || b) w) ∙ at 3);
       mode = by-mode (or-cases (eqb (c .mode) shared) (eqb (c .mode) exclusive) (at 6));
       stamped = eqb-false (own (c .mode) (update c)) 0 (not-true (eqb (own (c .mode) (update c)) 0) (at 9));
     }
