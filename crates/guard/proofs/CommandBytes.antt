@@ -1,17 +1,19 @@
 -- A command in bytes. Assumes nothing.
-use Prim.Native.Nat.{ℕ, _+_, _<_}
+use Prim.Native.Nat.{ℕ, _+_, _≤_, _<_}
 use native.Mathlib.Omega.{arith}
-use mathlib.Core.Path.{_≡_, refl, sym, ap, _∙_}
+use mathlib.Core.Path.{_≡_, refl, sym, ap, subst, _∙_}
 use mathlib.Core.List.{List, [], _∷_, _++_}
 use mathlib.Core.Bool.{Bool, true, false, cond, _&&_}
 use borrow.Author.Tests.{eqb-true, eq-eqb, ne-eqb}
-use lib.Dec.{eqb, lit<}
-use lib.ListN.{length, replicate, length-drop}
+use lib.Dec.{eqb, lit<, lit≤}
+use lib.ListN.{length, drop, replicate, length-drop, take-append-drop}
+use lib.Seq.{drop-drop}
 use Rattle.endian.specs.Parts.{part, zeros, Bytes}
 use Rattle.endian.specs.Le.{le, toLe}
 use Rattle.endian.proofs.Tests.{and-in, and-left, and-right}
-use Rattle.endian.proofs.Bytes.{Bytes-cons, Bytes-nil, Bytes-append, Bytes-replicate, Bytes-drop}
-use Rattle.endian.proofs.Le.{le-toLe, le-part-bound, Bytes-toLe}
+use Rattle.endian.proofs.Bytes.{Bytes-cons, Bytes-nil, Bytes-append, Bytes-replicate, Bytes-drop, Bytes-part, zeros-means}
+use Rattle.endian.proofs.Le.{le-toLe, toLe-le, le-part-bound, Bytes-toLe}
+use Rattle.endian.proofs.Parts.{length-part, drop-left}
 use Rattle.guard.specs.Command.{fixed, field, markAt, markBytes, fieldsOf, payload, formed, parsed, wellFormed, commandBytes}
 use Rattle.guard.specs.Entry.{FitsPair, FitsMark, FitsCommand}
 use Rattle.guard.specs.declared.Command.{Command}
@@ -157,3 +159,45 @@ module _ (c : Command) (text : List ℕ) where
   -- Parsing the bytes of a command gives it back.
   pub parsed-command : FitsCommand c → wellFormed c ≡ true → length text ≡ c .length → parsed (commandBytes c text) ≡ Formed c
   parsed-command f w l = parsed-formed (commandBytes c text) (formed-command f w l) ∙ ap Formed (fields-command f)
+
+parts-here : (at count : ℕ) (bytes : List ℕ) → part at count bytes ++ drop (at + count) bytes ≡ drop at bytes
+unfolding part
+parts-here at count bytes = rw (← drop-drop) (take-append-drop count (drop at bytes))
+
+-- The bytes from a place on, of which the next `count` are put as the bytes of their number.
+number-here : (at count : ℕ) (bytes : List ℕ) → Bytes bytes → at + count ≤ length bytes → toLe count (field at count bytes) ++ drop (at + count) bytes ≡ drop at bytes
+number-here at count bytes h fits =
+    let whole : toLe count (field at count bytes) ≡ part at count bytes =
+    ap (λ (m : ℕ). toLe m (field at count bytes)) (sym (length-part at count bytes fits)) ∙ toLe-le (part at count bytes) (Bytes-part at count bytes h) in
+    rw whole (parts-here at count bytes)
+
+-- Bytes that are a command are the bytes of its numbers and its payload.
+pub command-fields : (bytes : List ℕ) → Bytes bytes → formed bytes ≡ true → commandBytes (fieldsOf bytes) (payload bytes) ≡ bytes
+unfolding commandBytes fieldsOf payload toLe
+command-fields bytes h e =
+    rw (
+      number 50 2 (lit≤ tt),
+      number 48 2 (lit≤ tt),
+      number 44 4 (lit≤ tt),
+      number 42 2 (lit≤ tt),
+      number 38 4 (lit≤ tt),
+      number 36 2 (lit≤ tt),
+      blanks,
+      number 12 8 (lit≤ tt),
+      number 4 8 (lit≤ tt),
+      number 2 2 (lit≤ tt),
+      ← drop-left bytes 0 {i = 1} (omega (arith, whole)),
+      ← drop-left bytes 0 {i = 0} (omega (arith, whole)),
+    )
+  where
+    whole : fixed ≤ length bytes
+    whole = omega (arith, formedness bytes e .whole)
+
+    number : (at count : ℕ) → at + count ≤ fixed → toLe count (field at count bytes) ++ drop (at + count) bytes ≡ drop at bytes
+    number at count fits = number-here at count bytes h (omega (arith, whole))
+
+    blanks : replicate 16 0 ++ drop 36 bytes ≡ drop 20 bytes
+    blanks =
+        let zero : part 20 16 bytes ≡ replicate 16 0 =
+        zeros-means (part 20 16 bytes) (formedness bytes e .blanks) ∙ ap (λ (n : ℕ). replicate n 0) (length-part 20 16 bytes (omega (arith, whole))) in
+        subst (λ (l : List ℕ). l ++ drop 36 bytes ≡ drop 20 bytes) zero (parts-here 20 16 bytes)

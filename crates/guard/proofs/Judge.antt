@@ -116,12 +116,11 @@ module _ (e : Entry) (c : Command) (room lent : ℕ) where
   pub entry-shown : blank (first (entryRows e c room lent)) ≡ false
   entry-shown = not-true (blank (first (entryRows e c room lent))) (from-T (not (blank (first (entryRows e c room lent)))) (first-all (λ n. not (blank n)) (entryRows e c room lent) tt tt))
 
-  -- An accepted command's stamps stand at or below those stored after it.
-  pub raise-more : (e .pair .s ≤ raise e c .pair .s) × (e .pair .x ≤ raise e c .pair .x)
-  unfolding raise
-  raise-more = larger-old (e .pair) (update c)
+-- The stored stamps grow.
+pub raise-more : (e : Entry) (c : Command) → (e .pair .s ≤ raise e c .pair .s) × (e .pair .x ≤ raise e c .pair .x)
+unfolding raise
+raise-more e c = larger-old (e .pair) (update c)
 
 -- What was stale stays stale when the entry is raised.
 pub stale-raised : (e : Entry) (c d : Command) → T (stale (d .mode) (e .pair) (verifier d)) → T (stale (d .mode) (raise e c .pair) (verifier d))
-unfolding raise
-stale-raised e c d t = stale-more (d .mode) (verifier d) (larger-old (e .pair) (update c) .0) (larger-old (e .pair) (update c) .1) t
+stale-raised e c d t = stale-more (d .mode) (verifier d) (raise-more e c .0) (raise-more e c .1) t

@@ -4,3 +4,4 @@ pub mod Rules
 pub mod Judge
 pub mod Raise
 pub mod CommandBytes
+pub mod Claims

@@ -3,3 +3,4 @@ pub mod Command
 pub mod Table
 pub mod Judge
 pub mod Entry
+pub mod Claims

@@ -1,11 +1,8 @@
 ghost use mathlib.Core.Path.{_≡_};
-ghost use mathlib.Core.Bool.{true, false, cond, not, _&&_, _||_};
-ghost use Prim.Native.Nat.{_+_};
-ghost use lib.Dec.{ltb, eqb};
-ghost use Rattle.guard.specs.Stamp.{stale};
-ghost use Rattle.guard.specs.Command.{Language, reads, writes, verifier, update};
-ghost use Rattle.guard.specs.Entry.{entrySound};
-ghost use Rattle.guard.specs.Judge.{markFits, behind, lastEdition, overruns, entryRows, rows, raise, judged, blank, readLength, replied, refused};
+ghost use mathlib.Core.Bool.{false, cond, not, _&&_, _||_};
+ghost use lib.Dec.{eqb};
+ghost use Rattle.guard.specs.Command.{Language, reads, writes};
+ghost use Rattle.guard.specs.Judge.{markFits, behind, lastEdition, overruns, rows, raise, judged, blank, readLength, replied, refused};
 ghost use Rattle.guard.specs.Table.{first, settled};
 use crate::Answer;
 use crate::Command;
@@ -14,9 +11,7 @@ use crate::Judged;
 use crate::Mark;
 use crate::Pair;
 use crate::stamps::larger_of_each;
-use crate::stamps::mark_whole;
 use crate::stamps::stale;
-use crate::stamps::stamp_valid;
 
 // The numbers of the table.
 pub const ACCEPTED: u8 = 0;
@@ -165,20 +160,6 @@ impl Entry {
             return self.translation;
         }
         0
-    }
-
-    // Whether the entry keeps the rules of a sound image with this room.
-    pub fn sound(self, room: u16) -> bool
-        ensures { λ r. ⌜ r ≡ entrySound room self ⌝ }
-    {
-        stamp_valid(self.pair.s)
-            & stamp_valid(self.pair.x)
-            & mark_whole(self.mark)
-            & (self.original <= room)
-            & (self.translation <= room)
-            & (self.from <= self.edition)
-            & (!(self.edition == 0) | (self.original == 0))
-            & (!(self.from == 0) | (self.translation == 0))
     }
 }
 

@@ -1,0 +1,72 @@
+-- What is claimed of an entry that judges a command, and of commands in bytes. Proved in proofs/Claims.antt.
+-- Assumes nothing.
+use Prim.Native.Nat.{ℕ, suc, _≤_}
+use mathlib.Core.Path.{_≡_}
+use mathlib.Core.Logic.{_↔_, _⊎_}
+use mathlib.Core.List.{List}
+use mathlib.Core.Bool.{false}
+use lib.Dec.{T}
+use lib.ListN.{length}
+use Rattle.endian.specs.Parts.{Bytes}
+use Rattle.guard.specs.Stamp.{shared, exclusive, stale}
+use Rattle.guard.specs.Command.{verifier, wellFormed, fieldsOf, payload, formed, parsed, commandBytes}
+use Rattle.guard.specs.Table.{applies, none, earlier}
+use Rattle.guard.specs.Judge.{rows, raise, judged}
+use Rattle.guard.specs.Entry.{entrySound, FitsEntry, FitsCommand}
+use Rattle.guard.specs.declared.Command.{Command}
+use Rattle.guard.specs.declared.Entry.{Entry}
+use Rattle.guard.specs.declared.Pair.{Pair}
+use Rattle.guard.specs.declared.Parsed.the-variants.{Formed}
+
+-- "A number is given exactly when its row applies and no earlier row does."
+abbrev pub EachNumber : Type 0
+EachNumber =
+    (e : Entry) (c : Command) (room lent n : ℕ) →
+    (judged e c room lent .number ≡ suc n)
+    ↔ (T (applies (suc n) (rows e c room lent)) × T (none (earlier (suc n) (rows e c room lent))))
+
+-- Accepted, 0, exactly when no row applies.
+abbrev pub Acceptance : Type 0
+Acceptance = (e : Entry) (c : Command) (room lent : ℕ) → (judged e c room lent .number ≡ 0) ↔ T (none (rows e c room lent))
+
+-- A refusal leaves the entry as it was; an accepted command leaves it raised.
+abbrev pub RefusalLeaves : Type 0
+RefusalLeaves = (e : Entry) (c : Command) (room lent n : ℕ) → judged e c room lent .number ≡ suc n → judged e c room lent .entry ≡ e
+
+abbrev pub AcceptanceRaises : Type 0
+AcceptanceRaises = (e : Entry) (c : Command) (room lent : ℕ) → judged e c room lent .number ≡ 0 → judged e c room lent .entry ≡ raise e c
+
+-- An accepted command is well formed, shared or exclusive, and not stale.
+abbrev pub AcceptedFresh : Type 0
+AcceptedFresh =
+    (e : Entry) (c : Command) (room lent : ℕ) → judged e c room lent .number ≡ 0 →
+    T (wellFormed c) × ((c .mode ≡ shared) ⊎ (c .mode ≡ exclusive)) × (stale (c .mode) (e .pair) (verifier c) ≡ false)
+
+-- An entry by the rules of a sound image stays so, whatever it judges.
+abbrev pub JudgedSound : Type 0
+JudgedSound =
+    (e : Entry) (c : Command) (room lent : ℕ) → T (entrySound room e) → T (entrySound room (judged e c room lent .entry))
+
+abbrev pub JudgedFits : Type 0
+JudgedFits =
+    (e : Entry) (c : Command) (room lent : ℕ) → FitsEntry e → FitsCommand c → FitsEntry (judged e c room lent .entry)
+
+-- What is stale stays stale, as the stored stamps grow.
+abbrev pub StaleStays : Type 0
+StaleStays =
+    (mode : ℕ) (stored more new : Pair) → stored .s ≤ more .s → stored .x ≤ more .x → T (stale mode stored new) → T (stale mode more new)
+
+abbrev pub StoredGrows : Type 0
+StoredGrows =
+    (e : Entry) (c : Command) (room lent : ℕ) →
+    (e .pair .s ≤ judged e c room lent .entry .pair .s) × (e .pair .x ≤ judged e c room lent .entry .pair .x)
+
+-- A well-formed command comes back from its bytes, and so does its payload.
+abbrev pub CommandComesBack : Type 0
+CommandComesBack =
+    (c : Command) (text : List ℕ) → FitsCommand c → T (wellFormed c) → length text ≡ c .length →
+    (parsed (commandBytes c text) ≡ Formed c) × (payload (commandBytes c text) ≡ text)
+
+-- Bytes that are a command are the bytes of that command and its payload.
+abbrev pub BytesComeBack : Type 0
+BytesComeBack = (bytes : List ℕ) → Bytes bytes → T (formed bytes) → commandBytes (fieldsOf bytes) (payload bytes) ≡ bytes
