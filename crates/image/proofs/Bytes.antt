@@ -17,7 +17,7 @@ use lib.Seq.{take-append-add, take-at}
 use Rattle.endian.specs.Parts.{part, splice, every}
 use Rattle.endian.proofs.Every.{every-fail}
 use Rattle.endian.specs.Le.{toLe}
-use Rattle.endian.proofs.Parts.{splice-adjacent, splice-whole}
+use Rattle.endian.proofs.Parts.{part-all, splice-adjacent, splice-whole}
 use Rattle.image.specs.Image.{sizeOf, shapeOk, pad, header, headerNumbers, headerSound, headerSize, fresh, makes, countOf, roomOf, entryPlace, entryAt, tailZero, cardSound, sound}
 use Rattle.image.proofs.Shape.{all-fails-at}
 
@@ -26,6 +26,10 @@ module _ {A : Type 0} where
   pub cut : (at n end : ℕ) (l : List A) → end ≡ at + n → take (end - at) (drop at l) ≡ part at n l
   unfolding part
   cut at n end l e = let long : end - at ≡ n = omega arith in rw long
+
+  -- A list is its own whole part.
+  pub part-whole : (n : ℕ) (l : List A) → length l ≡ n → part 0 n l ≡ l
+  part-whole n l e = ap (λ (m : ℕ). part 0 m l) (sym e) ∙ part-all l
 
   pub take-replicate : (n m : ℕ) (a : A) → n ≤ m → take n (replicate m a) ≡ replicate n a
   take-replicate n m a h =

@@ -12,9 +12,7 @@ use Rattle.endian.specs.Le.{le, toLe}
 use Rattle.endian.proofs.Le.{le-toLe}
 use Rattle.endian.proofs.Parts.{
   length-part,
-  part-all,
   part-part,
-  take-part,
   part-append-left,
   part-append-right,
   part-middle,
@@ -48,6 +46,7 @@ use Rattle.image.specs.Image.{
   countOf,
   roomOf,
 }
+use Rattle.image.proofs.Bytes.{part-whole}
 
 -- ---- lists of equal pieces
 
@@ -120,7 +119,7 @@ length-encode cs =
 
 -- ---- what stands where
 
-part-header : (cs : Cards) (i n : ℕ) → i + n ≤ headerSize → part i n (encode cs) ≡ part i n (header (length (cs .cards)) (cs .room))
+pub part-header : (cs : Cards) (i n : ℕ) → i + n ≤ headerSize → part i n (encode cs) ≡ part i n (header (length (cs .cards)) (cs .room))
 unfolding encode
 part-header cs i n h =
     let first = header (length (cs .cards)) (cs .room) in
@@ -158,10 +157,6 @@ entry-kept : (side : ℕ) (t : List ℕ) (card : Card) → withText side t card 
 entry-kept zero t card = refl
 entry-kept (suc side) t card = refl
 
--- A list is its own whole part.
-part-whole : (n : ℕ) (l : List ℕ) → length l ≡ n → part 0 n l ≡ l
-part-whole n l e = ap (λ (m : ℕ). part 0 m l) (sym e) ∙ part-all l
-
 -- The body of a side within a card's bodies, and another one written there.
 part-side : (room side : ℕ) (card : Card) → side < 2 → part (side * room) room (bodies room card) ≡ pad room (sideText side card)
 unfolding bodies
@@ -194,23 +189,22 @@ splice-side room (suc zero) t card h =
     (splice-whole (pad room t) (pad room (card .translation)) (length-pad room t ∙ sym (length-pad room (card .translation))))))
 splice-side room (suc (suc side)) t card h = absurd (omega arith)
 
-pub part-body : (cs : Cards) (k side n : ℕ) → k < length (cs .cards) → side < 2 → n ≤ cs .room →
-    part (bodyPlace (length (cs .cards)) (cs .room) k side) n (encode cs) ≡ take n (pad (cs .room) (sideText side (getD (cs .cards) k noCard)))
+pub part-body : (cs : Cards) (k side i n : ℕ) → k < length (cs .cards) → side < 2 → i + n ≤ cs .room →
+    part (bodyPlace (length (cs .cards)) (cs .room) k side + i) n (encode cs) ≡ part i n (pad (cs .room) (sideText side (getD (cs .cards) k noCard)))
 unfolding encode
-part-body cs k side n h g m =
+part-body cs k side i n h g m =
     let room = cs .room in
     let cards = cs .cards in
     let card = getD cards k noCard in
     let front = header (length cards) room ++ entries cards in
-    let place : bodyPlace (length cards) room k side ≡ headerSize + entrySize * length cards + (k * (2 * room) + side * room) = omega arith in
-    let fits : side * room + n ≤ 2 * room = omega (arith, mul-le-mul-right room (side-most g)) in
-    let fits' : side * room + room ≤ 2 * room = omega (arith, mul-le-mul-right room (side-most g)) in
+    let place : bodyPlace (length cards) room k side + i ≡ headerSize + entrySize * length cards + (k * (2 * room) + (side * room + i)) = omega arith in
+    let fits : side * room + i + n ≤ 2 * room = omega (arith, mul-le-mul-right room (side-most g)) in
     ap (λ (at : ℕ). part at n (front ++ spread (bodies room) cards)) place
-    ∙ part-append-right (headerSize + entrySize * length cards) (k * (2 * room) + side * room) n front (spread (bodies room) cards)
+    ∙ part-append-right (headerSize + entrySize * length cards) (k * (2 * room) + (side * room + i)) n front (spread (bodies room) cards)
     (length-front (length cards) room cards)
-    ∙ part-piece (bodies room) (2 * room) (length-bodies room) cards k h (side * room) n noCard fits
-    ∙ sym (take-part (side * room) room n (bodies room card) m)
-    ∙ ap (take n) (part-side room side card g)
+    ∙ part-piece (bodies room) (2 * room) (length-bodies room) cards k h (side * room + i) n noCard fits
+    ∙ sym (part-part (side * room) room i n (bodies room card) m)
+    ∙ ap (part i n) (part-side room side card g)
 
 -- ---- writing an entry or a text
 

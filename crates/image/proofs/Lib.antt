@@ -1,3 +1,6 @@
 pub mod Shape
 pub mod Bytes
 pub mod Encode
+pub mod Entry
+pub mod Cards
+pub mod Decode

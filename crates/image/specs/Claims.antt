@@ -44,7 +44,7 @@ pub record ReadsBack (image : List ℕ) : Type 0 where
   pub good : GoodCards (decode image)
   pub same : encode (decode image) ≡ image
 
-pub SoundReadsBack : Type 0
+abbrev pub SoundReadsBack : Type 0
 SoundReadsBack = (image : List ℕ) → Bytes image → T (sound image) → ReadsBack image
 
 -- Cards by the rules encode to a sound image of bytes that reads back to them.
@@ -53,11 +53,11 @@ pub record Encodes (cs : Cards) : Type 0 where
   pub sounds : T (sound (encode cs))
   pub same : decode (encode cs) ≡ cs
 
-pub GoodEncodes : Type 0
+abbrev pub GoodEncodes : Type 0
 GoodEncodes = (cs : Cards) → GoodCards cs → Encodes cs
 
 -- "Two sound images with the same N and C, equal entry fields and equal texts are the same bytes."
-pub OneImage : Type 0
+abbrev pub OneImage : Type 0
 OneImage =
     (a b : List ℕ) → Bytes a → Bytes b → T (sound a) → T (sound b)
     → countOf a ≡ countOf b
@@ -73,5 +73,5 @@ pub record Fresh (n c : ℕ) : Type 0 where
   pub zero-after : (i : ℕ) → getD (drop headerSize (fresh n c)) i 0 ≡ 0
   pub long : length (fresh n c) ≡ sizeOf n c
 
-pub FreshSound : Type 0
+abbrev pub FreshSound : Type 0
 FreshSound = (n c : ℕ) → T (shapeOk n c) → Fresh n c
