@@ -1,0 +1,79 @@
+// The lock queue of one card: desks ask for the lock and leave, and each answer says whether the desk holds it.
+ghost use mathlib.Core.Path.{_≡_};
+ghost use Rattle.lock_queue.specs.Queue.{state};
+ghost use Rattle.lock_queue.specs.Ask.{askAnswer, askAfter, leaveAnswer, leaveAfter};
+use guard::Pair;
+
+mod inner;
+mod judge;
+
+// The largest number of places that a queue can have.
+pub const MOST_PLACES: usize = 32;
+
+// An entry that waits for the lock: 1 shared or 2 exclusive, and the pair that its desk proposed.
+pub struct Waiting {
+    pub mode: u8,
+    pub pair: Pair,
+}
+
+pub struct Places {
+    pub at: [Waiting; 32],
+}
+
+// A queue: its places, of which the first `count` are taken, and the largest s and x ever accepted in it.
+pub struct Queue {
+    pub places: Places,
+    pub count: usize,
+    pub largest: Pair,
+}
+
+// The number, whether the desk holds the lock, the largest pair, and how many entries were looked at.
+pub struct Answer {
+    pub number: u8,
+    pub holds: bool,
+    pub largest: Pair,
+    pub looked: usize,
+}
+
+// An answer, and the queue as it now is.
+pub struct Outcome {
+    pub answer: Answer,
+    pub queue: Queue,
+}
+
+// A desk asks for the lock. `lent` is the number of places that the queue was given; a queue of more than 32 is bad.
+pub fn ask(queue: Queue, lent: usize, new: Waiting) -> Outcome
+    ensures { λ r. ⌜ (r .answer ≡ askAnswer lent (state queue) new) × (state (r .queue) ≡ askAfter lent (state queue) new) ⌝ }
+{
+    let number = judge::ask_number(queue, lent, new);
+    let desk = guard::desk_of(new.mode, new.pair);
+    if number == 0 {
+        let after = inner::joined(queue, new);
+        return Outcome {
+            answer: inner::answered(number, desk, queue, after),
+            queue: after,
+        };
+    }
+    Outcome {
+        answer: inner::answered(number, desk, queue, queue),
+        queue,
+    }
+}
+
+// The desk and start `desk` leaves.
+pub fn leave(queue: Queue, lent: usize, desk: u32) -> Outcome
+    ensures { λ r. ⌜ (r .answer ≡ leaveAnswer lent (state queue) desk) × (state (r .queue) ≡ leaveAfter lent (state queue) desk) ⌝ }
+{
+    let number = judge::leave_number(queue, lent, desk);
+    if number == 0 {
+        let after = inner::without(queue, desk);
+        return Outcome {
+            answer: inner::answered(number, desk, queue, after),
+            queue: after,
+        };
+    }
+    Outcome {
+        answer: inner::answered(number, desk, queue, queue),
+        queue,
+    }
+}
