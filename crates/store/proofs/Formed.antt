@@ -1,49 +1,26 @@
--- What a well-formed command is known to be: the sentences of the sheet, "A command", that the store's claims rest on. Assumes nothing.
-use Prim.Native.Nat.{ℕ, _+_}
-use mathlib.Core.Path.{_≡_, refl, sym, ap, _∙_}
-use mathlib.Core.Logic.{_⊎_, inl, inr}
-use mathlib.Core.List.{List, [], _∷_}
-use mathlib.Core.Bool.{Bool, true, false, cond, not, _&&_, _||_, Bool·beq, or-false}
-use borrow.Author.Tests.{eqb-true, eqb-false, not-true}
-use lib.Dec.{leb, eqb}
-use lib.ListN.{length, length-drop}
+-- Lent bytes that are a command: its numbers keep the rules and fit their fields, and its payload is as long as it says. Assumes nothing.
+use Prim.Native.Nat.{ℕ, _+_, _<_}
 use native.Mathlib.Omega.{arith}
-use Rattle.endian.specs.Parts.{part, zeros}
-use Rattle.endian.proofs.Tests.{and-left, and-right, or-cases, all-out, beq-true}
-use Rattle.guard.specs.Stamp.{shared, exclusive, own}
-use Rattle.guard.specs.Command.{fixed, field, checks, isWrite, wellFormed, fieldsOf, formed, payload, update}
+use mathlib.Core.Path.{_≡_, sym, ap, _∙_}
+use mathlib.Core.List.{List}
+use mathlib.Core.Bool.{Bool, true, false, _&&_, _||_, or-false}
+use borrow.Author.Tests.{eqb-true}
+use lib.Dec.{eqb}
+use lib.ListN.{length, length-drop}
+use Rattle.endian.specs.Parts.{part, zeros, Bytes}
+use Rattle.endian.proofs.Le.{le-part-bound}
+use Rattle.endian.proofs.Tests.{and-left, and-right}
+use Rattle.guard.specs.Command.{fixed, field, isWrite, wellFormed, fieldsOf, formed, payload}
+use Rattle.guard.specs.Entry.{FitsCommand}
 use Rattle.guard.specs.declared.Command.{Command}
+use Rattle.guard.proofs.Rules.{CommandRules, command-rules}
 
--- The rules of a command's numbers, by name.
-pub record Rules (c : Command) : Type 0 where
-  pub edition : eqb (c .act) 4 ≡ not (eqb (c .edition) 0)
-  pub empty : isWrite c ≡ false → c .length ≡ 0
-  pub mode : (c .mode ≡ shared) ⊎ (c .mode ≡ exclusive)
-  pub stamped : own (c .mode) (update c) ≡ 0 → ⊥
-
-pub rules : (c : Command) → wellFormed c ≡ true → Rules c
-unfolding wellFormed
-rules c e =
-    record {
-      edition = beq-true (eqb (c .act) 4) (not (eqb (c .edition) 0)) (at 2);
-      empty = λ w. eqb-true (c .length) 0 (sym (or-false (eqb (c .length) 0)) ∙ sym (ap (λ (b : Bool). eqb (c .length) 0 || b) w) ∙ at 3);
-      mode = by-mode (or-cases (eqb (c .mode) shared) (eqb (c .mode) exclusive) (at 6));
-      stamped = eqb-false (own (c .mode) (update c)) 0 (not-true (eqb (own (c .mode) (update c)) 0) (at 9));
-    }
-  where
-    at : (i : ℕ) → lib.ListN.getD (checks c) i true ≡ true
-    at = all-out (checks c) e
-
-    by-mode : (eqb (c .mode) shared ≡ true) ⊎ (eqb (c .mode) exclusive ≡ true) → (c .mode ≡ shared) ⊎ (c .mode ≡ exclusive)
-    by-mode (inl h) = inl (eqb-true (c .mode) shared h)
-    by-mode (inr h) = inr (eqb-true (c .mode) exclusive h)
-
--- Of lent bytes that are a command: its numbers keep the rules, and its payload is as long as it says.
-pub formed-rules : (bytes : List ℕ) → formed bytes ≡ true → Rules (fieldsOf bytes)
+pub formed-well : (bytes : List ℕ) → formed bytes ≡ true → wellFormed (fieldsOf bytes) ≡ true
 unfolding formed
-formed-rules bytes e =
-    rules (fieldsOf bytes)
-    (and-right (eqb (length bytes) (fixed + field 50 2 bytes) && zeros (part 20 16 bytes)) (wellFormed (fieldsOf bytes)) e)
+formed-well bytes e = and-right (eqb (length bytes) (fixed + field 50 2 bytes) && zeros (part 20 16 bytes)) (wellFormed (fieldsOf bytes)) e
+
+pub formed-rules : (bytes : List ℕ) → formed bytes ≡ true → CommandRules (fieldsOf bytes)
+formed-rules bytes e = command-rules (fieldsOf bytes) (formed-well bytes e)
 
 pub formed-payload : (bytes : List ℕ) → formed bytes ≡ true → length (payload bytes) ≡ fieldsOf bytes .length
 unfolding formed payload fieldsOf
@@ -53,3 +30,22 @@ formed-payload bytes e =
     (and-left (eqb (length bytes) (fixed + field 50 2 bytes)) (zeros (part 20 16 bytes))
     (and-left (eqb (length bytes) (fixed + field 50 2 bytes) && zeros (part 20 16 bytes)) (wellFormed (fieldsOf bytes)) e)) in
     length-drop fixed bytes ∙ omega arith
+
+-- A command that writes nothing has no payload.
+pub no-payload : (c : Command) → CommandRules c → isWrite c ≡ false → c .length ≡ 0
+no-payload c r w =
+    eqb-true (c .length) 0 (sym (or-false (eqb (c .length) 0)) ∙ sym (ap (λ (b : Bool). eqb (c .length) 0 || b) w) ∙ r .length)
+
+pub fields-fit : (bytes : List ℕ) → Bytes bytes → FitsCommand (fieldsOf bytes)
+unfolding fieldsOf
+fields-fit bytes h =
+    record {
+      act = h 0;
+      mode = h 1;
+      card = le-part-bound 2 2 bytes h;
+      pair = record { s = le-part-bound 4 8 bytes h; x = le-part-bound 12 8 bytes h };
+      expected = record { desk = le-part-bound 36 2 bytes h; transaction = le-part-bound 38 4 bytes h };
+      next = record { desk = le-part-bound 42 2 bytes h; transaction = le-part-bound 44 4 bytes h };
+      edition = le-part-bound 48 2 bytes h;
+      length = le-part-bound 50 2 bytes h;
+    }

@@ -14,7 +14,8 @@ use Rattle.guard.specs.Command.{verifier, update, fieldsOf, formed, session, Se
 use Rattle.guard.specs.declared.Command.{Command}
 use Rattle.guard.specs.declared.Pair.{Pair}
 use Rattle.store.specs.Words.{Sent, Event, any, none, commandOf, accepted, Proper, largerS, largerX, late, carries, under, sentFor, premise, OneSession, deskIn, intrudes}
-use Rattle.store.proofs.Formed.{Rules, formed-rules}
+use Rattle.guard.proofs.Rules.{CommandRules}
+use Rattle.store.proofs.Formed.{formed-rules}
 use Rattle.store.proofs.Meaning.{Among, among-here, among-later, among-left, among-right, among-reverse, among-map, none-means, premise-means}
 
 -- What an accepted event is known to be by the events before it: it is proper, and not late.
@@ -60,13 +61,13 @@ own-exclusive c e = rw e
 
 -- A shared and an exclusive command with one exclusive stamp are of one desk, where the shared one's s is not above the other's and the premise
 -- holds of the two.
-meets : (c d : Command) → Rules d → c .mode ≡ shared → d .mode ≡ exclusive → update c .x ≡ update d .x → update c .s ≤ update d .s
+meets : (c d : Command) → CommandRules d → c .mode ≡ shared → d .mode ≡ exclusive → update c .x ≡ update d .x → update c .s ≤ update d .s
     → (carries c ≡ true → update d .s < update c .s)
     → deskOf (c .mode) (update c) ≡ deskOf (d .mode) (update d)
 meets c d r h g x s order = go (cases (eqb (deskStart (update c .x)) (deskStart (update c .s))))
   where
     stamped : eqb (update c .x) 0 ≡ false
-    stamped = ne-eqb (update c .x) 0 (λ z. r .stamped (own-exclusive d g ∙ sym x ∙ z))
+    stamped = ne-eqb (update c .x) 0 (λ z. r .session .some (own-exclusive d g ∙ sym x ∙ z))
 
     go : (eqb (deskStart (update c .x)) (deskStart (update c .s)) ≡ true) ⊎ (eqb (deskStart (update c .x)) (deskStart (update c .s)) ≡ false)
         → deskOf (c .mode) (update c) ≡ deskOf (d .mode) (update d)
@@ -136,10 +137,10 @@ module _ (n : ℕ) (sent : List Sent) (log : List Event) (whole : map (λ (e : E
     e-among : Among e log
     e-among = record { front = later ++ b ∷ m₁; back = m₂ ++ a ∷ before; split = e-in }
 
-    rules-b : Rules (commandOf b)
+    rules-b : CommandRules (commandOf b)
     rules-b = formed-rules (b .sent .command) (time-b .proper .wellFormed)
 
-    rules-e : Rules (commandOf e)
+    rules-e : CommandRules (commandOf e)
     rules-e = formed-rules (e .sent .command) (time-e .proper .wellFormed)
 
     -- Where one of the two is exclusive, they are of one desk.
@@ -165,7 +166,7 @@ module _ (n : ℕ) (sent : List Sent) (log : List Event) (whole : map (λ (e : E
 
         go : (mixed ≡ true) ⊎ (mixed ≡ false) → intrudes k b e ≡ false
         go (inl h) =
-            let same = eq-eqb (deskIn e) (deskIn b) (one-desk (rules-b .mode) (rules-e .mode) h) in
+            let same = eq-eqb (deskIn e) (deskIn b) (one-desk (rules-b .session .mode) (rules-e .session .mode) h) in
             rw (same, and-false (accepted k e))
         go (inr h) = rw h (and-false (accepted k e && not (eqb (deskIn e) (deskIn b))))
 

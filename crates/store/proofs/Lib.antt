@@ -3,5 +3,7 @@ pub mod Formed
 pub mod Isolation
 pub mod Machine
 pub mod Sentences
+pub mod Simulation
+pub mod Demand
 pub mod Cases
 pub mod Step

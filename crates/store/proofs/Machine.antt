@@ -12,14 +12,16 @@ use lib.ListN.{length, getD, set, length-set}
 use lib.Seq.{getD-set-same, getD-set-other}
 use Rattle.endian.proofs.Tests.{never-both, cases, and-in, or-fails, or-right, not-in, ltb-max}
 use Rattle.guard.specs.Command.{Language, original, translation, reads, writes, update, fieldsOf, formed, payload, noMark}
-use Rattle.guard.specs.Judge.{behind, textLength, raise, replied}
+use Rattle.guard.specs.Judge.{behind, textLength, rows, raise, judged, replied}
 use Rattle.guard.specs.Table.{Row, first, settled, applies, once}
 use Rattle.guard.specs.declared.Command.{Command}
+use Rattle.guard.proofs.Judge.{Accepted, accepted as passes}
+use Rattle.guard.proofs.Rules.{CommandRules}
 use Rattle.guard.proofs.Table.{unapplied, none-applies}
 use Rattle.image.specs.Image.{Card, Cards, text, noCard}
 use Rattle.store.specs.Serve.{cardOf, requestRows, stepped, cardsAfter, answerBy, replyBy}
 use Rattle.store.specs.Words.{Sent, Event, any, none, since, last, commandOf, accepted, wrote, outdated, lastText}
-use Rattle.store.proofs.Formed.{Rules, formed-rules, formed-payload}
+use Rattle.store.proofs.Formed.{formed-well, formed-rules, formed-payload}
 
 -- ---- one request
 
@@ -47,24 +49,50 @@ eventsFrom start (s ∷ earlier) =
 
 -- ---- what is known of an accepted request
 
-pub record Accepted (cs : Cards) (s : Sent) : Type 0 where
+pub record Passed (cs : Cards) (s : Sent) : Type 0 where
   pub wellFormed : formed (s .command) ≡ true
   pub exists : ltb (fieldsOf (s .command) .card) (length (cs .cards)) ≡ true
-  pub unrefused : (n : ℕ) → applies n (requestRows cs (s .command) (length (s .lent))) ≡ false
+  pub judged : Accepted (cardOf cs (fieldsOf (s .command)) .entry) (fieldsOf (s .command)) (cs .room) (length (s .lent))
 
-pub when-accepted : (cs : Cards) (s : Sent) → numberOn cs s ≡ 0 → Accepted cs s
-when-accepted cs s e =
+pub passed : (cs : Cards) (s : Sent) → numberOn cs s ≡ 0 → Passed cs s
+unfolding judged
+passed cs s e =
     record {
-      wellFormed = not-false (formed (s .command)) (row 1);
-      exists = not-false (ltb (fieldsOf (s .command) .card) (length (cs .cards))) (row 2);
-      unrefused = row;
+      wellFormed = is-formed;
+      exists = there;
+      judged = passes (cardOf cs (fieldsOf (s .command)) .entry) (fieldsOf (s .command)) (cs .room) (length (s .lent)) (sym same ∙ e);
     }
   where
-    rows : List Row
-    rows = requestRows cs (s .command) (length (s .lent))
+    unapplied-row : (n : ℕ) → applies n (requestRows cs (s .command) (length (s .lent))) ≡ false
+    unapplied-row =
+        none-applies (requestRows cs (s .command) (length (s .lent))) (unapplied (requestRows cs (s .command) (length (s .lent))) tt .0 e)
 
-    row : (n : ℕ) → applies n rows ≡ false
-    row = none-applies rows (unapplied rows tt .0 e)
+    is-formed : formed (s .command) ≡ true
+    is-formed = not-false (formed (s .command)) (unapplied-row 1)
+
+    there : ltb (fieldsOf (s .command) .card) (length (cs .cards)) ≡ true
+    there = not-false (ltb (fieldsOf (s .command) .card) (length (cs .cards))) (unapplied-row 2)
+
+    -- Past rows 1 and 2 the entry's own table decides.
+    same : numberOn cs s ≡ first (rows (cardOf cs (fieldsOf (s .command)) .entry) (fieldsOf (s .command)) (cs .room) (length (s .lent)))
+    same = rw (is-formed, there, formed-well (s .command) is-formed)
+
+-- ---- texts and their lengths
+
+length-cond : (b : Bool) (u v : List ℕ) {m n : ℕ} → length u ≡ m → length v ≡ n → length (cond b u v) ≡ cond b m n
+length-cond true u v e f = e
+length-cond false u v e f = f
+
+-- Texts are as long as the entry says, also after a step whose payload is as long as the command says.
+abbrev pub Sized : Card → Type 0
+Sized card = (l : Language) → length (text l card) ≡ textLength l (card .entry)
+
+pub sized-step : (card : Card) (c : Command) (written : List ℕ) → length written ≡ c .length → Sized card → Sized (stepped card c written)
+unfolding stepped raise
+sized-step card c written e h original = length-cond (writes original c) written (card .original) e (h original)
+sized-step card c written e h (translation zero) =
+    length-cond (writes (translation 0) c) written (card .translation) e (h (translation zero))
+sized-step card c written e h (translation (suc t)) = refl
 
 -- ---- a card and the events before
 
@@ -75,7 +103,7 @@ pub record Tied (before : List Event) (k : ℕ) (card : Card) : Type 0 where
   pub x : (n : ℕ) → ltb n (card .entry .pair .x) ≡ any (λ (e : Event). accepted k e && ltb n (update (commandOf e) .x)) before
   pub mark : card .entry .mark ≡ last (accepted k) (λ (e : Event). commandOf e .next) noMark before
   pub texts : (l : Language) → text l card ≡ lastText l before k
-  pub lengths : (l : Language) → length (text l card) ≡ textLength l (card .entry)
+  pub lengths : Sized card
   pub behindness : behind (card .entry .edition) (card .entry .from) ≡ outdated 0 before k
   pub source : card .entry .from ≤ card .entry .edition
 
@@ -121,12 +149,8 @@ one-language c e f =
     let four = eqb-true (c .act) 4 f in
     omega arith
 
-length-cond : (b : Bool) (u v : List ℕ) {m n : ℕ} → length u ≡ m → length v ≡ n → length (cond b u v) ≡ cond b m n
-length-cond true u v e f = e
-length-cond false u v e f = f
-
 -- An accepted command for card k: the card that it steps to is tied to the events with it.
-module _ (k : ℕ) (e : Event) (before : List Event) (card : Card) (h : accepted k e ≡ true) (r : Rules (commandOf e))
+module _ (k : ℕ) (e : Event) (before : List Event) (card : Card) (h : accepted k e ≡ true) (r : CommandRules (commandOf e))
     (long : length (payload (e .sent .command)) ≡ commandOf e .length)
     (named : writes (translation 0) (commandOf e) ≡ true → commandOf e .edition ≡ card .entry .edition) (t : Tied before k card) where
   abbrev now : Card
@@ -156,14 +180,6 @@ module _ (k : ℕ) (e : Event) (before : List Event) (card : Card) (h : accepted
   step-texts (translation zero) = rw (h, t .texts (translation zero))
   step-texts (translation (suc j)) = rw h (t .texts (translation (suc j)))
 
-  step-lengths : (l : Language) → length (text l now) ≡ textLength l (now .entry)
-  unfolding stepped raise
-  step-lengths original =
-      length-cond (writes original (commandOf e)) (payload (e .sent .command)) (card .original) long (t .lengths original)
-  step-lengths (translation zero) =
-      length-cond (writes (translation 0) (commandOf e)) (payload (e .sent .command)) (card .translation) long (t .lengths (translation zero))
-  step-lengths (translation (suc j)) = refl
-
   -- The edition and the edition translated from, after a write of the original, of the translation, and of neither.
   step-editions : (behind (now .entry .edition) (now .entry .from) ≡ outdated 0 (e ∷ before) k) × (now .entry .from ≤ now .entry .edition)
   unfolding stepped raise
@@ -191,7 +207,7 @@ module _ (k : ℕ) (e : Event) (before : List Event) (card : Card) (h : accepted
         x = step-x;
         mark = step-mark;
         texts = step-texts;
-        lengths = step-lengths;
+        lengths = sized-step card (commandOf e) (payload (e .sent .command)) long (t .lengths);
         behindness = step-editions .0;
         source = step-editions .1;
       }
@@ -224,22 +240,14 @@ ties-more cs s before t zero e k b = go (cases (eqb (fieldsOf (s .command) .card
     after : Card
     after = stepped stored (fieldsOf (s .command)) (payload (s .command))
 
-    known : Accepted cs s
-    known = when-accepted cs s e
+    known : Passed cs s
+    known = passed cs s e
 
     within : k < length (cs .cards)
     within = subst (λ (n : ℕ). k < n) (length-set (cs .cards) place after) b
 
     there : place < length (cs .cards)
     there = ltb-true place (length (cs .cards)) (known .exists)
-
-    named : writes (translation 0) (fieldsOf (s .command)) ≡ true → fieldsOf (s .command) .edition ≡ stored .entry .edition
-    named w =
-        let c = fieldsOf (s .command) in
-        let other = not (eqb (c .edition) (stored .entry .edition)) in
-        let quiet =
-        or-fails (reads (translation 0) c && behind (stored .entry .edition) (stored .entry .from)) (writes (translation 0) c && other) (known .unrefused 6) .1 in
-        eqb-true (c .edition) (stored .entry .edition) (not-false (eqb (c .edition) (stored .entry .edition)) (sym (ap (λ (b : Bool). b && other) w) ∙ quiet))
 
     go : (eqb place k ≡ true) ⊎ (eqb place k ≡ false) → Tied (eventBy 0 cs s ∷ before) k (getD (set (cs .cards) place after) k noCard)
     go (inl h) =
@@ -250,7 +258,7 @@ ties-more cs s before t zero e k b = go (cases (eqb (fieldsOf (s .command) .card
         (accepted-at cs s place ∙ eq-eqb place place refl)
         (formed-rules (s .command) (known .wellFormed))
         (formed-payload (s .command) (known .wellFormed))
-        named
+        (known .judged .named)
         (t place there)))
     go (inr h) =
         subst (Tied (eventBy 0 cs s ∷ before) k)

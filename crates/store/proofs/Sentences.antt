@@ -21,8 +21,8 @@ use Rattle.guard.proofs.Table.{given}
 use Rattle.image.specs.Image.{Card, Cards, text, noCard}
 use Rattle.store.specs.Serve.{cardOf, requestRows, textRead}
 use Rattle.store.specs.Words.{Sent, Event, commandOf, Proper, late, rightMark, outdated, lastText}
-use Rattle.store.proofs.Formed.{Rules, formed-rules}
-use Rattle.store.proofs.Machine.{numberOn, eventBy, Accepted, when-accepted, Tied, Ties}
+use Rattle.store.proofs.Formed.{formed-rules, no-payload}
+use Rattle.store.proofs.Machine.{numberOn, eventBy, passed, Tied, Ties}
 
 -- What is claimed of an event and the events before it.
 pub record Told (n : ℕ) (e : Event) (before : List Event) : Type 0 where
@@ -90,7 +90,7 @@ module _ (cs : Cards) (s : Sent) (before : List Event) (ties : Ties cs before) w
   late-is p = rw (tied p .x (verifier c .x), tied p .s (verifier c .s))
 
   is-proper : numberOn cs s ≡ 0 → Proper (length (cs .cards)) event
-  is-proper e = record { wellFormed = when-accepted cs s e .wellFormed; exists = when-accepted cs s e .exists }
+  is-proper e = record { wellFormed = passed cs s e .wellFormed; exists = passed cs s e .exists }
 
   stale-when : Proper (length (cs .cards)) event → (numberOn cs s ≡ 3) ↔ (late before c ≡ true)
   stale-when p = (
@@ -117,7 +117,7 @@ module _ (cs : Cards) (s : Sent) (before : List Event) (ties : Ties cs before) w
 
       fits : ltb (cs .room) (c .length) ≡ false
       fits =
-          let none = formed-rules (s .command) (p .wellFormed) .empty (rw (no-write .0, no-write .1)) in
+          let none = no-payload c (formed-rules (s .command) (p .wellFormed)) (rw (no-write .0, no-write .1)) in
           le-ltb (cs .room) (c .length) (omega arith)
 
   -- An accepted read.
