@@ -6,7 +6,7 @@ use lib.Dec.{lit≤}
 use mathlib.Core.Path.{_≡_, refl, sym, ap, _∙_}
 use mathlib.Core.List.{List, [], _∷_, _++_, append-assoc}
 use lib.ListN.{length, take, drop, getD, set, replicate, length-append, length-take, length-replicate, length-set}
-use lib.Seq.{take-append-le, take-all, take-length}
+use lib.Seq.{set-set, getD-set-same}
 use Rattle.endian.specs.Parts.{part, splice, spread}
 use Rattle.endian.specs.Le.{le, toLe}
 use Rattle.endian.proofs.Le.{le-toLe}
@@ -250,3 +250,27 @@ put-text cs k side t h g =
       length-set cards k card,
       same-piece (λ (card : Card). entryBytes (card .entry)) entrySize entries-wide cards k h card noCard (ap entryBytes (entry-kept side t old)),
     )
+
+-- Both: another entry and another text on one side of card k, in either order.
+pub with-twice : (k : ℕ) (a b : Card) (cs : Cards) → withCard k b (withCard k a cs) ≡ withCard k b cs
+with-twice k a b cs = rw (set-set (cs .cards) k a b)
+
+pub put-entry-text : (cs : Cards) (k side : ℕ) (e : Entry) (t : List ℕ) → k < length (cs .cards) → side < 2 →
+    splice (bodyPlace (length (cs .cards)) (cs .room) k side) (pad (cs .room) t) (splice (entryPlace k) (entryBytes e) (encode cs))
+    ≡ encode (withCard k (withText side t (withEntry e (getD (cs .cards) k noCard))) cs)
+put-entry-text cs k side e t h g =
+    let new = withEntry e (getD (cs .cards) k noCard) in
+    let there : getD (set (cs .cards) k new) k noCard ≡ new = getD-set-same (cs .cards) k new noCard h in
+    let count : length (set (cs .cards) k new) ≡ length (cs .cards) = length-set (cs .cards) k new in
+    let put = put-text (withCard k new cs) k side t (rw count h) g in
+    rw (put-entry cs k e h) (rw (count, there, with-twice k new (withText side t new) cs) at put)
+
+pub put-text-entry : (cs : Cards) (k side : ℕ) (e : Entry) (t : List ℕ) → k < length (cs .cards) → side < 2 →
+    splice (entryPlace k) (entryBytes e) (splice (bodyPlace (length (cs .cards)) (cs .room) k side) (pad (cs .room) t) (encode cs))
+    ≡ encode (withCard k (withEntry e (withText side t (getD (cs .cards) k noCard))) cs)
+put-text-entry cs k side e t h g =
+    let new = withText side t (getD (cs .cards) k noCard) in
+    let there : getD (set (cs .cards) k new) k noCard ≡ new = getD-set-same (cs .cards) k new noCard h in
+    let count : length (set (cs .cards) k new) ≡ length (cs .cards) = length-set (cs .cards) k new in
+    let put = put-entry (withCard k new cs) k e (rw count h) in
+    rw (put-text cs k side t h g) (rw (there, with-twice k new (withEntry e new) cs) at put)

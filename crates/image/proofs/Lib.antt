@@ -4,3 +4,4 @@ pub mod Encode
 pub mod Entry
 pub mod Cards
 pub mod Decode
+pub mod Claims
