@@ -5,5 +5,7 @@ pub mod Machine
 pub mod Sentences
 pub mod Simulation
 pub mod Demand
+pub mod Exact
+pub mod Premise
 pub mod Cases
 pub mod Step

@@ -19,6 +19,7 @@ use Rattle.guard.specs.declared.Command.{Command}
 use Rattle.guard.proofs.Raise.{raise-sound, raise-fits}
 use Rattle.image.specs.Image.{Card, Cards, text, noCard, encode, decode, sound, shapeOk}
 use Rattle.image.specs.Claims.{GoodCard, GoodCards, Encodes}
+use Rattle.image.proofs.Cards.{good-with}
 use Rattle.store.specs.Serve.{cardOf, stepped, cardsAfter, serveBy, serve}
 use Rattle.store.specs.Words.{Sent, Event, eventOf, imageAfter, history}
 use Rattle.store.specs.Claims.{SentBytes, AllBytes}
@@ -75,24 +76,9 @@ module _ (cs : Cards) (s : Sent) (good : GoodCards cs) (bytes : SentBytes s) whe
               (stored .bytes);
         }
 
-    good-each : (k : ℕ) → k < length (set (cs .cards) place after) → GoodCard (cs .room) (getD (set (cs .cards) place after) k noCard)
-    good-each k b = go (cases (eqb place k))
-      where
-        go : (eqb place k ≡ true) ⊎ (eqb place k ≡ false) → GoodCard (cs .room) (getD (set (cs .cards) place after) k noCard)
-        go (inl e) =
-            subst (λ (j : ℕ). GoodCard (cs .room) (getD (set (cs .cards) place after) j noCard)) (eqb-true place k e)
-            (subst (GoodCard (cs .room)) (sym (getD-set-same (cs .cards) place after noCard there)) good-after)
-        go (inr e) =
-            subst (GoodCard (cs .room)) (sym (getD-set-other (cs .cards) place k after noCard (λ z. eqb-false place k e (sym z))))
-            (good .each k (subst (λ (n : ℕ). k < n) (length-set (cs .cards) place after) b))
-
   pub good-more : (number : ℕ) → numberOn cs s ≡ number → GoodCards (cardsBy number cs s)
   good-more (suc j) e = good
-  good-more zero e =
-      record {
-        shape = subst (λ (n : ℕ). T (shapeOk n (cs .room))) (sym (length-set (cs .cards) place after)) (good .shape);
-        each = good-each (passed cs s e);
-      }
+  good-more zero e = good-with cs place after good (good-after (passed cs s e))
 
 -- ---- the same events, and the bytes of the same cards
 

@@ -28,6 +28,7 @@ use Rattle.store.specs.Words.{
   OneSession,
   intrudes,
 }
+use Rattle.store.specs.Cases.{sentA, sentD}
 
 -- What is sent is bytes: each element is below 256, and nothing else.
 pub record SentBytes (s : Sent) : Type 0 where
@@ -78,6 +79,23 @@ pub record Claim (n : ℕ) (sent : List Sent) (log : List Event) : Type 0 where
 -- Demand 3: from a fresh image of any N and C that the rules allow, for every list of lent bytes and reply buffers.
 abbrev pub Demand3 : Type 0
 Demand3 = (n c : ℕ) → T (shapeOk n c) → (sent : List Sent) → AllBytes sent → Claim n sent (logOf n c sent)
+
+-- The premise is neither idle nor empty: it holds of trial a's list and fails of trial d's ("the premise on shared stamps is broken here"), where a
+-- shared command of another desk is accepted between two accepted commands of one exclusive session.
+pub record Intruded (log : List Event) : Type 0 where
+  pub a : Event
+  pub e : Event
+  pub b : Event
+  pub split : log ≡ b ∷ e ∷ a ∷ []
+  pub first : accepted 0 a ≡ true
+  pub second : accepted 0 b ≡ true
+  pub same : OneSession a b
+  pub intruder : intrudes 0 b e ≡ true
+
+pub record PremiseTells : Type 0 where
+  pub holds : premise 0 sentA ≡ true
+  pub fails : premise 0 sentD ≡ false
+  pub without : Intruded (logOf 1 16 sentD)
 
 -- Demand 2: "a number is given exactly when its row applies and no earlier row does", and 0 exactly when none applies.
 pub record Given (image command reply : List ℕ) : Type 0 where
