@@ -1,17 +1,17 @@
 -- Demand 3, whole. Assumes nothing.
-use Prim.Native.Nat.{ℕ, zero, suc, _<_}
+use Prim.Native.Nat.{ℕ, _<_}
 use native.Mathlib.Omega.{arith}
 use mathlib.Core.Path.{_≡_, refl, sym, ap, subst, _∙_}
-use mathlib.Core.Logic.{_↔_, _⊎_, inl, inr}
+use mathlib.Core.Logic.{_⊎_, inl, inr}
 use mathlib.Core.List.{List, [], _∷_, _++_, map, reverse, reverseAux}
-use mathlib.Core.Bool.{Bool, true, false}
+use mathlib.Core.Bool.{true, false}
 use lib.Dec.{T}
-use lib.ListN.{length, getD, replicate, length-replicate, getD-replicate}
+use lib.ListN.{length, length-replicate, getD-replicate}
 use Rattle.endian.proofs.Tests.{cases}
-use Rattle.image.specs.Image.{Cards, noCard, fresh, freshCards, encode, shapeOk}
-use Rattle.image.specs.Claims.{GoodCards, Encodes, Fresh}
+use Rattle.image.specs.Image.{Cards, noCard, fresh, freshCards, shapeOk}
+use Rattle.image.proofs.Claims.{freshSound}
 use Rattle.store.specs.Words.{Sent, Event, history, logOf, commandOf, late}
-use Rattle.store.specs.Claims.{SentBytes, AllBytes, Claim, Demand3}
+use Rattle.store.specs.Claims.{AllBytes, Claim, Demand3}
 use Rattle.store.proofs.Isolation.{Timely, isolated}
 use Rattle.store.proofs.Machine.{numberOn, eventBy, cardsFrom, eventsFrom, tied-fresh, Ties, ties-more, count-kept}
 use Rattle.store.proofs.Sentences.{Told, told}
@@ -93,21 +93,20 @@ claim n sent log whole a =
     at : (later : List Event) (e : Event) (before : List Event) → log ≡ later ++ e ∷ before → Told n e before
     at later e before split = along-split (Told n) log later e before a split
 
-module _ (goodEncodes : (cs : Cards) → GoodCards cs → Encodes cs) (freshSound : (n c : ℕ) → T (shapeOk n c) → Fresh n c) where
-  same-log : (n c : ℕ) → T (shapeOk n c) → (sent : List Sent) → AllBytes sent → logOf n c sent ≡ eventsFrom (freshCards n c) (reverse sent)
-  unfolding logOf
-  same-log n c shape sent b =
-      ap (λ (image : List ℕ). history image (reverse sent)) (sym (freshSound n c shape .cards))
-      ∙ same-events goodEncodes (freshCards n c) (reverse sent) (freshSound n c shape .good) (bytes-reverse sent [] b tt)
+same-log : (n c : ℕ) → T (shapeOk n c) → (sent : List Sent) → AllBytes sent → logOf n c sent ≡ eventsFrom (freshCards n c) (reverse sent)
+unfolding logOf
+same-log n c shape sent b =
+    ap (λ (image : List ℕ). history image (reverse sent)) (sym (freshSound n c shape .cards))
+    ∙ same-events (freshCards n c) (reverse sent) (freshSound n c shape .good) (bytes-reverse sent [] b tt)
 
-  count-fresh : (n c : ℕ) → length (freshCards n c .cards) ≡ n
-  unfolding freshCards
-  count-fresh n c = length-replicate n noCard
+count-fresh : (n c : ℕ) → length (freshCards n c .cards) ≡ n
+unfolding freshCards
+count-fresh n c = length-replicate n noCard
 
-  pub demand3-from : Demand3
-  unfolding logOf
-  demand3-from n c shape sent b =
-      claim n sent (logOf n c sent) (whole-history (fresh n c) (reverse sent))
-      (subst (Along (Told n)) (sym (same-log n c shape sent b))
-      (subst (λ (m : ℕ). Along (Told m) (eventsFrom (freshCards n c) (reverse sent))) (count-fresh n c)
-      (told-all (freshCards n c) (ties-fresh n c) (reverse sent))))
+pub demand3 : Demand3
+unfolding logOf
+demand3 n c shape sent b =
+    claim n sent (logOf n c sent) (whole-history (fresh n c) (reverse sent))
+    (subst (Along (Told n)) (sym (same-log n c shape sent b))
+    (subst (λ (m : ℕ). Along (Told m) (eventsFrom (freshCards n c) (reverse sent))) (count-fresh n c)
+    (told-all (freshCards n c) (ties-fresh n c) (reverse sent))))

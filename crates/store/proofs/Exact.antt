@@ -10,7 +10,7 @@ use Rattle.guard.specs.Judge.{replied}
 use Rattle.guard.specs.Table.{first, applies, earlier, none}
 use Rattle.guard.proofs.Table.{given, unapplied, first-all}
 use Rattle.store.specs.Serve.{serveBy, serve, storeRows}
-use Rattle.store.specs.Claims.{Given, Exactly, Safe, Refusals}
+use Rattle.store.specs.Claims.{Exactly, Refusals}
 
 -- The answer's number is the table's.
 number-is : (image command reply : List ℕ) → serve image command reply .answer .number ≡ first (storeRows image command (length reply))

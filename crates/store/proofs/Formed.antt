@@ -1,5 +1,5 @@
 -- Lent bytes that are a command: its numbers keep the rules and fit their fields, and its payload is as long as it says. Assumes nothing.
-use Prim.Native.Nat.{ℕ, _+_, _<_}
+use Prim.Native.Nat.{ℕ, _+_}
 use native.Mathlib.Omega.{arith}
 use mathlib.Core.Path.{_≡_, sym, ap, _∙_}
 use mathlib.Core.List.{List}

@@ -2,21 +2,21 @@
 -- Assumes nothing.
 use Prim.Native.Nat.{ℕ, _<_, _≤_}
 use native.Mathlib.Omega.{arith}
-use mathlib.Core.Path.{_≡_, refl, sym, ap, subst, _∙_}
-use mathlib.Core.Logic.{_↔_, _⊎_, inl, inr}
-use mathlib.Core.List.{List, [], _∷_, _++_, map, reverse, append-assoc}
-use mathlib.Core.Bool.{Bool, true, false, cond, not, _&&_, _||_, and-false}
-use borrow.Author.Tests.{eqb-true, eqb-false, eq-eqb, ne-eqb, ltb-false, not-true, not-false}
+use mathlib.Core.Path.{_≡_, sym, ap, subst, _∙_}
+use mathlib.Core.Logic.{_⊎_, inl, inr}
+use mathlib.Core.List.{List, _∷_, _++_, map, reverse, append-assoc}
+use mathlib.Core.Bool.{Bool, true, false, not, _&&_, _||_, and-false}
+use borrow.Author.Tests.{eqb-true, eq-eqb, ne-eqb, ltb-false}
 use lib.Dec.{eqb, ltb}
 use Rattle.endian.proofs.Tests.{never-both, cases, and-in, and-left, and-right, or-fails, not-in}
 use Rattle.guard.specs.Stamp.{shared, exclusive, deskStart, deskOf, own}
-use Rattle.guard.specs.Command.{verifier, update, fieldsOf, formed, session, Session}
+use Rattle.guard.specs.Command.{verifier, update, session, Session}
 use Rattle.guard.specs.declared.Command.{Command}
 use Rattle.guard.specs.declared.Pair.{Pair}
-use Rattle.store.specs.Words.{Sent, Event, any, none, commandOf, accepted, Proper, largerS, largerX, late, carries, under, sentFor, premise, OneSession, deskIn, intrudes}
+use Rattle.store.specs.Words.{Sent, Event, any, none, commandOf, accepted, Proper, largerS, largerX, late, carries, sentFor, premise, OneSession, deskIn, intrudes}
 use Rattle.guard.proofs.Rules.{CommandRules}
 use Rattle.store.proofs.Formed.{formed-rules}
-use Rattle.store.proofs.Meaning.{Among, among-here, among-later, among-left, among-right, among-reverse, among-map, none-means, premise-means}
+use Rattle.store.proofs.Meaning.{Among, among-here, among-right, among-reverse, among-map, none-means, premise-means}
 
 -- What an accepted event is known to be by the events before it: it is proper, and not late.
 pub record Timely (n : ℕ) (e : Event) (before : List Event) : Type 0 where

@@ -1,26 +1,26 @@
 -- A store as cards, without bytes: the same table and the same effects, and what its cards have to do with the events before.
 -- Assumes nothing.
-use Prim.Native.Nat.{ℕ, zero, suc, _+_, _≤_, _<_, max}
+use Prim.Native.Nat.{ℕ, zero, suc, _+_, _≤_, _<_}
 use native.Mathlib.Omega.{arith}
-use mathlib.Core.Path.{_≡_, refl, sym, ap, subst, _∙_}
-use mathlib.Core.Logic.{_↔_, _⊎_, inl, inr}
-use mathlib.Core.List.{List, [], _∷_, _++_}
-use mathlib.Core.Bool.{Bool, true, false, cond, not, _&&_, _||_, or-comm}
+use mathlib.Core.Path.{_≡_, refl, sym, subst, _∙_}
+use mathlib.Core.Logic.{_⊎_, inl, inr}
+use mathlib.Core.List.{List, [], _∷_}
+use mathlib.Core.Bool.{Bool, true, false, cond, _&&_, or-comm}
 use borrow.Author.Tests.{eqb-true, eqb-false, eq-eqb, ne-eqb, le-ltb, ltb-true, not-true, not-false}
-use lib.Dec.{T, eqb, ltb, eqb·suc-zero}
+use lib.Dec.{eqb, ltb, eqb·suc-zero}
 use lib.ListN.{length, getD, set, length-set}
 use lib.Seq.{getD-set-same, getD-set-other}
-use Rattle.endian.proofs.Tests.{never-both, cases, and-in, or-fails, or-right, not-in, ltb-max}
-use Rattle.guard.specs.Command.{Language, original, translation, reads, writes, update, fieldsOf, formed, payload, noMark}
+use Rattle.endian.proofs.Tests.{cases, or-right, not-in, ltb-max}
+use Rattle.guard.specs.Command.{Language, original, translation, writes, update, fieldsOf, formed, payload, noMark}
 use Rattle.guard.specs.Judge.{behind, textLength, rows, raise, judged, replied}
-use Rattle.guard.specs.Table.{Row, first, settled, applies, once}
+use Rattle.guard.specs.Table.{first, settled, applies}
 use Rattle.guard.specs.declared.Command.{Command}
 use Rattle.guard.proofs.Judge.{Accepted, accepted as passes}
 use Rattle.guard.proofs.Rules.{CommandRules}
 use Rattle.guard.proofs.Table.{unapplied, none-applies}
 use Rattle.image.specs.Image.{Card, Cards, text, noCard}
 use Rattle.store.specs.Serve.{cardOf, requestRows, stepped, cardsAfter, answerBy, replyBy}
-use Rattle.store.specs.Words.{Sent, Event, any, none, since, last, commandOf, accepted, wrote, outdated, lastText}
+use Rattle.store.specs.Words.{Sent, Event, any, last, commandOf, accepted, outdated, lastText}
 use Rattle.store.proofs.Formed.{formed-well, formed-rules, formed-payload}
 
 -- ---- one request

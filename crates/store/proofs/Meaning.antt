@@ -1,12 +1,12 @@
 -- The words on lists mean what they read like. Assumes nothing.
 use Prim.Native.Nat.{ℕ, _<_}
-use mathlib.Core.Path.{_≡_, refl, sym, ap, subst, _∙_}
+use mathlib.Core.Path.{_≡_, refl, sym, ap, _∙_}
 use mathlib.Core.Logic.{_↔_, _⊎_, inl, inr}
 use mathlib.Core.List.{List, [], _∷_, _++_, map, reverse, append-assoc, reverse-append, reverse-cons, reverse-reverse}
-use mathlib.Core.Bool.{Bool, true, false, cond, not, _&&_, _||_, or-assoc}
+use mathlib.Core.Bool.{Bool, true, false, not, _&&_, _||_, or-assoc}
 use borrow.Author.Tests.{not-true, not-false, ltb-true, lt-ltb}
-use lib.Dec.{eqb, ltb}
-use Rattle.endian.proofs.Tests.{never-both, cases, and-in, and-left, and-right, or-left, or-right, or-cases, or-fails, or-none, not-in}
+use lib.Dec.{ltb}
+use Rattle.endian.proofs.Tests.{never-both, cases, and-left, and-right, or-left, or-right, or-fails, not-in}
 use Rattle.guard.specs.Command.{fieldsOf, update}
 use Rattle.store.specs.Words.{Sent, any, none, since, last, sentFor, carries, under, breaks, premise}
 

@@ -1,8 +1,6 @@
 -- The premise on the lists of trials a and d, by computation on bytes. Assumes nothing.
-use Prim.Native.Nat.{ℕ}
-use mathlib.Core.Path.{_≡_, refl}
-use mathlib.Core.List.{List, []}
-use mathlib.Core.Bool.{true, false}
+use mathlib.Core.Path.{refl}
+use mathlib.Core.List.{[]}
 use Rattle.endian.specs.Parts.{part, splice, table, spread, every, zeros}
 use Rattle.endian.specs.Le.{le, toLe}
 use Rattle.endian.specs.Tests.{all, allFrom}
@@ -28,8 +26,8 @@ use Rattle.image.specs.Image.{
   fresh,
 }
 use Rattle.store.specs.Serve.{stepped, serveBy, serve}
-use Rattle.store.specs.Words.{Sent, Event, imageAfter, history, logOf, premise}
-use Rattle.store.specs.Cases.{Got, got, verify, first, sentA, sentD}
+use Rattle.store.specs.Words.{Sent, Event, imageAfter, history, logOf}
+use Rattle.store.specs.Cases.{got, verify, first, sentD}
 use Rattle.store.specs.Claims.{Intruded, PremiseTells}
 
 -- An accepted event of trial d.

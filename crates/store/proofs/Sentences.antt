@@ -1,24 +1,24 @@
 -- The sentences of demand 3 of one request on cards, from what ties the cards to the events before. Assumes nothing.
-use Prim.Native.Nat.{ℕ, zero, suc, _+_, _<_}
+use Prim.Native.Nat.{ℕ, zero, suc, _+_}
 use native.Mathlib.Omega.{arith}
 use mathlib.Core.Path.{_≡_, refl, sym, ap, subst, _∙_}
-use mathlib.Core.Logic.{_↔_, inl, inr}
-use mathlib.Core.List.{List, [], _∷_, _++_}
-use mathlib.Core.Bool.{Bool, true, false, cond, not, _&&_, _||_, or-false}
-use borrow.Author.Tests.{eqb-true, le-ltb, ltb-true, not-false}
-use lib.Dec.{T, eqb, ltb}
-use lib.ListN.{length, take, drop, getD}
+use mathlib.Core.Logic.{_↔_}
+use mathlib.Core.List.{List}
+use mathlib.Core.Bool.{true, false, or-false}
+use borrow.Author.Tests.{eqb-true, le-ltb, ltb-true}
+use lib.Dec.{ltb}
+use lib.ListN.{length, take, drop}
 use lib.Seq.{take-append-seam}
 use Rattle.endian.specs.Parts.{splice}
 use Rattle.endian.proofs.Tests.{to-T, from-T, never-both}
-use Rattle.guard.specs.Stamp.{stale, exclusive}
-use Rattle.guard.specs.Command.{Language, original, translation, reads, writes, isWrite, verifier, fieldsOf, formed}
+use Rattle.guard.specs.Stamp.{stale}
+use Rattle.guard.specs.Command.{Language, original, translation, reads, writes, verifier, fieldsOf}
 use Rattle.guard.specs.Judge.{markFits, behind, textLength, raise, readLength, replied}
-use Rattle.guard.specs.Table.{Row, first, applies, earlier}
+use Rattle.guard.specs.Table.{Row, applies}
 use Rattle.guard.specs.declared.Command.{Command}
 use Rattle.guard.specs.declared.Entry.{Entry}
 use Rattle.guard.proofs.Table.{given}
-use Rattle.image.specs.Image.{Card, Cards, text, noCard}
+use Rattle.image.specs.Image.{Card, Cards, text}
 use Rattle.store.specs.Serve.{cardOf, requestRows, textRead}
 use Rattle.store.specs.Words.{Sent, Event, commandOf, Proper, late, rightMark, outdated, lastText}
 use Rattle.store.proofs.Formed.{formed-rules, no-payload}

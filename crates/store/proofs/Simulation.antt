@@ -1,30 +1,27 @@
 -- The store on bytes does what the store on cards does: from cards by the rules, the image after each request is the bytes of the cards after it,
 -- and the events are the same. Assumes nothing.
-use Prim.Native.Nat.{ℕ, zero, suc, _+_, _<_}
-use mathlib.Core.Path.{_≡_, refl, sym, ap, subst, _∙_}
-use mathlib.Core.Logic.{_⊎_, inl, inr}
+use Prim.Native.Nat.{ℕ, zero, suc, _<_}
+use mathlib.Core.Path.{_≡_, refl, ap, _∙_}
 use mathlib.Core.List.{List, [], _∷_}
 use mathlib.Core.Bool.{Bool, true, false, cond}
-use borrow.Author.Tests.{eqb-true, eqb-false, ltb-true}
-use lib.Dec.{T, eqb, ltb}
-use lib.ListN.{length, getD, set, length-set}
-use lib.Seq.{getD-set-same, getD-set-other}
+use borrow.Author.Tests.{ltb-true}
+use lib.ListN.{length}
 use Rattle.endian.specs.Parts.{Bytes}
 use Rattle.endian.proofs.Bytes.{Bytes-nil, Bytes-drop}
-use Rattle.endian.proofs.Tests.{from-T, cases}
+use Rattle.endian.proofs.Tests.{from-T}
 use Rattle.guard.specs.Command.{Language, original, translation, writes, fieldsOf, payload, fixed}
-use Rattle.guard.specs.Judge.{raise}
 use Rattle.guard.specs.Table.{settled}
 use Rattle.guard.specs.declared.Command.{Command}
 use Rattle.guard.proofs.Raise.{raise-sound, raise-fits}
-use Rattle.image.specs.Image.{Card, Cards, text, noCard, encode, decode, sound, shapeOk}
-use Rattle.image.specs.Claims.{GoodCard, GoodCards, Encodes}
+use Rattle.image.specs.Image.{Card, Cards, text, encode, decode, sound}
+use Rattle.image.specs.Claims.{GoodCard, GoodCards}
 use Rattle.image.proofs.Cards.{good-with}
+use Rattle.image.proofs.Claims.{goodEncodes}
 use Rattle.store.specs.Serve.{cardOf, stepped, cardsAfter, serveBy, serve}
-use Rattle.store.specs.Words.{Sent, Event, eventOf, imageAfter, history}
+use Rattle.store.specs.Words.{Sent, eventOf, imageAfter, history}
 use Rattle.store.specs.Claims.{SentBytes, AllBytes}
 use Rattle.store.proofs.Formed.{formed-payload, fields-fit}
-use Rattle.store.proofs.Machine.{numberOn, eventBy, cardsBy, cardsFrom, eventsFrom, Passed, passed, Sized, sized-step, count-kept, room-kept}
+use Rattle.store.proofs.Machine.{numberOn, eventBy, cardsBy, cardsFrom, eventsFrom, Passed, passed, Sized, sized-step}
 
 -- ---- cards stay by the rules
 
@@ -92,31 +89,30 @@ settled-encode : (number : ℕ) (new old : Cards) → settled number (encode new
 settled-encode zero new old = refl
 settled-encode (suc j) new old = refl
 
-module _ (goodEncodes : (cs : Cards) → GoodCards cs → Encodes cs) where
-  module _ (cs : Cards) (s : Sent) (good : GoodCards cs) where
-    is-sound : sound (encode cs) ≡ true
-    is-sound = from-T (sound (encode cs)) (goodEncodes cs good .sounds)
+module _ (cs : Cards) (s : Sent) (good : GoodCards cs) where
+  is-sound : sound (encode cs) ≡ true
+  is-sound = from-T (sound (encode cs)) (goodEncodes cs good .sounds)
 
-    reads-back : decode (encode cs) ≡ cs
-    reads-back = goodEncodes cs good .same
+  reads-back : decode (encode cs) ≡ cs
+  reads-back = goodEncodes cs good .same
 
-    pub same-event : eventOf s (serve (encode cs) (s .command) (s .lent)) ≡ eventBy (numberOn cs s) cs s
-    unfolding serve serveBy
-    same-event = rw (is-sound, reads-back)
+  pub same-event : eventOf s (serve (encode cs) (s .command) (s .lent)) ≡ eventBy (numberOn cs s) cs s
+  unfolding serve serveBy
+  same-event = rw (is-sound, reads-back)
 
-    pub same-image : serve (encode cs) (s .command) (s .lent) .image ≡ encode (cardsBy (numberOn cs s) cs s)
-    unfolding serve serveBy
-    same-image = rw (is-sound, reads-back) (settled-encode (numberOn cs s) (cardsAfter cs (s .command)) cs)
+  pub same-image : serve (encode cs) (s .command) (s .lent) .image ≡ encode (cardsBy (numberOn cs s) cs s)
+  unfolding serve serveBy
+  same-image = rw (is-sound, reads-back) (settled-encode (numberOn cs s) (cardsAfter cs (s .command)) cs)
 
-  pub same-images : (start : Cards) (sent : List Sent) → GoodCards start → AllBytes sent → imageAfter (encode start) sent ≡ encode (cardsFrom start sent)
-  unfolding imageAfter cardsFrom
-  same-images start [] g b = refl
-  same-images start (s ∷ earlier) g b =
-      ap (λ (image : List ℕ). serve image (s .command) (s .lent) .image) (same-images start earlier g (b .1))
-      ∙ same-image (cardsFrom start earlier) s (all-good start earlier g (b .1))
+pub same-images : (start : Cards) (sent : List Sent) → GoodCards start → AllBytes sent → imageAfter (encode start) sent ≡ encode (cardsFrom start sent)
+unfolding imageAfter cardsFrom
+same-images start [] g b = refl
+same-images start (s ∷ earlier) g b =
+    ap (λ (image : List ℕ). serve image (s .command) (s .lent) .image) (same-images start earlier g (b .1))
+    ∙ same-image (cardsFrom start earlier) s (all-good start earlier g (b .1))
 
-  pub same-events : (start : Cards) (sent : List Sent) → GoodCards start → AllBytes sent → history (encode start) sent ≡ eventsFrom start sent
-  unfolding history eventsFrom
-  same-events start [] g b = refl
-  same-events start (s ∷ earlier) g b =
-      rw (same-images start earlier g (b .1), same-event (cardsFrom start earlier) s (all-good start earlier g (b .1)), same-events start earlier g (b .1))
+pub same-events : (start : Cards) (sent : List Sent) → GoodCards start → AllBytes sent → history (encode start) sent ≡ eventsFrom start sent
+unfolding history eventsFrom
+same-events start [] g b = refl
+same-events start (s ∷ earlier) g b =
+    rw (same-images start earlier g (b .1), same-event (cardsFrom start earlier) s (all-good start earlier g (b .1)), same-events start earlier g (b .1))

@@ -4,14 +4,14 @@ use Prim.Native.Nat.{ℕ, suc, _≤_}
 use mathlib.Core.Logic.{_↔_}
 use mathlib.Core.Path.{_≡_}
 use mathlib.Core.List.{List, [], _∷_, _++_, map, reverse}
-use mathlib.Core.Bool.{Bool, true, false}
+use mathlib.Core.Bool.{true, false}
 use lib.ListN.{length, take}
 use lib.Dec.{T}
 use Rattle.endian.specs.Parts.{Bytes}
 use Rattle.guard.specs.Command.{Language, translation, reads}
 use Rattle.guard.specs.Table.{applies, earlier, none as noRow}
 use Rattle.image.specs.Image.{shapeOk}
-use Rattle.store.specs.Serve.{Outcome, serve, storeRows}
+use Rattle.store.specs.Serve.{serve, storeRows}
 use Rattle.store.specs.Words.{
   Sent,
   Event,

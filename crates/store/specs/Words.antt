@@ -2,16 +2,14 @@
 -- Assumes nothing.
 use Prim.Native.Nat.{ℕ}
 use mathlib.Core.Path.{_≡_}
-use mathlib.Core.List.{List, [], _∷_, map, reverse}
+use mathlib.Core.List.{List, [], _∷_, reverse}
 use mathlib.Core.Bool.{Bool, true, false, cond, not, _&&_, _||_}
 use lib.Dec.{ltb, eqb}
-use Rattle.endian.specs.Parts.{Bytes}
 use Rattle.guard.specs.Stamp.{shared, exclusive, deskStart, deskOf}
-use Rattle.guard.specs.Command.{Language, original, translation, reads, writes, verifier, update, fieldsOf, payload, formed, session, noMark}
+use Rattle.guard.specs.Command.{Language, original, translation, writes, verifier, update, fieldsOf, payload, formed, session, noMark}
 use Rattle.guard.specs.Judge.{markFits}
 use Rattle.guard.specs.declared.Answer.{Answer}
 use Rattle.guard.specs.declared.Command.{Command}
-use Rattle.guard.specs.declared.Mark.{Mark}
 use Rattle.image.specs.Image.{fresh}
 use Rattle.store.specs.Serve.{Outcome, serve}
 
