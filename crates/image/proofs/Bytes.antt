@@ -1,9 +1,8 @@
 -- Laws of the bytes that the code writes and reads. Assumes nothing.
-use Prim.Native.Nat.{ℕ, zero, suc, _+_, _*_, _-_, _≤_, _<_}
+use Prim.Native.Nat.{ℕ, _+_, _-_, _≤_, _<_}
 use native.Mathlib.Omega.{arith}
-use native.Mathlib.Nat.{add-zero, zero-add}
 use mathlib.Core.Path.{_≡_, refl, sym, ap, _∙_}
-use mathlib.Core.List.{List, [], _∷_, _++_, append-assoc}
+use mathlib.Core.List.{List, _∷_, _++_, append-assoc, []}
 use mathlib.Core.Bool.{Bool, true, false, _&&_}
 use borrow.Author.Tests.{eq-eqb, ne-eqb, leb-true, eqb-true}
 use lib.Dec.{eqb}
@@ -18,8 +17,8 @@ use Rattle.endian.specs.Parts.{part, splice, every}
 use Rattle.endian.proofs.Every.{every-fail}
 use Rattle.endian.specs.Le.{toLe}
 use Rattle.endian.proofs.Parts.{part-all, splice-adjacent, splice-whole}
-use Rattle.image.specs.Image.{sizeOf, shapeOk, pad, header, headerNumbers, headerSound, headerSize, fresh, makes, countOf, roomOf, entryPlace, entryAt, tailZero, cardSound, sound}
-use Rattle.image.proofs.Shape.{all-fails-at}
+use Rattle.image.specs.Image.{sizeOf, shapeOk, pad, header, headerNumbers, headerSound, headerSize, fresh, makes, countOf, roomOf, bodyPlace, entryPlace, entryAt, tailZero, cardSound, sound}
+use Rattle.image.proofs.Shape.{all-fails-at, body-within}
 
 module _ {A : Type 0} where
   -- A slice from `at` to `end` is a part.
@@ -134,6 +133,12 @@ short image h = all-fails-at _ 4 (ne-eqb (length image) (sizeOf (countOf image) 
 pub header-size : (image : List ℕ) → headerSound image ≡ true → length image ≡ sizeOf (countOf image) (roomOf image)
 unfolding headerSound
 header-size image e = eqb-true (length image) (sizeOf (countOf image) (roomOf image)) (all-out _ e 4)
+
+-- A body's place, by the numbers that were read.
+pub body-lies : {n c k side place : ℕ} (image : List ℕ) → place ≡ bodyPlace n c k side → n ≡ countOf image → c ≡ roomOf image →
+    length image ≡ sizeOf (countOf image) (roomOf image) → k < countOf image → side < 2 → place + c ≤ length image
+body-lies {k = k} {side = side} image p q r size below h =
+    rw (p, q, r, size) (body-within (countOf image) (roomOf image) k side below h)
 
 -- ---- a sound image
 

@@ -1,73 +1,30 @@
 -- Cards by the rules: they encode to a sound image of bytes that reads back to them. Assumes nothing.
-use Prim.Native.Nat.{ℕ, zero, suc, _+_, _*_, _-_, _^_, _≤_, _<_}
+use Prim.Native.Nat.{ℕ, zero, suc, _+_, _-_, _≤_, _<_}
 use native.Mathlib.Omega.{arith}
 use native.Mathlib.Nat.{add-zero}
-use mathlib.Core.Path.{_≡_, refl, sym, ap, _∙_, subst}
+use mathlib.Core.Path.{_≡_, sym, ap, _∙_}
 use mathlib.Core.Logic.{_⊎_, inl, inr}
-use mathlib.Core.List.{List, [], _∷_, _++_}
-use mathlib.Core.Bool.{Bool, true, false}
+use mathlib.Core.List.{List, _++_}
+use mathlib.Core.Bool.{true, false}
 use borrow.Author.Tests.{eq-eqb, eqb-true, eqb-false}
-use lib.Dec.{T, eqb, lit≤, lit<}
-use lib.ListN.{length, take, drop, getD, set, replicate, length-set}
+use lib.Dec.{eqb, lit≤, lit<}
+use lib.ListN.{length, take, getD, set, replicate, length-set}
 use lib.Seq.{getD-set-same, getD-set-other}
-use Rattle.endian.specs.Parts.{part, spread, table, every, zeros, Bytes}
+use Rattle.endian.specs.Parts.{part, spread, zeros, Bytes}
 use Rattle.endian.specs.Le.{le, toLe}
 use Rattle.endian.specs.Tests.{all, allFrom}
 use Rattle.endian.proofs.Bytes.{Bytes-append, Bytes-replicate, Bytes-take, zeros-replicate}
 use Rattle.endian.proofs.Every.{every-in}
 use Rattle.endian.proofs.Le.{Bytes-toLe}
 use Rattle.endian.proofs.Spread.{Bytes-spread, table-is}
-use Rattle.endian.proofs.Tests.{cases, from-T, to-T}
-use Rattle.guard.specs.Command.{Language, original, translation, field}
-use Rattle.guard.specs.Entry.{entrySound, FitsEntry}
+use Rattle.endian.proofs.Tests.{cases, from-T}
+use Rattle.guard.specs.Command.{original, translation, field}
+use Rattle.guard.specs.Entry.{entrySound}
 use Rattle.guard.specs.declared.Entry.{Entry}
-use Rattle.image.specs.Image.{
-  Card,
-  Cards,
-  text,
-  sideText,
-  withCard,
-  noCard,
-  shapeOk,
-  sizeOf,
-  entrySize,
-  entryPlace,
-  bodyPlace,
-  magic,
-  version,
-  headerNumbers,
-  header,
-  entryPair,
-  entryMark,
-  entryCounts,
-  entryBytes,
-  pad,
-  bodies,
-  encode,
-  countOf,
-  roomOf,
-  entryAt,
-  readEntry,
-  bodyAt,
-  cardAt,
-  decode,
-  tailZero,
-  cardSound,
-  headerSound,
-  sound,
-}
+use Rattle.image.specs.Image.{Card, Cards, sideText, withCard, noCard, shapeOk, sizeOf, entrySize, entryPlace, bodyPlace, magic, version, headerNumbers, header, entryPair, entryMark, entryCounts, entryBytes, pad, bodies, encode, countOf, roomOf, entryAt, readEntry, bodyAt, cardAt, decode, tailZero, cardSound, headerSound, sound}
 use Rattle.image.specs.Claims.{GoodCard, GoodCards}
-use Rattle.image.proofs.Bytes.{part-whole, take-replicate, all-hold, lengths, pad-text}
-use Rattle.image.proofs.Encode.{
-  length-entryBytes,
-  length-pad,
-  length-encode,
-  part-header,
-  countOf-encode,
-  roomOf-encode,
-  part-entry,
-  part-body,
-}
+use Rattle.image.proofs.Bytes.{part-whole, take-replicate, all-hold, lengths}
+use Rattle.image.proofs.Encode.{length-entryBytes, length-encode, part-header, countOf-encode, roomOf-encode, part-entry, part-body}
 use Rattle.image.proofs.Entry.{read-entryBytes, take-pad, drop-pad}
 use Rattle.image.proofs.Shape.{shape}
 

@@ -1,43 +1,21 @@
 -- The claims on images and cards, proved. Assumes nothing.
-use Prim.Native.Nat.{ℕ, zero, suc, _+_, _*_, _-_, _≤_, _<_}
+use Prim.Native.Nat.{ℕ, zero, suc, _+_, _*_, _-_}
 use native.Mathlib.Omega.{arith}
 use mathlib.Core.Path.{_≡_, refl, sym, ap, _∙_, subst}
-use mathlib.Core.List.{List, [], _∷_, _++_, append-assoc}
-use mathlib.Core.Bool.{Bool, true, false}
+use mathlib.Core.List.{List, append-assoc}
 use lib.Dec.{T, lit<, leb·zero}
-use lib.ListN.{length, drop, getD, replicate, length-append, length-replicate, getD-replicate, replicate-append-replicate, List·getD-eq-default}
+use lib.ListN.{length, drop, getD, replicate, length-replicate, getD-replicate, replicate-append-replicate}
 use lib.Seq.{drop-at}
-use Rattle.endian.specs.Parts.{table, Bytes}
+use Rattle.endian.specs.Parts.{Bytes}
 use Rattle.endian.specs.Le.{toLe}
 use Rattle.endian.proofs.Spread.{table-ext, spread-replicate}
-use Rattle.endian.proofs.Tests.{from-T, to-T}
+use Rattle.endian.proofs.Tests.{to-T}
 use Rattle.endian.specs.Tests.{all, allFrom}
 use Rattle.endian.proofs.Bytes.{Bytes-nil, zeros-at, zeros-replicate}
 use Rattle.guard.specs.Command.{Language, original, translation}
 use Rattle.guard.specs.Entry.{entrySound}
-use Rattle.image.specs.Image.{
-  Card,
-  Cards,
-  text,
-  noCard,
-  shapeOk,
-  sizeOf,
-  headerSize,
-  entrySize,
-  header,
-  entryBytes,
-  pad,
-  bodies,
-  encode,
-  countOf,
-  roomOf,
-  cardAt,
-  decode,
-  sound,
-  fresh,
-  freshCards,
-}
-use Rattle.image.specs.Claims.{SoundReadsBack, GoodCard, GoodCards, GoodEncodes, OneImage, Fresh, FreshSound}
+use Rattle.image.specs.Image.{Card, text, noCard, shapeOk, sizeOf, headerSize, entrySize, header, entryBytes, pad, bodies, encode, countOf, cardAt, decode, sound, fresh, freshCards}
+use Rattle.image.specs.Claims.{SoundReadsBack, GoodCard, GoodCards, GoodEncodes, OneImage, FreshSound}
 use Rattle.image.proofs.Cards.{Bytes-encode, sound-encode, decode-encode}
 use Rattle.image.proofs.Encode.{length-header, length-encode}
 use Rattle.image.proofs.Bytes.{take-replicate}

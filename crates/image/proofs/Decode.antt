@@ -1,55 +1,24 @@
 -- What a sound image says: where its parts lie, and that its cards encode to the same bytes. Assumes nothing.
-use Prim.Native.Nat.{ℕ, zero, suc, _+_, _*_, _-_, _^_, _≤_, _<_}
+use Prim.Native.Nat.{ℕ, zero, suc, _+_, _*_, _≤_, _<_}
 use native.Mathlib.Omega.{arith}
 use native.Mathlib.Nat.{zero-add}
-use mathlib.Core.Path.{_≡_, refl, sym, ap, _∙_}
-use mathlib.Core.List.{List, [], _∷_, _++_}
-use mathlib.Core.Bool.{Bool, true, false}
+use mathlib.Core.Path.{_≡_, sym, ap, _∙_}
+use mathlib.Core.List.{List, _++_}
+use mathlib.Core.Bool.{true}
 use borrow.Author.Tests.{eqb-true}
-use lib.Dec.{T, eqb, lit≤, lit<}
-use lib.ListN.{length, take, drop, getD, replicate}
-use Rattle.endian.specs.Parts.{part, spread, table, every, zeros, Bytes}
+use lib.Dec.{T, lit≤, lit<}
+use lib.ListN.{length, getD, replicate}
+use Rattle.endian.specs.Parts.{part, spread, table, every, Bytes}
 use Rattle.endian.specs.Le.{le, toLe}
-use Rattle.endian.specs.Tests.{all}
 use Rattle.endian.proofs.Bytes.{Bytes-nil, Bytes-part, zeros-means}
 use Rattle.endian.proofs.Every.{every-out}
-use Rattle.endian.proofs.Le.{le-injective, le-part-bound, Bytes-toLe, length-toLe}
+use Rattle.endian.proofs.Le.{le-injective, le-part-bound, Bytes-toLe}
 use Rattle.endian.proofs.Parts.{length-part, part-part, part-join}
 use Rattle.endian.proofs.Spread.{spread-parts, length-table, getD-table}
 use Rattle.endian.proofs.Tests.{and-left, and-right, all-out, from-T, to-T}
 use Rattle.guard.specs.Command.{Language, original, translation, field}
 use Rattle.guard.specs.Entry.{entrySound, FitsEntry}
-use Rattle.image.specs.Image.{
-  Card,
-  Cards,
-  noCard,
-  shapeOk,
-  sizeOf,
-  mostBytes,
-  headerSize,
-  entrySize,
-  entryPlace,
-  bodyPlace,
-  magic,
-  version,
-  header,
-  entryBytes,
-  pad,
-  bodies,
-  encode,
-  countOf,
-  roomOf,
-  readEntry,
-  entryAt,
-  bodyAt,
-  text,
-  cardAt,
-  decode,
-  tailZero,
-  cardSound,
-  headerSound,
-  sound,
-}
+use Rattle.image.specs.Image.{Card, noCard, shapeOk, sizeOf, mostBytes, headerSize, entrySize, entryPlace, bodyPlace, magic, version, header, entryBytes, pad, bodies, encode, countOf, roomOf, readEntry, entryAt, bodyAt, text, cardAt, decode, tailZero, cardSound, headerSound, sound}
 use Rattle.image.specs.Claims.{GoodCard, GoodCards}
 use Rattle.image.proofs.Bytes.{part-whole, header-size, Lengths, lengths}
 use Rattle.image.proofs.Entry.{again, entryBytes-read, pad-read}

@@ -1,28 +1,16 @@
 -- The bytes of cards: how long they are, what stands where, and what writing an entry or a text makes of them. Assumes nothing.
-use Prim.Native.Nat.{ℕ, zero, suc, _+_, _*_, _-_, _^_, _≤_, _<_}
+use Prim.Native.Nat.{ℕ, zero, suc, _+_, _*_, _≤_, _<_}
 use native.Mathlib.Omega.{arith}
-use native.Mathlib.Nat.{zero-mul, one-mul, mul-le-mul-right}
+use native.Mathlib.Nat.{zero-mul, mul-le-mul-right}
 use lib.Dec.{lit≤}
 use mathlib.Core.Path.{_≡_, refl, sym, ap, _∙_}
-use mathlib.Core.List.{List, [], _∷_, _++_, append-assoc}
-use lib.ListN.{length, take, drop, getD, set, replicate, length-append, length-take, length-replicate, length-set}
+use mathlib.Core.List.{List, _++_}
+use lib.ListN.{length, getD, set, length-append, length-take, length-replicate, length-set}
 use lib.Seq.{set-set, getD-set-same}
 use Rattle.endian.specs.Parts.{part, splice, spread}
 use Rattle.endian.specs.Le.{le, toLe}
 use Rattle.endian.proofs.Le.{le-toLe}
-use Rattle.endian.proofs.Parts.{
-  length-part,
-  part-part,
-  part-append-left,
-  part-append-right,
-  part-middle,
-  splice-middle,
-  splice-append-left,
-  splice-append-right,
-  splice-within,
-  splice-part,
-  splice-whole,
-}
+use Rattle.endian.proofs.Parts.{part-part, part-append-left, part-append-right, splice-append-left, splice-append-right, splice-within, splice-part, splice-whole}
 use Rattle.endian.proofs.Spread.{length-spread, part-spread, splice-spread}
 use Rattle.guard.specs.declared.Entry.{Entry}
 use Rattle.image.specs.Image.{

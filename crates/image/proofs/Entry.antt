@@ -1,22 +1,20 @@
 -- An entry and its 32 bytes, a text and its body: each reads back to the other. Assumes nothing.
-use Prim.Native.Nat.{ℕ, zero, suc, _+_, _*_, _-_, _^_, _≤_, _<_}
+use Prim.Native.Nat.{ℕ, _+_, _-_, _≤_}
 use native.Mathlib.Omega.{arith}
 use mathlib.Core.Path.{_≡_, refl, sym, ap, _∙_}
-use mathlib.Core.List.{List, [], _∷_, _++_}
+use mathlib.Core.List.{List, _++_}
 use mathlib.Core.Bool.{true}
 use lib.ListN.{length, take, drop, replicate}
 use lib.Seq.{take-at, drop-at}
 use Rattle.endian.specs.Parts.{part, zeros, Bytes}
-use Rattle.endian.specs.Le.{le, toLe}
+use Rattle.endian.specs.Le.{toLe}
 use Rattle.endian.proofs.Bytes.{Bytes-part, zeros-means}
 use Rattle.endian.proofs.Le.{le-toLe, toLe-le}
 use Rattle.endian.proofs.Parts.{length-part, part-join}
 use Rattle.guard.specs.Command.{field}
 use Rattle.guard.specs.Entry.{FitsEntry}
 use Rattle.guard.specs.declared.Entry.{Entry}
-use Rattle.guard.specs.declared.Mark.{Mark}
-use Rattle.guard.specs.declared.Pair.{Pair}
-use Rattle.image.specs.Image.{entryBytes, entryPair, entryMark, entryCounts, readEntry, entrySize, pad}
+use Rattle.image.specs.Image.{entryBytes, readEntry, entrySize, pad}
 use Rattle.image.proofs.Bytes.{pad-text, part-whole}
 
 -- The entry that the bytes of an entry stand for.

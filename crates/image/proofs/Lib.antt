@@ -5,3 +5,4 @@ pub mod Entry
 pub mod Cards
 pub mod Decode
 pub mod Claims
+pub mod Cases

@@ -3,7 +3,7 @@
 use Prim.Native.Nat.{ℕ, _<_}
 use mathlib.Core.Path.{_≡_}
 use mathlib.Core.List.{List}
-use lib.ListN.{length, drop, getD, replicate}
+use lib.ListN.{length, drop, getD}
 use lib.Dec.{T}
 use Rattle.endian.specs.Parts.{Bytes}
 use Rattle.guard.specs.Command.{Language, original, translation}

@@ -1,9 +1,7 @@
 ghost use mathlib.Core.Path.{_≡_};
-ghost use mathlib.Core.List.{_++_};
 ghost use Prim.Native.Nat.{_+_, _-_, _≤_, _<_};
 ghost use lib.ListN.{length};
 ghost use Rattle.endian.specs.Parts.{part, splice, zeros};
-ghost use Rattle.endian.specs.Le.{toLe};
 ghost use Rattle.guard.specs.Entry.{entrySound};
 ghost use Rattle.image.specs.Image.{
   countOf,

@@ -1,11 +1,10 @@
 -- The entry first, since its lengths bound the tails; then the other three tests decide. Assumes nothing.
 use lib.Dec.{lit<}
 use native.Mathlib.Omega.{arith}
-use Rattle.image.specs.Image.{bodyPlace, countOf, roomOf, tailZero}
-use Rattle.image.proofs.Shape.{body-within}
-use Rattle.image.proofs.Bytes.{entry-fails, entry-holds, lengths}
+use Rattle.image.specs.Image.{tailZero}
+use Rattle.image.proofs.Bytes.{entry-fails, entry-holds, lengths, body-lies}
 use borrow.Author.Tests.{not-true, not-false}
-use mathlib.Core.Path.{_≡_, sym, _∙_}
+use mathlib.Core.Path.{sym, _∙_}
 use borrow.Author.Needs.{needs}
 use Rattle.image.proofs.inner.card_sound.Statement.{statement}
 use Rattle.image.proofs.inner.card_sound.Tie as tie
@@ -39,35 +38,17 @@ body-place-requires : tie.Need-body-place-requires
 body-place-requires c κs = search needs
 
 tail-zero-requires : tie.Need-tail-zero-requires
-tail-zero-requires c κs = let image = c .before .before .before .before .before .before .before .before .before .args .image .now in
-    let k = c .before .before .before .before .before .before .before .before .before .args .k in
-    let placed : c .body-place .result ≡ bodyPlace (countOf image) (roomOf image) k 0 =
-    c .body-place .ensures ∙ rw (c .before .before .before .before .before .before .room .ensures, c .before .before .before .before .before .before .before .count .ensures) in
-    omega (
-      arith,
-      placed,
-      c .before .before .before .before .before .before .room .ensures,
-      c .before .before .before .before .before .before .before .before .before .pre,
-      lengths _ _ (sym (c .before .before .before .before .entry-sound .ensures) ∙ not-false _ (c .before .before .before .if1 .left)),
-      body-within (countOf image) (roomOf image) k 0 (omega (arith, c .before .before .before .before .before .before .before .before .before .pre)) (lit< tt),
-    )
+tail-zero-requires c κs = let l = lengths _ _ (sym (c .before .before .before .before .entry-sound .ensures) ∙ not-false _ (c .before .before .before .if1 .left)) in
+    let given = c .before .before .before .before .before .before .before .before .before .pre in
+    (omega arith, body-lies _ (c .body-place .ensures) (c .before .before .before .before .before .before .before .count .ensures) (c .before .before .before .before .before .before .room .ensures) (given .0) (given .1) (lit< tt))
 
 body-place-requires-2 : tie.Need-body-place-requires-2
 body-place-requires-2 c κs = search needs
 
 tail-zero-requires-2 : tie.Need-tail-zero-requires-2
-tail-zero-requires-2 c κs = let image = c .before .before .before .before .before .before .before .before .before .before .before .args .image .now in
-    let k = c .before .before .before .before .before .before .before .before .before .before .before .args .k in
-    let placed : c .body-place2 .result ≡ bodyPlace (countOf image) (roomOf image) k 1 =
-    c .body-place2 .ensures ∙ rw (c .before .before .before .before .before .before .before .before .room .ensures, c .before .before .before .before .before .before .before .before .before .count .ensures) in
-    omega (
-      arith,
-      placed,
-      c .before .before .before .before .before .before .before .before .room .ensures,
-      c .before .before .before .before .before .before .before .before .before .before .before .pre,
-      lengths _ _ (sym (c .before .before .before .before .before .before .entry-sound .ensures) ∙ not-false _ (c .before .before .before .before .before .if1 .left)),
-      body-within (countOf image) (roomOf image) k 1 (omega (arith, c .before .before .before .before .before .before .before .before .before .before .before .pre)) (lit< tt),
-    )
+tail-zero-requires-2 c κs = let l = lengths _ _ (sym (c .before .before .before .before .before .before .entry-sound .ensures) ∙ not-false _ (c .before .before .before .before .before .if1 .left)) in
+    let given = c .before .before .before .before .before .before .before .before .before .before .before .pre in
+    (omega arith, body-lies _ (c .body-place2 .ensures) (c .before .before .before .before .before .before .before .before .before .count .ensures) (c .before .before .before .before .before .before .before .before .room .ensures) (given .0) (given .1) (lit< tt))
 
 returns-2 : tie.Need-returns-2
 unfolding tailZero

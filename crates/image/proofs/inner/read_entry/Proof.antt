@@ -2,7 +2,6 @@
 use mathlib.Core.Path.{refl}
 use Prim.Native.Nat.{_+_}
 use Rattle.image.proofs.Bytes.{cut}
-use Rattle.endian.specs.Parts.{part}
 use Rattle.image.specs.Image.{entryAt}
 use borrow.Author.Needs.{needs}
 use Rattle.image.proofs.inner.read_entry.Statement.{statement}

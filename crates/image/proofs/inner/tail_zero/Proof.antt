@@ -1,7 +1,6 @@
 -- The bytes past the text. Assumes nothing.
 use native.Mathlib.Omega.{arith}
 use Prim.Native.Nat.{_+_, _-_}
-use mathlib.Core.Path.{refl}
 use Rattle.image.proofs.Bytes.{cut}
 use borrow.Author.Needs.{needs}
 use Rattle.image.proofs.inner.tail_zero.Statement.{statement}

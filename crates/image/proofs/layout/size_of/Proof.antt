@@ -1,6 +1,6 @@
 -- The product of two numbers of two bytes fits. Assumes nothing.
 use Rattle.image.proofs.Shape.{product}
-use Prim.Native.Nat.{_+_, _*_}
+use Prim.Native.Nat.{_*_}
 use native.Mathlib.Omega.{arith}
 use borrow.Author.Needs.{needs}
 use Rattle.image.proofs.layout.size_of.Statement.{statement}
