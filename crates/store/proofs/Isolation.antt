@@ -32,25 +32,24 @@ accepted-card k e h = eqb-true (commandOf e .card) k (and-right (eqb (e .answer 
 -- A command that is not late is not below any command accepted before it for its card: its x, and its s if it is exclusive.
 module _ (k : ℕ) (c : Command) (before : List Event) (card : c .card ≡ k) (prompt : late before c ≡ false) (e : Event)
     (m : Among e before) (a : accepted k e ≡ true) where
-  at-card : accepted (c .card) e ≡ true
-  at-card = subst (λ (j : ℕ). accepted j e ≡ true) (sym card) a
+  -- No event before that is accepted for the card has a larger stamp on that side.
+  reaches : (side : Pair → ℕ) → any (λ (d : Event). accepted (c .card) d && ltb (side (verifier c)) (side (update (commandOf d)))) before ≡ false
+      → side (update (commandOf e)) ≤ side (verifier c)
+  reaches side quiet =
+      let at-card : accepted (c .card) e ≡ true = subst (λ (j : ℕ). accepted j e ≡ true) (sym card) a in
+      let larger : Event → Bool = λ (d : Event). accepted (c .card) d && ltb (side (verifier c)) (side (update (commandOf d))) in
+      ltb-false (side (verifier c)) (side (update (commandOf e)))
+      (sym (ap (λ (b : Bool). b && ltb (side (verifier c)) (side (update (commandOf e)))) at-card) ∙ none-means larger before .0 (not-in quiet) e m)
 
-  not-larger : (p : Bool) → (accepted (c .card) e && p) ≡ false → p ≡ false
-  not-larger p h = sym (ap (λ (b : Bool). b && p) at-card) ∙ h
+  on-time : (any (largerX (c .card) c) before ≡ false) × ((eqb (c .mode) exclusive && any (largerS (c .card) c) before) ≡ false)
+  on-time = or-fails (any (largerX (c .card) c) before) (eqb (c .mode) exclusive && any (largerS (c .card) c) before) prompt
 
   reaches-x : update (commandOf e) .x ≤ verifier c .x
-  reaches-x =
-      let quiet = or-fails (any (largerX (c .card) c) before) (eqb (c .mode) exclusive && any (largerS (c .card) c) before) prompt .0 in
-      ltb-false (verifier c .x) (update (commandOf e) .x)
-      (not-larger (ltb (verifier c .x) (update (commandOf e) .x)) (none-means (largerX (c .card) c) before .0 (not-in quiet) e m))
+  reaches-x = reaches (λ (p : Pair). p .x) (on-time .0)
 
   reaches-s : c .mode ≡ exclusive → update (commandOf e) .s ≤ verifier c .s
   reaches-s x =
-      let quiet = or-fails (any (largerX (c .card) c) before) (eqb (c .mode) exclusive && any (largerS (c .card) c) before) prompt .1 in
-      let calm : any (largerS (c .card) c) before ≡ false =
-      sym (ap (λ (b : Bool). b && any (largerS (c .card) c) before) (eq-eqb (c .mode) exclusive x)) ∙ quiet in
-      ltb-false (verifier c .s) (update (commandOf e) .s)
-      (not-larger (ltb (verifier c .s) (update (commandOf e) .s)) (none-means (largerS (c .card) c) before .0 (not-in calm) e m))
+      reaches (λ (p : Pair). p .s) (sym (ap (λ (b : Bool). b && any (largerS (c .card) c) before) (eq-eqb (c .mode) exclusive x)) ∙ on-time .1)
 
 -- The mode's own stamp.
 own-shared : (c : Command) → c .mode ≡ shared → own (c .mode) (update c) ≡ update c .s

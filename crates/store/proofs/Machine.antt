@@ -1,6 +1,6 @@
 -- A store as cards, without bytes: the same table and the same effects, and what its cards have to do with the events before.
 -- Assumes nothing.
-use Prim.Native.Nat.{ℕ, zero, suc, _+_, _≤_, _<_}
+use Prim.Native.Nat.{ℕ, zero, suc, _+_, _≤_, _<_, max}
 use native.Mathlib.Omega.{arith}
 use mathlib.Core.Path.{_≡_, refl, sym, subst, _∙_}
 use mathlib.Core.Logic.{_⊎_, inl, inr}
@@ -15,6 +15,7 @@ use Rattle.guard.specs.Command.{Language, original, translation, writes, update
 use Rattle.guard.specs.Judge.{behind, textLength, rows, raise, judged, replied}
 use Rattle.guard.specs.Table.{first, settled, applies}
 use Rattle.guard.specs.declared.Command.{Command}
+use Rattle.guard.specs.declared.Pair.{Pair}
 use Rattle.guard.proofs.Judge.{Accepted, accepted as passes}
 use Rattle.guard.proofs.Rules.{CommandRules}
 use Rattle.guard.proofs.Table.{unapplied, none-applies}
@@ -96,11 +97,15 @@ sized-step card c written e h (translation (suc t)) = refl
 
 -- ---- a card and the events before
 
+-- An accepted command for card k whose pair has, on one side, a stamp above n.
+abbrev above : (Pair → ℕ) → ℕ → ℕ → Event → Bool
+above side k n e = accepted k e && ltb n (side (update (commandOf e)))
+
 -- A stored card k, by the events before: which stamps its own are above, its mark, its texts and their lengths, and whether its translation is
 -- behind. No maximum and no count is needed.
 pub record Tied (before : List Event) (k : ℕ) (card : Card) : Type 0 where
-  pub s : (n : ℕ) → ltb n (card .entry .pair .s) ≡ any (λ (e : Event). accepted k e && ltb n (update (commandOf e) .s)) before
-  pub x : (n : ℕ) → ltb n (card .entry .pair .x) ≡ any (λ (e : Event). accepted k e && ltb n (update (commandOf e) .x)) before
+  pub s : (n : ℕ) → ltb n (card .entry .pair .s) ≡ any (above (λ (p : Pair). p .s) k n) before
+  pub x : (n : ℕ) → ltb n (card .entry .pair .x) ≡ any (above (λ (p : Pair). p .x) k n) before
   pub mark : card .entry .mark ≡ last (accepted k) (λ (e : Event). commandOf e .next) noMark before
   pub texts : (l : Language) → text l card ≡ lastText l before k
   pub lengths : Sized card
@@ -156,19 +161,11 @@ module _ (k : ℕ) (e : Event) (before : List Event) (card : Card) (h : accepted
   abbrev now : Card
   now = stepped card (commandOf e) (payload (e .sent .command))
 
-  step-s : (n : ℕ) → ltb n (now .entry .pair .s) ≡ any (λ (d : Event). accepted k d && ltb n (update (commandOf d) .s)) (e ∷ before)
-  unfolding stepped raise
-  step-s n =
-      ltb-max n (card .entry .pair .s) (update (commandOf e) .s)
-      ∙ or-comm (ltb n (card .entry .pair .s)) (ltb n (update (commandOf e) .s))
-      ∙ rw (h, t .s n)
-
-  step-x : (n : ℕ) → ltb n (now .entry .pair .x) ≡ any (λ (d : Event). accepted k d && ltb n (update (commandOf d) .x)) (e ∷ before)
-  unfolding stepped raise
-  step-x n =
-      ltb-max n (card .entry .pair .x) (update (commandOf e) .x)
-      ∙ or-comm (ltb n (card .entry .pair .x)) (ltb n (update (commandOf e) .x))
-      ∙ rw (h, t .x n)
+  -- The larger of an old stamp and the command's is above n exactly when one of the two is.
+  raised : (side : Pair → ℕ) (old n : ℕ) → ltb n old ≡ any (above side k n) before
+      → ltb n (max old (side (update (commandOf e)))) ≡ any (above side k n) (e ∷ before)
+  raised side old n tie =
+      ltb-max n old (side (update (commandOf e))) ∙ or-comm (ltb n old) (ltb n (side (update (commandOf e)))) ∙ rw (h, tie)
 
   step-mark : now .entry .mark ≡ last (accepted k) (λ (d : Event). commandOf d .next) noMark (e ∷ before)
   unfolding stepped raise
@@ -201,10 +198,11 @@ module _ (k : ℕ) (e : Event) (before : List Event) (card : Card) (h : accepted
       go (inr p) (inr q) = (rw (p, q, h) (rw (h, q) (t .behindness)), rw (p, q) (t .source))
 
   pub tied-step : Tied (e ∷ before) k now
+  unfolding stepped raise
   tied-step =
       record {
-        s = step-s;
-        x = step-x;
+        s = λ n. raised (λ (p : Pair). p .s) (card .entry .pair .s) n (t .s n);
+        x = λ n. raised (λ (p : Pair). p .x) (card .entry .pair .x) n (t .x n);
         mark = step-mark;
         texts = step-texts;
         lengths = sized-step card (commandOf e) (payload (e .sent .command)) long (t .lengths);
