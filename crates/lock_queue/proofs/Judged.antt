@@ -6,16 +6,17 @@ use mathlib.Core.List.{List, [], _∷_, map}
 use mathlib.Core.Bool.{Bool, true, false, cond, not, _&&_, _||_}
 use borrow.Author.Tests.{leb-true, le-leb, eqb-false, not-true, not-false}
 use lib.Dec.{T, leb, eqb}
+use lib.ListN.{drop}
 use Rattle.endian.proofs.Tests.{all-out, and-in, and-left, and-right, or-fails}
 use Rattle.endian.specs.Tests.{all, allFrom}
 use Rattle.guard.proofs.Table.{unapplied, none-applies, settled-new, settled-old}
 use Rattle.guard.specs.Stamp.{stampValid}
 use Rattle.guard.specs.declared.Pair.{Pair}
-use Rattle.guard.specs.Table.{Row, row, first, applies, settled}
+use Rattle.guard.specs.Table.{Row, row, first, applies, once, settled}
 use Rattle.lock_queue.proofs.Standing.{stands-below}
-use Rattle.lock_queue.specs.Queue.{State, mostPlaces, standing, desk, desks, firstPlace, stands, distinct, formed, within, queueChecks, good}
+use Rattle.lock_queue.specs.Queue.{State, mostPlaces, standing, desk, desks, firstPlace, stands, distinct, formed, within, queueChecks, good, joined, without}
 use Rattle.lock_queue.specs.Entries.{entriesGood}
-use Rattle.lock_queue.specs.Ask.{asking, leaving, answered, blank, askNumber, leaveNumber}
+use Rattle.lock_queue.specs.Requests.{asking, leaving, answered, blank, Request, asks, leaves, rows, sender, accepted, number, after, answer}
 use Rattle.lock_queue.specs.declared.Answer.{Answer}
 use Rattle.lock_queue.specs.declared.Waiting.{Waiting}
 
@@ -85,6 +86,23 @@ good-in lent q g =
         entriesGood largest ws ≡ true
     entries-in largest ws a b c = and-in (and-in a b) c
 
+-- The same, of a queue whose standing entries are known as a list.
+pub good-by : {lent : ℕ} (q : State) {ws : List Waiting} → standing q ≡ ws → 1 ≤ lent → lent ≤ mostPlaces → q .count ≤ lent →
+    stampValid (q .largest .s) ≡ true → stampValid (q .largest .x) ≡ true → all (map formed ws) ≡ true → distinct (desks ws) ≡ true →
+    all (map (within (q .largest)) ws) ≡ true → good lent q ≡ true
+good-by {lent} q e a b c s x f d w =
+    good-in lent q
+    (record {
+      some = a;
+      short = b;
+      counted = c;
+      s-valid = s;
+      x-valid = x;
+      all-formed = rw e f;
+      all-distinct = rw e d;
+      all-within = rw e w;
+    })
+
 pub good-count : (lent : ℕ) (q : State) → good lent q ≡ true → q .count ≤ mostPlaces
 good-count lent q e = let g = good-out lent q e in omega (arith, g .counted, g .short)
 
@@ -95,51 +113,68 @@ pub first-passed : (a : Bool) (n : ℕ) (rs : List Row) → (first (row a n ∷ 
 first-passed true n rs h = absurd (h refl)
 first-passed false n rs h = refl
 
-abbrev tail : List Row → List Row
-tail [] = []
-tail (r ∷ rs) = rs
-
 -- An answer that is not blank is not 10, so that the queue is good.
-pub shown-not-bad : (number : ℕ) → blank number ≡ false → number ≡ 10 → ⊥
-shown-not-bad number e = eqb-false number 10 (or-fails (eqb number 10) (eqb number 1) e .0)
+pub shown-not-bad : (n : ℕ) → blank n ≡ false → n ≡ 10 → ⊥
+shown-not-bad n e = eqb-false n 10 (or-fails (eqb n 10) (eqb n 1) e .0)
 
-pub ask-good : (lent : ℕ) (q : State) (new : Waiting) → (askNumber lent q new ≡ 10 → ⊥) → good lent q ≡ true
-unfolding askNumber
-ask-good lent q new h = not-false (good lent q) (first-passed (not (good lent q)) 10 (tail (asking lent q new)) h)
+module _ (lent : ℕ) (q : State) where
+  pub not-bad : (r : Request) → (number lent q r ≡ 10 → ⊥) → good lent q ≡ true
+  unfolding number
+  not-bad (asks new) h = not-false (good lent q) (first-passed (not (good lent q)) 10 (drop 1 (asking lent q new)) h)
+  not-bad (leaves d) h = not-false (good lent q) (first-passed (not (good lent q)) 10 (drop 1 (leaving lent q d)) h)
 
-pub leave-good : (lent : ℕ) (q : State) (d : ℕ) → (leaveNumber lent q d ≡ 10 → ⊥) → good lent q ≡ true
-unfolding leaveNumber
-leave-good lent q d h = not-false (good lent q) (first-passed (not (good lent q)) 10 (tail (leaving lent q d)) h)
+  pub each-once : (r : Request) → T (once (rows lent q r))
+  each-once (asks new) = tt
+  each-once (leaves d) = tt
 
--- An accepted one: no row applies.
-pub ask-none : (lent : ℕ) (q : State) (new : Waiting) → askNumber lent q new ≡ 0 → (n : ℕ) → applies n (asking lent q new) ≡ false
-unfolding askNumber
-ask-none lent q new e = none-applies (asking lent q new) (unapplied (asking lent q new) tt .0 e)
+  -- Accepted: no row applies.
+  pub no-row : (r : Request) → number lent q r ≡ 0 → (n : ℕ) → applies n (rows lent q r) ≡ false
+  unfolding number
+  no-row r e = none-applies (rows lent q r) (unapplied (rows lent q r) (each-once r) .0 e)
 
-pub leave-none : (lent : ℕ) (q : State) (d : ℕ) → leaveNumber lent q d ≡ 0 → (n : ℕ) → applies n (leaving lent q d) ≡ false
-unfolding leaveNumber
-leave-none lent q d e = none-applies (leaving lent q d) (unapplied (leaving lent q d) tt .0 e)
+  pub accepted-good : (r : Request) → number lent q r ≡ 0 → Good lent q
+  accepted-good r e = good-out lent q (not-bad r (λ bad. absurd (omega arith)))
 
-pub ask-room : (lent : ℕ) (q : State) (new : Waiting) → askNumber lent q new ≡ 0 → q .count < mostPlaces
-ask-room lent q new e =
-    let g = good-out lent q (not-false (good lent q) (ask-none lent q new e 10)) in
-    let room = eqb-false (q .count) lent (ask-none lent q new e 13) in
-    lt-of-le-ne' (q .count) lent mostPlaces (g .counted) (g .short) room
-  where
-    lt-of-le-ne' : (a b c : ℕ) → a ≤ b → b ≤ c → (a ≡ b → ⊥) → a < c
-    lt-of-le-ne' a b c h k r = omega arith
+  -- A queue whose answer is not blank has at most 32 entries.
+  pub shown-fits : (r : Request) {n : ℕ} → n ≡ number lent q r → blank n ≡ false → q .count ≤ mostPlaces
+  shown-fits r e shown = good-count lent q (not-bad r (λ bad. shown-not-bad _ shown (e ∙ bad)))
 
-pub leave-stands : (lent : ℕ) (q : State) (d : ℕ) → leaveNumber lent q d ≡ 0 → stands d (desks (standing q)) ≡ true
-leave-stands lent q d e = not-false (stands d (desks (standing q))) (leave-none lent q d e 15)
+  -- An accepted asker has a place, and one that leaves has had one.
+  pub ask-room : (new : Waiting) → number lent q (asks new) ≡ 0 → q .count < lent
+  ask-room new e =
+      let room = eqb-false (q .count) lent (no-row (asks new) e 13) in
+      below (q .count) lent (accepted-good (asks new) e .counted) room
+    where
+      below : (a b : ℕ) → a ≤ b → (a ≡ b → ⊥) → a < b
+      below a b h k = omega arith
 
-pub leave-room : (lent : ℕ) (q : State) (d : ℕ) → leaveNumber lent q d ≡ 0 → (q .count ≤ mostPlaces) × (firstPlace d (desks (standing q)) < q .count)
-leave-room lent q d e = (
-  good-count lent q (not-false (good lent q) (leave-none lent q d e 10)),
-  stands-below d (q .count) (q .places) (leave-stands lent q d e),
-)
+  pub ask-place : (new : Waiting) → number lent q (asks new) ≡ 0 → q .count < mostPlaces
+  ask-place new e = omega (arith, ask-room new e, accepted-good (asks new) e .short)
 
--- ---- the whole outcome, of asking and of leaving alike
+  pub leave-stands : (d : ℕ) → number lent q (leaves d) ≡ 0 → stands d (desks (standing q)) ≡ true
+  leave-stands d e = not-false (stands d (desks (standing q))) (no-row (leaves d) e 15)
 
-pub outcome : {n number d e : ℕ} (q next : State) {after : State} {ans : Answer} → n ≡ number → d ≡ e → after ≡ settled number next q → ans ≡ answered n d q after →
-    ans ≡ answered number e q (settled number next q)
-outcome q next p r s a = cc
+  pub leave-place : (d : ℕ) → number lent q (leaves d) ≡ 0 → (q .count ≤ mostPlaces) × (firstPlace d (desks (standing q)) < q .count)
+  leave-place d e = (
+    good-count lent q (not-bad (leaves d) (λ bad. absurd (omega arith))),
+    stands-below d (q .count) (q .places) (leave-stands d e),
+  )
+
+  pub accepted-fits : (r : Request) → number lent q r ≡ 0 → accepted r q .count ≤ mostPlaces
+  unfolding joined without
+  accepted-fits (asks new) e = omega (arith, ask-place new e)
+  accepted-fits (leaves d) e = omega (arith, leave-place d e .0)
+
+  -- ---- the whole outcome
+  module _ (r : Request) {n d : ℕ} {ans : Answer} (number-is : n ≡ number lent q r) (sender-is : d ≡ sender r) where
+    pub accepted-outcome : {s : State} → n ≡ 0 → s ≡ accepted r q → ans ≡ answered n d q s → (ans ≡ answer lent q r) × (s ≡ after lent q r)
+    unfolding answer after
+    accepted-outcome {s} e f a =
+        let now : s ≡ settled (number lent q r) (accepted r q) q = f ∙ sym (settled-new (accepted r q) q (sym number-is ∙ e)) in
+        (a ∙ rw (number-is, sender-is, now), now)
+
+    pub refused-outcome : (n ≡ 0 → ⊥) → ans ≡ answered n d q q → (ans ≡ answer lent q r) × (q ≡ after lent q r)
+    unfolding answer after
+    refused-outcome e a =
+        let now : q ≡ settled (number lent q r) (accepted r q) q = sym (settled-old (accepted r q) q (λ z. e (number-is ∙ z))) in
+        (a ∙ rw (number-is, sender-is) (ap (answered (number lent q r) (sender r) q) now), now)

@@ -1,3 +1,5 @@
 pub mod Queue
 pub mod Entries
-pub mod Ask
+pub mod Requests
+pub mod Claims
+pub mod Trials

@@ -1,13 +1,13 @@
 -- The lock queue of one card, as lists (the sheet, "The lock queue of one card"): who stands in it, who holds the lock, how many entries
 -- are looked at, and when a queue is good. Minuet: the lock manager's queue for one shared resource.
 -- Assumes nothing.
-use Prim.Native.Nat.{ℕ, zero, suc, _+_, _-_, max}
+use Prim.Native.Nat.{ℕ, zero, suc, _+_, _-_}
 use mathlib.Core.List.{List, [], _∷_, _++_, map}
 use mathlib.Core.Bool.{Bool, true, false, cond, not, _&&_, _||_}
 use lib.ListN.{length, take, drop, getD, set}
 use lib.Dec.{ltb, leb, eqb}
 use Rattle.endian.specs.Tests.{all}
-use Rattle.guard.specs.Stamp.{stampValid, deskOf, exclusive, sessionChecks}
+use Rattle.guard.specs.Stamp.{stampValid, deskOf, exclusive, sessionChecks, largerOfEach}
 use Rattle.guard.specs.Command.{noPair}
 use Rattle.guard.specs.declared.Pair.{Pair}
 use Rattle.lock_queue.specs.declared.Queue.{Queue}
@@ -118,7 +118,7 @@ joined new q =
     record {
       places = set (q .places) (q .count) new;
       count = q .count + 1;
-      largest = record { s = max (q .largest .s) (new .pair .s); x = max (q .largest .x) (new .pair .x) };
+      largest = largerOfEach (q .largest) (new .pair);
     }
 
 -- The standing entries without the desk's own.

@@ -4,7 +4,7 @@ ghost use mathlib.Core.List.{_∷_, [], _++_};
 ghost use Prim.Native.Nat.{_≤_, _<_};
 ghost use lib.ListN.{take, getD, set, drop};
 ghost use Rattle.lock_queue.specs.Queue.{state, mostPlaces, noWaiting, standing, desks, firstPlace, stands, looked, noExclusive, holds, removed, joined, without};
-ghost use Rattle.lock_queue.specs.Ask.{answered, blank};
+ghost use Rattle.lock_queue.specs.Requests.{answered, blank};
 ghost use Rattle.lock_queue.specs.Entries.{entriesGood, fitsBehind};
 use crate::Answer;
 use crate::Places;
@@ -145,10 +145,7 @@ pub fn joined(queue: Queue, new: Waiting) -> Queue
     Queue {
         places: put(stood, queue.count, new),
         count: queue.count + 1,
-        largest: Pair {
-            s: guard::larger(largest.s, pair.s),
-            x: guard::larger(largest.x, pair.x),
-        },
+        largest: guard::larger_of_each(largest, pair),
     }
 }
 

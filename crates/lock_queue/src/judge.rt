@@ -2,7 +2,7 @@ ghost use mathlib.Core.Path.{_≡_};
 ghost use Prim.Native.Nat.{_≤_};
 ghost use lib.ListN.{take};
 ghost use Rattle.lock_queue.specs.Queue.{state, mostPlaces, desks, already, good, full};
-ghost use Rattle.lock_queue.specs.Ask.{askNumber, leaveNumber};
+ghost use Rattle.lock_queue.specs.Requests.{asks, leaves, number};
 use crate::MOST_PLACES;
 use crate::Places;
 use crate::Queue;
@@ -41,7 +41,7 @@ fn full(lent: usize, count: usize) -> bool
 
 // The number for asking.
 pub fn ask_number(queue: Queue, lent: usize, new: Waiting) -> u8
-    ensures { λ r. ⌜ r ≡ askNumber lent (state queue) new ⌝ }
+    ensures { λ r. ⌜ r ≡ number lent (state queue) (asks new) ⌝ }
 {
     if !good(queue, lent) {
         return 10;
@@ -66,7 +66,7 @@ pub fn ask_number(queue: Queue, lent: usize, new: Waiting) -> u8
 
 // The number for leaving.
 pub fn leave_number(queue: Queue, lent: usize, desk: u32) -> u8
-    ensures { λ r. ⌜ r ≡ leaveNumber lent (state queue) desk ⌝ }
+    ensures { λ r. ⌜ r ≡ number lent (state queue) (leaves desk) ⌝ }
 {
     if !good(queue, lent) {
         return 10;

@@ -1,7 +1,7 @@
 // The lock queue of one card: desks ask for the lock and leave, and each answer says whether the desk holds it.
 ghost use mathlib.Core.Path.{_≡_};
 ghost use Rattle.lock_queue.specs.Queue.{state};
-ghost use Rattle.lock_queue.specs.Ask.{askAnswer, askAfter, leaveAnswer, leaveAfter};
+ghost use Rattle.lock_queue.specs.Requests.{asks, leaves, answer, after};
 use guard::Pair;
 
 mod inner;
@@ -43,7 +43,7 @@ pub struct Outcome {
 
 // A desk asks for the lock. `lent` is the number of places that the queue was given; a queue of more than 32 is bad.
 pub fn ask(queue: Queue, lent: usize, new: Waiting) -> Outcome
-    ensures { λ r. ⌜ (r .answer ≡ askAnswer lent (state queue) new) × (state (r .queue) ≡ askAfter lent (state queue) new) ⌝ }
+    ensures { λ r. ⌜ (r .answer ≡ answer lent (state queue) (asks new)) × (state (r .queue) ≡ after lent (state queue) (asks new)) ⌝ }
 {
     let number = judge::ask_number(queue, lent, new);
     let desk = guard::desk_of(new.mode, new.pair);
@@ -62,7 +62,7 @@ pub fn ask(queue: Queue, lent: usize, new: Waiting) -> Outcome
 
 // The desk and start `desk` leaves.
 pub fn leave(queue: Queue, lent: usize, desk: u32) -> Outcome
-    ensures { λ r. ⌜ (r .answer ≡ leaveAnswer lent (state queue) desk) × (state (r .queue) ≡ leaveAfter lent (state queue) desk) ⌝ }
+    ensures { λ r. ⌜ (r .answer ≡ answer lent (state queue) (leaves desk)) × (state (r .queue) ≡ after lent (state queue) (leaves desk)) ⌝ }
 {
     let number = judge::leave_number(queue, lent, desk);
     if number == 0 {

@@ -1,11 +1,10 @@
 -- Accepted: the queue is the joined one; refused: it is as it was. Assumes nothing.
-use native.Mathlib.Omega.{arith}
-use mathlib.Core.Path.{_≡_, sym, ap, _∙_}
-use Rattle.guard.proofs.Table.{settled-new, settled-old}
-use Rattle.lock_queue.specs.Queue.{state, joined}
-use Rattle.lock_queue.specs.Ask.{askAnswer, askAfter}
-use Rattle.lock_queue.proofs.Judged.{count-of, good-count, shown-not-bad, ask-good, ask-room, outcome}
+use mathlib.Core.Path.{_≡_, sym, ap, subst, _∙_}
 use borrow.Author.Needs.{needs}
+use Prim.Native.Nat.{ℕ, _≤_}
+use Rattle.lock_queue.specs.Queue.{State, state, mostPlaces}
+use Rattle.lock_queue.specs.Requests.{asks}
+use Rattle.lock_queue.proofs.Judged.{count-of, shown-fits, ask-place, accepted-fits, accepted-outcome, refused-outcome}
 use Rattle.lock_queue.proofs.ask.Statement.{statement}
 use Rattle.lock_queue.proofs.ask.Tie as tie
 
@@ -18,53 +17,49 @@ desk-of-requires c κs = search needs
 joined-requires : tie.Need-joined-requires
 joined-requires c κs =
     let start = c .before .before .before .args in
-    ask-room (start .lent) (state (start .queue)) (start .new) (sym (c .before .before .ask-number .ensures) ∙ c .if1 .taken)
+    ask-place (start .lent) (state (start .queue)) (start .new) (sym (c .before .before .ask-number .ensures) ∙ c .if1 .taken)
 
 answered-requires : tie.Need-answered-requires
-unfolding joined
 answered-requires c κs shown =
     let start = c .before .before .before .before .args in
-    let room = ask-room (start .lent) (state (start .queue)) (start .new) (sym (c .before .before .before .ask-number .ensures) ∙ c .before .if1 .taken) in
-    (omega arith, omega (arith, ap count-of (c .joined .ensures)))
+    let number = c .before .before .before .ask-number .ensures in (
+      shown-fits (start .lent) (state (start .queue)) (asks (start .new)) number shown,
+      subst
+          (λ (s : State). s .count ≤ mostPlaces)
+          (sym (c .joined .ensures))
+          (accepted-fits (start .lent) (state (start .queue)) (asks (start .new)) (sym number ∙ c .before .if1 .taken)),
+    )
 
 returns : tie.Need-returns
-unfolding askAnswer askAfter
 returns c =
     let start = c .before .before .before .before .before .args in
-    let after = c .before .joined .ensures ∙ sym (settled-new _ (state (start .queue)) (sym (c .before .before .before .before .ask-number .ensures) ∙ c .before .before .if1 .taken)) in (
-      outcome
-          (state (start .queue))
-          (joined (start .new) (state (start .queue)))
-          (c .before .before .before .before .ask-number .ensures)
-          (c .before .before .before .desk-of .ensures)
-          after
-          (c .answered .ensures),
-      after,
-    )
+    accepted-outcome
+    (start .lent)
+    (state (start .queue))
+    (asks (start .new))
+    (c .before .before .before .before .ask-number .ensures)
+    (c .before .before .before .desk-of .ensures)
+    (c .before .before .if1 .taken)
+    (c .before .joined .ensures)
+    (c .answered .ensures)
 
 answered-requires-2 : tie.Need-answered-requires-2
 answered-requires-2 c κs shown =
     let start = c .before .before .before .args in
-    let fits = good-count
-    (start .lent)
-    (state (start .queue))
-    (ask-good (start .lent) (state (start .queue)) (start .new) (λ e. shown-not-bad _ shown (c .before .before .ask-number .ensures ∙ e))) in
+    let fits = shown-fits (start .lent) (state (start .queue)) (asks (start .new)) (c .before .before .ask-number .ensures) shown in
     (fits, fits)
 
 returns-2 : tie.Need-returns-2
-unfolding askAnswer askAfter
 returns-2 c =
     let start = c .before .before .before .before .args in
-    let after = sym (settled-old (joined (start .new) (state (start .queue))) _ (λ e. c .before .if1 .left (c .before .before .before .ask-number .ensures ∙ e))) in (
-      outcome
-          (state (start .queue))
-          (joined (start .new) (state (start .queue)))
-          (c .before .before .before .ask-number .ensures)
-          (c .before .before .desk-of .ensures)
-          after
-          (c .answered2 .ensures),
-      after,
-    )
+    refused-outcome
+    (start .lent)
+    (state (start .queue))
+    (asks (start .new))
+    (c .before .before .before .ask-number .ensures)
+    (c .before .before .desk-of .ensures)
+    (c .before .if1 .left)
+    (c .answered2 .ensures)
 
 pub ask-spec : {M : Type 1} → statement M
 ask-spec =

@@ -1,5 +1,5 @@
 -- For 10 and 1 the zeros, else each field is a call's. Assumes nothing.
-use Rattle.lock_queue.specs.Ask.{answered}
+use Rattle.lock_queue.specs.Requests.{answered}
 use Rattle.lock_queue.proofs.inner.answered.Statement.{statement}
 use Rattle.lock_queue.proofs.inner.answered.Tie as tie
 

@@ -10,16 +10,12 @@ put-requires c κs = search needs
 add-t7 : tie.Need-add-t7
 add-t7 c = search needs
 
-larger-requires : tie.Need-larger-requires
-larger-requires c κs = search needs
-
-larger-requires-2 : tie.Need-larger-requires-2
-larger-requires-2 c κs = search needs
+larger-of-each-requires : tie.Need-larger-of-each-requires
+larger-of-each-requires c κs = search needs
 
 returns : tie.Need-returns
 unfolding joined
-returns c =
-    rw (c .before .before .before .put .ensures, c .before .larger .ensures, c .larger2 .ensures)
+returns c = rw (c .before .before .put .ensures, c .larger-of-each .ensures)
 
 pub joined-spec : {M : Type 1} → statement M
-joined-spec = tie.close (tie.spec put-requires add-t7 larger-requires larger-requires-2 returns)
+joined-spec = tie.close (tie.spec put-requires add-t7 larger-of-each-requires returns)

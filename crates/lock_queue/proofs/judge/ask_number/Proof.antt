@@ -2,7 +2,7 @@
 use mathlib.Core.Path.{sym, _∙_}
 use borrow.Author.Tests.{not-false}
 use Rattle.lock_queue.specs.Queue.{state}
-use Rattle.lock_queue.specs.Ask.{askNumber}
+use Rattle.lock_queue.specs.Requests.{number}
 use Rattle.lock_queue.proofs.Judged.{good-count}
 use borrow.Author.Needs.{needs}
 use Rattle.lock_queue.proofs.judge.ask_number.Statement.{statement}
@@ -12,7 +12,7 @@ good-requires : tie.Need-good-requires
 good-requires c κs = search needs
 
 returns : tie.Need-returns
-unfolding askNumber
+unfolding number
 returns c =
     rw (
       ← c .before .good2 .ensures,
@@ -23,7 +23,7 @@ session-ok-requires : tie.Need-session-ok-requires
 session-ok-requires c κs = search needs
 
 returns-2 : tie.Need-returns-2
-unfolding askNumber
+unfolding number
 returns-2 c =
     rw (
       ← c .before .before .before .before .good2 .ensures,
@@ -41,7 +41,7 @@ already-requires c κs =
     good-count (start .lent) (state (start .queue)) (sym (c .before .before .before .before .before .before .good2 .ensures) ∙ not-false _ (c .before .before .before .before .before .if1 .left))
 
 returns-3 : tie.Need-returns-3
-unfolding askNumber
+unfolding number
 returns-3 c =
     rw (
       ← c .before .before .before .before .before .before .before .before .good2 .ensures,
@@ -57,7 +57,7 @@ stale-requires : tie.Need-stale-requires
 stale-requires c κs = search needs
 
 returns-4 : tie.Need-returns-4
-unfolding askNumber
+unfolding number
 returns-4 c =
     rw (
       ← c .before .before .before .before .before .before .before .before .before .before .before .good2 .ensures,
@@ -75,7 +75,7 @@ full-requires : tie.Need-full-requires
 full-requires c κs = search needs
 
 returns-5 : tie.Need-returns-5
-unfolding askNumber
+unfolding number
 returns-5 c =
     rw (
       ← c .before .before .before .before .before .before .before .before .before .before .before .before .before .good2 .ensures,
@@ -92,7 +92,7 @@ returns-5 c =
     )
 
 returns-6 : tie.Need-returns-6
-unfolding askNumber
+unfolding number
 returns-6 c =
     rw (
       ← c .before .before .before .before .before .before .before .before .before .before .before .before .before .good2 .ensures,

@@ -2,7 +2,7 @@
 use mathlib.Core.Path.{sym, _∙_}
 use borrow.Author.Tests.{not-false}
 use Rattle.lock_queue.specs.Queue.{state}
-use Rattle.lock_queue.specs.Ask.{leaveNumber}
+use Rattle.lock_queue.specs.Requests.{number}
 use Rattle.lock_queue.proofs.Judged.{good-count}
 use borrow.Author.Needs.{needs}
 use Rattle.lock_queue.proofs.judge.leave_number.Statement.{statement}
@@ -12,7 +12,7 @@ good-requires : tie.Need-good-requires
 good-requires c κs = search needs
 
 returns : tie.Need-returns
-unfolding leaveNumber
+unfolding number
 returns c = rw (← c .before .good2 .ensures, c .if1 .taken)
 
 stands-requires : tie.Need-stands-requires
@@ -21,11 +21,11 @@ stands-requires c κs =
     good-count (start .lent) (state (start .queue)) (sym (c .before .before .good2 .ensures) ∙ not-false _ (c .before .if1 .left))
 
 returns-2 : tie.Need-returns-2
-unfolding leaveNumber
+unfolding number
 returns-2 c = rw (← c .before .before .before .before .good2 .ensures, c .before .before .before .if1 .left, ← c .before .stands .ensures, c .if2 .taken)
 
 returns-3 : tie.Need-returns-3
-unfolding leaveNumber
+unfolding number
 returns-3 c = rw (← c .before .before .before .before .good2 .ensures, c .before .before .before .if1 .left, ← c .before .stands .ensures, c .if2 .left)
 
 pub leave-number-spec : {M : Type 1} → statement M

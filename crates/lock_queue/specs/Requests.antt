@@ -46,22 +46,31 @@ answered number d entry exit =
       looked = cond (blank number) 0 (looked d (desks (standing entry)));
     }
 
--- Asking: the number, the queue as it then is, and the answer.
-unfoldable pub askNumber : ℕ → State → Waiting → ℕ
-askNumber lent q new = first (asking lent q new)
+-- What a desk can send: it asks, with its entry, or it leaves, naming its desk and start.
+pub data Request : Type 0 where
+  asks : Waiting → Request
+  leaves : ℕ → Request
 
-unfoldable pub askAfter : ℕ → State → Waiting → State
-askAfter lent q new = settled (askNumber lent q new) (joined new q) q
+abbrev pub rows : ℕ → State → Request → List Row
+rows lent q (asks new) = asking lent q new
+rows lent q (leaves d) = leaving lent q d
 
-unfoldable pub askAnswer : ℕ → State → Waiting → Answer
-askAnswer lent q new = answered (askNumber lent q new) (desk new) q (askAfter lent q new)
+-- The desk and start that the request is from.
+abbrev pub sender : Request → ℕ
+sender (asks new) = desk new
+sender (leaves d) = d
 
--- Leaving, the same.
-unfoldable pub leaveNumber : ℕ → State → ℕ → ℕ
-leaveNumber lent q d = first (leaving lent q d)
+-- The queue after an accepted request.
+abbrev pub accepted : Request → State → State
+accepted (asks new) q = joined new q
+accepted (leaves d) q = without d q
 
-unfoldable pub leaveAfter : ℕ → State → ℕ → State
-leaveAfter lent q d = settled (leaveNumber lent q d) (without d q) q
+-- A request on a queue of `lent` places: the number, the queue as it then is, and the answer.
+unfoldable pub number : ℕ → State → Request → ℕ
+number lent q r = first (rows lent q r)
 
-unfoldable pub leaveAnswer : ℕ → State → ℕ → Answer
-leaveAnswer lent q d = answered (leaveNumber lent q d) d q (leaveAfter lent q d)
+unfoldable pub after : ℕ → State → Request → State
+after lent q r = settled (number lent q r) (accepted r q) q
+
+unfoldable pub answer : ℕ → State → Request → Answer
+answer lent q r = answered (number lent q r) (sender r) q (after lent q r)
