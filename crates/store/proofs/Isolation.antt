@@ -5,10 +5,10 @@ use native.Mathlib.Omega.{arith}
 use mathlib.Core.Path.{_≡_, sym, ap, subst, _∙_}
 use mathlib.Core.Logic.{_⊎_, inl, inr}
 use mathlib.Core.List.{List, _∷_, _++_, map, reverse, append-assoc}
-use mathlib.Core.Bool.{Bool, true, false, not, _&&_, _||_, and-false}
+use mathlib.Core.Bool.{Bool, true, false, _&&_}
 use borrow.Author.Tests.{eqb-true, eq-eqb, ne-eqb, ltb-false}
 use lib.Dec.{eqb, ltb}
-use Rattle.endian.proofs.Tests.{never-both, cases, and-in, and-left, and-right, or-fails, not-in}
+use Rattle.endian.proofs.Tests.{from-T, to-false, cases, and-in, and-right, or-fails, not-in}
 use Rattle.guard.specs.Stamp.{shared, exclusive, deskStart, deskOf, own}
 use Rattle.guard.specs.Command.{verifier, update, session, Session}
 use Rattle.guard.specs.declared.Command.{Command}
@@ -16,18 +16,12 @@ use Rattle.guard.specs.declared.Pair.{Pair}
 use Rattle.store.specs.Words.{Sent, Event, any, none, commandOf, accepted, Proper, largerS, largerX, late, carries, sentFor, premise, OneSession, deskIn, intrudes}
 use Rattle.guard.proofs.Rules.{CommandRules}
 use Rattle.store.proofs.Formed.{formed-rules}
-use Rattle.store.proofs.Meaning.{Among, among-here, among-right, among-reverse, among-map, none-means, premise-means}
+use Rattle.store.proofs.Meaning.{Among, among-here, among-right, among-reverse, among-map, none-means, premise-means, accepted-means, Intruder, intrudes-means}
 
 -- What an accepted event is known to be by the events before it: it is proper, and not late.
 pub record Timely (n : ℕ) (e : Event) (before : List Event) : Type 0 where
   pub proper : Proper n e
   pub prompt : late before (commandOf e) ≡ false
-
-accepted-number : (k : ℕ) (e : Event) → accepted k e ≡ true → e .answer .number ≡ 0
-accepted-number k e h = eqb-true (e .answer .number) 0 (and-left (eqb (e .answer .number) 0) (eqb (commandOf e .card) k) h)
-
-accepted-card : (k : ℕ) (e : Event) → accepted k e ≡ true → commandOf e .card ≡ k
-accepted-card k e h = eqb-true (commandOf e .card) k (and-right (eqb (e .answer .number) 0) (eqb (commandOf e .card) k) h)
 
 -- A command that is not late is not below any command accepted before it for its card: its x, and its s if it is exclusive.
 module _ (k : ℕ) (c : Command) (before : List Event) (card : c .card ≡ k) (prompt : late before c ≡ false) (e : Event)
@@ -91,32 +85,32 @@ module _ (n : ℕ) (sent : List Sent) (log : List Event) (whole : map (λ (e : E
       (log-is : log ≡ later ++ b ∷ (m₁ ++ e ∷ (m₂ ++ a ∷ before))) (by-b : accepted k b ≡ true) (by-e : accepted k e ≡ true) (by-a : accepted k a ≡ true)
       (one : OneSession a b) where
     time-b : Timely n b (m₁ ++ e ∷ (m₂ ++ a ∷ before))
-    time-b = timely later b (m₁ ++ e ∷ (m₂ ++ a ∷ before)) log-is (accepted-number k b by-b)
+    time-b = timely later b (m₁ ++ e ∷ (m₂ ++ a ∷ before)) log-is (accepted-means k b .0 by-b .0)
 
     e-in : log ≡ (later ++ b ∷ m₁) ++ e ∷ (m₂ ++ a ∷ before)
     e-in = log-is ∙ sym (append-assoc later (b ∷ m₁) (e ∷ (m₂ ++ a ∷ before)))
 
     time-e : Timely n e (m₂ ++ a ∷ before)
-    time-e = timely (later ++ b ∷ m₁) e (m₂ ++ a ∷ before) e-in (accepted-number k e by-e)
+    time-e = timely (later ++ b ∷ m₁) e (m₂ ++ a ∷ before) e-in (accepted-means k e .0 by-e .0)
 
     same-pair : update (commandOf a) ≡ update (commandOf b)
     same-pair = ap (λ (s : Session). s .pair) one
 
     e-x : update (commandOf e) .x ≡ update (commandOf b) .x
     e-x =
-        let up = reaches-x k (commandOf b) (m₁ ++ e ∷ (m₂ ++ a ∷ before)) (accepted-card k b by-b) (time-b .prompt) e (among-right m₁ (among-here e (m₂ ++ a ∷ before))) by-e in
-        let low = reaches-x k (commandOf e) (m₂ ++ a ∷ before) (accepted-card k e by-e) (time-e .prompt) a (among-right m₂ (among-here a before)) by-a in
+        let up = reaches-x k (commandOf b) (m₁ ++ e ∷ (m₂ ++ a ∷ before)) (accepted-means k b .0 by-b .1) (time-b .prompt) e (among-right m₁ (among-here e (m₂ ++ a ∷ before))) by-e in
+        let low = reaches-x k (commandOf e) (m₂ ++ a ∷ before) (accepted-means k e .0 by-e .1) (time-e .prompt) a (among-right m₂ (among-here a before)) by-a in
         let same : update (commandOf a) .x ≡ update (commandOf b) .x = ap (λ (p : Pair). p .x) same-pair in
         omega arith
 
     -- The two are not below one another, as their modes ask.
     e-below-b : commandOf b .mode ≡ exclusive → update (commandOf e) .s ≤ update (commandOf b) .s
     e-below-b x =
-        reaches-s k (commandOf b) (m₁ ++ e ∷ (m₂ ++ a ∷ before)) (accepted-card k b by-b) (time-b .prompt) e (among-right m₁ (among-here e (m₂ ++ a ∷ before))) by-e x
+        reaches-s k (commandOf b) (m₁ ++ e ∷ (m₂ ++ a ∷ before)) (accepted-means k b .0 by-b .1) (time-b .prompt) e (among-right m₁ (among-here e (m₂ ++ a ∷ before))) by-e x
 
     b-below-e : commandOf e .mode ≡ exclusive → update (commandOf b) .s ≤ update (commandOf e) .s
     b-below-e x =
-        let low = reaches-s k (commandOf e) (m₂ ++ a ∷ before) (accepted-card k e by-e) (time-e .prompt) a (among-right m₂ (among-here a before)) by-a x in
+        let low = reaches-s k (commandOf e) (m₂ ++ a ∷ before) (accepted-means k e .0 by-e .1) (time-e .prompt) a (among-right m₂ (among-here a before)) by-a x in
         let same : update (commandOf a) .s ≡ update (commandOf b) .s = ap (λ (p : Pair). p .s) same-pair in
         omega arith
 
@@ -144,30 +138,22 @@ module _ (n : ℕ) (sent : List Sent) (log : List Event) (whole : map (λ (e : E
 
     -- Where one of the two is exclusive, they are of one desk.
     one-desk : (commandOf b .mode ≡ shared) ⊎ (commandOf b .mode ≡ exclusive) → (commandOf e .mode ≡ shared) ⊎ (commandOf e .mode ≡ exclusive)
-        → (eqb (commandOf b .mode) exclusive || eqb (commandOf e .mode) exclusive) ≡ true
+        → (commandOf b .mode ≡ exclusive) ⊎ (commandOf e .mode ≡ exclusive)
         → deskIn e ≡ deskIn b
-    one-desk (inl hb) (inl he) some = absurd (never-both some (rw (hb, he)))
-    one-desk (inl hb) (inr he) some =
+    one-desk (inl hb) (inl he) (inl x) = absurd (omega arith)
+    one-desk (inl hb) (inl he) (inr x) = absurd (omega arith)
+    one-desk (inl hb) (inr he) mixed =
         sym
         (meets (commandOf b) (commandOf e) rules-e hb he (sym e-x) (b-below-e he)
         (ordered b e b-among e-among (time-b .proper) (time-e .proper) by-b by-e he e-x))
-    one-desk (inr hb) (inl he) some =
+    one-desk (inr hb) (inl he) mixed =
         meets (commandOf e) (commandOf b) rules-b he hb e-x (e-below-b hb)
         (ordered e b e-among b-among (time-e .proper) (time-b .proper) by-e by-b hb (sym e-x))
-    one-desk (inr hb) (inr he) some =
+    one-desk (inr hb) (inr he) mixed =
         ap deskStart (own-exclusive (commandOf e) he ∙ e-x ∙ sym (own-exclusive (commandOf b) hb))
 
-    peaceful : intrudes k b e ≡ false
-    peaceful = go (cases (eqb (commandOf b .mode) exclusive || eqb (commandOf e .mode) exclusive))
-      where
-        mixed : Bool
-        mixed = eqb (commandOf b .mode) exclusive || eqb (commandOf e .mode) exclusive
-
-        go : (mixed ≡ true) ⊎ (mixed ≡ false) → intrudes k b e ≡ false
-        go (inl h) =
-            let same = eq-eqb (deskIn e) (deskIn b) (one-desk (rules-b .session .mode) (rules-e .session .mode) h) in
-            rw (same, and-false (accepted k e))
-        go (inr h) = rw h (and-false (accepted k e && not (eqb (deskIn e) (deskIn b))))
+    peaceful : Intruder k b e → ⊥
+    peaceful i = i .desk (one-desk (rules-b .session .mode) (rules-e .session .mode) (i .mixed))
 
   pub isolated : (k : ℕ) (later : List Event) (b : Event) (between : List Event) (a : Event) (before : List Event)
       → premise k sent ≡ true
@@ -179,7 +165,7 @@ module _ (n : ℕ) (sent : List Sent) (log : List Event) (whole : map (λ (e : E
   isolated k later b between a before holds log-is by-a by-b one = none-means (intrudes k b) between .1 each
     where
       each : (e : Event) → Among e between → intrudes k b e ≡ false
-      each e m = go (cases (accepted k e))
+      each e m = to-false (intrudes k b e) (λ h. alone (intrudes-means k b e .0 (from-T (intrudes k b e) h)))
         where
           parts : log ≡ later ++ b ∷ (m .front ++ e ∷ (m .back ++ a ∷ before))
           parts =
@@ -187,6 +173,6 @@ module _ (n : ℕ) (sent : List Sent) (log : List Event) (whole : map (λ (e : E
               ∙ ap (λ (l : List Event). later ++ b ∷ l)
               (ap (λ (l : List Event). l ++ a ∷ before) (m .split) ∙ append-assoc (m .front) (e ∷ m .back) (a ∷ before))
 
-          go : (accepted k e ≡ true) ⊎ (accepted k e ≡ false) → intrudes k b e ≡ false
-          go (inl h) = peaceful k b e a later (m .front) (m .back) before holds parts by-b h by-a one
-          go (inr h) = rw h
+          alone : Intruder k b e → ⊥
+          alone i =
+              peaceful k b e a later (m .front) (m .back) before holds parts by-b (accepted-means k e .1 (i .accepted, i .card)) by-a one i

@@ -1,14 +1,18 @@
 -- The words on lists mean what they read like. Assumes nothing.
-use Prim.Native.Nat.{ℕ, _<_}
+use Prim.Native.Nat.{ℕ, _<_, _%_}
+use native.Mathlib.Omega.{arith}
 use mathlib.Core.Path.{_≡_, refl, sym, ap, _∙_}
 use mathlib.Core.Logic.{_↔_, _⊎_, inl, inr}
 use mathlib.Core.List.{List, [], _∷_, _++_, map, reverse, append-assoc, reverse-append, reverse-cons, reverse-reverse}
 use mathlib.Core.Bool.{Bool, true, false, not, _&&_, _||_, or-assoc}
-use borrow.Author.Tests.{not-true, not-false, ltb-true, lt-ltb}
-use lib.Dec.{ltb}
-use Rattle.endian.proofs.Tests.{never-both, cases, and-left, and-right, or-left, or-right, or-fails, not-in}
-use Rattle.guard.specs.Command.{fieldsOf, update}
-use Rattle.store.specs.Words.{Sent, any, none, since, last, sentFor, carries, under, breaks, premise}
+use borrow.Author.Tests.{not-true, not-false, ltb-true, lt-ltb, eqb-true, eqb-false, eq-eqb, ne-eqb}
+use lib.Dec.{eqb, ltb}
+use Rattle.endian.proofs.Tests.{never-both, cases, and-in, and-left, and-right, or-left, or-right, or-cases, or-fails, not-in}
+use Rattle.guard.specs.Command.{fieldsOf, verifier, update}
+use Rattle.guard.specs.Stamp.{exclusive, deskNumber, deskStart, deskOf}
+use Rattle.guard.specs.declared.Command.{Command}
+use Rattle.guard.specs.declared.Pair.{Pair}
+use Rattle.store.specs.Words.{Sent, Event, any, none, since, last, commandOf, accepted, largerS, largerX, late, sentFor, carries, under, breaks, premise, deskIn, intrudes}
 
 module _ {A : Type 0} where
   -- The element stands in the list.
@@ -204,3 +208,109 @@ module _ (k : ℕ) (sent : List Sent) where
               go (inl e) =
                   let found = any-means (against a) sent .0 (and-right (sentFor k a) (any (against a) sent) e) in
                   absurd (pair a (found .0) m (found .1) (and-left (sentFor k a) (any (against a) sent) e) (found .2))
+
+-- ---- the words on events
+
+-- A command comes late: an earlier accepted command for its card has a larger x, or, where it is exclusive itself, a larger s.
+pub record Overtakes (c : Command) (e : Event) : Type 0 where
+  pub accepted : e .answer .number ≡ 0
+  pub card : commandOf e .card ≡ c .card
+  pub larger : (verifier c .x < update (commandOf e) .x) ⊎ ((c .mode ≡ exclusive) × (verifier c .s < update (commandOf e) .s))
+
+pub accepted-means : (k : ℕ) (e : Event) → (accepted k e ≡ true) ↔ ((e .answer .number ≡ 0) × (commandOf e .card ≡ k))
+accepted-means k e = (
+  λ h. (
+    eqb-true (e .answer .number) 0 (and-left (eqb (e .answer .number) 0) (eqb (commandOf e .card) k) h),
+    eqb-true (commandOf e .card) k (and-right (eqb (e .answer .number) 0) (eqb (commandOf e .card) k) h),
+  ),
+  λ h. and-in (eq-eqb (e .answer .number) 0 (h .0)) (eq-eqb (commandOf e .card) k (h .1)),
+)
+
+pub late-means : (before : List Event) (c : Command) → (late before c ≡ true) ↔ ((e : Event) × Among e before × Overtakes c e)
+late-means before c = (out, λ h. back (h .0) (h .1) (h .2) (h .2 .larger))
+  where
+    larger : (side : Pair → ℕ) → Event → Bool
+    larger side e = accepted (c .card) e && ltb (side (verifier c)) (side (update (commandOf e)))
+
+    parts : (side : Pair → ℕ) (e : Event) → larger side e ≡ true
+        → (e .answer .number ≡ 0) × (commandOf e .card ≡ c .card) × (side (verifier c) < side (update (commandOf e)))
+    parts side e h =
+        let both = accepted-means (c .card) e .0 (and-left (accepted (c .card) e) (ltb (side (verifier c)) (side (update (commandOf e)))) h) in (
+          both .0,
+          both .1,
+          ltb-true (side (verifier c)) (side (update (commandOf e)))
+              (and-right (accepted (c .card) e) (ltb (side (verifier c)) (side (update (commandOf e)))) h),
+        )
+
+    out : late before c ≡ true → (e : Event) × Among e before × Overtakes c e
+    out h = go (or-cases (any (largerX (c .card) c) before) (eqb (c .mode) exclusive && any (largerS (c .card) c) before) h)
+      where
+        go : (any (largerX (c .card) c) before ≡ true) ⊎ ((eqb (c .mode) exclusive && any (largerS (c .card) c) before) ≡ true)
+            → (e : Event) × Among e before × Overtakes c e
+        go (inl x) =
+            let found = any-means (largerX (c .card) c) before .0 x in
+            let known = parts (λ (p : Pair). p .x) (found .0) (found .2) in
+            (found .0, found .1, record { accepted = known .0; card = known .1; larger = inl (known .2) })
+        go (inr y) =
+            let s = and-right (eqb (c .mode) exclusive) (any (largerS (c .card) c) before) y in
+            let found = any-means (largerS (c .card) c) before .0 s in
+            let known = parts (λ (p : Pair). p .s) (found .0) (found .2) in
+            let mode = eqb-true (c .mode) exclusive (and-left (eqb (c .mode) exclusive) (any (largerS (c .card) c) before) y) in
+            (found .0, found .1, record { accepted = known .0; card = known .1; larger = inr (mode, known .2) })
+
+    back : (e : Event) → Among e before → Overtakes c e
+        → (verifier c .x < update (commandOf e) .x) ⊎ ((c .mode ≡ exclusive) × (verifier c .s < update (commandOf e) .s))
+        → late before c ≡ true
+    back e m o (inl x) =
+        or-left (eqb (c .mode) exclusive && any (largerS (c .card) c) before)
+        (any-here (largerX (c .card) c) m
+        (and-in (accepted-means (c .card) e .1 (o .accepted, o .card)) (lt-ltb (verifier c .x) (update (commandOf e) .x) x)))
+    back e m o (inr y) =
+        or-right (any (largerX (c .card) c) before)
+        (and-in (eq-eqb (c .mode) exclusive (y .0))
+        (any-here (largerS (c .card) c) m
+        (and-in (accepted-means (c .card) e .1 (o .accepted, o .card)) (lt-ltb (verifier c .s) (update (commandOf e) .s) (y .1)))))
+
+-- Two stamps have one desk and start: the 16 bits of the desk and the 16 bits of the start are equal.
+pub desk-and-start : (m n : ℕ) → (deskStart m ≡ deskStart n) ↔ ((deskNumber m ≡ deskNumber n) × (m % 65536 ≡ n % 65536))
+desk-and-start m n = (λ e. omega arith, λ h. omega arith)
+
+-- An event intrudes: accepted for the card, of another desk or start than b's, and one of the two is exclusive.
+pub record Intruder (k : ℕ) (b e : Event) : Type 0 where
+  pub accepted : e .answer .number ≡ 0
+  pub card : commandOf e .card ≡ k
+  pub desk : deskOf (commandOf e .mode) (update (commandOf e)) ≡ deskOf (commandOf b .mode) (update (commandOf b)) → ⊥
+  pub mixed : (commandOf b .mode ≡ exclusive) ⊎ (commandOf e .mode ≡ exclusive)
+
+pub intrudes-means : (k : ℕ) (b e : Event) → (intrudes k b e ≡ true) ↔ Intruder k b e
+intrudes-means k b e = (out, back)
+  where
+    other : Bool
+    other = not (eqb (deskIn e) (deskIn b))
+
+    mixed : Bool
+    mixed = eqb (commandOf b .mode) exclusive || eqb (commandOf e .mode) exclusive
+
+    by-mode : (eqb (commandOf b .mode) exclusive ≡ true) ⊎ (eqb (commandOf e .mode) exclusive ≡ true)
+        → (commandOf b .mode ≡ exclusive) ⊎ (commandOf e .mode ≡ exclusive)
+    by-mode (inl h) = inl (eqb-true (commandOf b .mode) exclusive h)
+    by-mode (inr h) = inr (eqb-true (commandOf e .mode) exclusive h)
+
+    to-mixed : (commandOf b .mode ≡ exclusive) ⊎ (commandOf e .mode ≡ exclusive) → mixed ≡ true
+    to-mixed (inl h) = or-left (eqb (commandOf e .mode) exclusive) (eq-eqb (commandOf b .mode) exclusive h)
+    to-mixed (inr h) = or-right (eqb (commandOf b .mode) exclusive) (eq-eqb (commandOf e .mode) exclusive h)
+
+    out : intrudes k b e ≡ true → Intruder k b e
+    out h =
+        let front = and-left (accepted k e && other) mixed h in
+        let known = accepted-means k e .0 (and-left (accepted k e) other front) in
+        record {
+          accepted = known .0;
+          card = known .1;
+          desk = eqb-false (deskIn e) (deskIn b) (not-true (eqb (deskIn e) (deskIn b)) (and-right (accepted k e) other front));
+          mixed = by-mode (or-cases (eqb (commandOf b .mode) exclusive) (eqb (commandOf e .mode) exclusive) (and-right (accepted k e && other) mixed h));
+        }
+
+    back : Intruder k b e → intrudes k b e ≡ true
+    back i =
+        and-in (and-in (accepted-means k e .1 (i .accepted, i .card)) (not-in (ne-eqb (deskIn e) (deskIn b) (i .desk)))) (to-mixed (i .mixed))

@@ -5,7 +5,7 @@ use mathlib.Core.Path.{_≡_}
 use mathlib.Core.List.{List, [], _∷_, reverse}
 use mathlib.Core.Bool.{Bool, true, false, cond, not, _&&_, _||_}
 use lib.Dec.{ltb, eqb}
-use Rattle.guard.specs.Stamp.{shared, exclusive, deskStart, deskOf}
+use Rattle.guard.specs.Stamp.{shared, exclusive, deskStart}
 use Rattle.guard.specs.Command.{Language, original, translation, writes, verifier, update, fieldsOf, payload, formed, session, noMark}
 use Rattle.guard.specs.Judge.{markFits}
 use Rattle.guard.specs.declared.Answer.{Answer}
@@ -133,9 +133,9 @@ premise k sent =
 abbrev pub OneSession : Event → Event → Type 0
 OneSession a b = session (commandOf a) ≡ session (commandOf b)
 
--- The desk of an event's command.
+-- The desk of an event's command: its session's.
 abbrev pub deskIn : Event → ℕ
-deskIn e = deskOf (commandOf e .mode) (update (commandOf e))
+deskIn e = session (commandOf e) .desk
 
 -- An accepted command for card k of another desk than b's that does not go together with b: one of the two is exclusive.
 abbrev pub intrudes : ℕ → Event → Event → Bool
