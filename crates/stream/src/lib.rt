@@ -1,6 +1,7 @@
 // A stream: commands end to end.
 ghost use mathlib.Core.Path.{_≡_};
 ghost use Rattle.stream.specs.Stream.{nextAt, endOf};
+ghost use Rattle.stream.specs.Reader.{begun, movedTo};
 use endian::inner::read_u16;
 use guard::FIXED;
 
@@ -42,4 +43,43 @@ pub fn end_of(stream: &[u8]) -> usize
         };
         at = end;
     }
+}
+
+// A reader: the lent stream, and the place that it has come to.
+pub struct Reader<'a> {
+    pub stream: &'a [u8],
+    pub at: usize,
+}
+
+impl<'a> Reader<'a> {
+    // A reader at the stream's first byte.
+    pub fn new(stream: &'a [u8]) -> Reader<'a>
+        ensures { λ r. ⌜ r ≡ begun (stream .entry) ⌝ }
+    {
+        Reader { stream, at: 0 }
+    }
+
+    // The next command: what stands at the reader's place.
+    pub fn next(self) -> Next
+        ensures { λ n. ⌜ n ≡ nextAt (now (self .entry .stream)) (self .entry .at) ⌝ }
+    {
+        next_at(self.stream, self.at)
+    }
+
+    // The reader at another place of its stream.
+    pub fn moved(self, at: usize) -> Reader<'a>
+        ensures { λ r. ⌜ r ≡ movedTo (self .entry) at ⌝ }
+    {
+        Reader {
+            stream: self.stream,
+            at,
+        }
+    }
+}
+
+// What a reader that was moved to a place finds there.
+pub fn read_at(stream: &[u8], at: usize) -> Next
+    ensures { λ r. ⌜ r ≡ nextAt (now (stream .entry)) at ⌝ }
+{
+    Reader::new(stream).moved(at).next()
 }
