@@ -1,17 +1,20 @@
 -- The claims of specs/Claims, proved. Assumes nothing.
 use Prim.Native.Nat.{ℕ, zero, suc, _+_, _-_, _*_, _/_, _≤_, _<_, zero-le, suc-le-suc}
 use native.Mathlib.Omega.{arith}
-use native.Mathlib.Nat.{not-suc-le-zero, le-of-suc-le-suc}
+use native.Mathlib.Nat.{zero-add, suc-add, not-suc-le-zero, le-of-suc-le-suc}
 use mathlib.Core.Path.{_≡_, refl, sym, ap, _∙_}
 use mathlib.Core.List.{List, [], _∷_, _++_, append-assoc}
 use mathlib.Core.Bool.{Bool, true, false}
 use lib.ListN.{length, take, drop, getD, length-drop, length-append, take-append-drop}
 use lib.Seq.{length-take-le, drop-drop, take-at, drop-at, take-suc, take-length, drop-cons}
+use denote.Ref.{RefT, now}
 use Rattle.endian.specs.Parts.{part, spread}
 use Rattle.endian.proofs.Spread.{spread-append}
 use Rattle.guard.specs.Command.{fixed, field}
-use Rattle.stream.specs.Stream.{extent, whole, nextAt, commands, endOf, endToEnd, placeOf}
-use Rattle.stream.specs.Claims.{OneCommand, Parts, First, Back, Stepping, Visits, Claims}
+use Rattle.stream.specs.Stream.{extent, whole, nextAt, onward, commands, endOf, endToEnd, placeOf}
+use Rattle.stream.specs.Claims.{OneCommand, Parts, First, Back, Stepping, Visits, Reads, Claims}
+use Rattle.stream.specs.Reader.{begun, movedTo, passed, steps}
+use Rattle.stream.specs.declared.Next.{Next}
 use Rattle.stream.specs.declared.Next.the-variants.{Whole, Cut}
 use Rattle.stream.proofs.Place.{extent-fixed, extent-take, extent-append, whole-in, whole-out, next-whole, next-cut, Stands, says-whole, says-cut}
 use Rattle.stream.proofs.Commands.{commands-whole, commands-cut, end-length, end-whole, end-cut, along}
@@ -191,5 +194,34 @@ visits s =
       stops = next-cut s (endOf s) (stopped s);
     }
 
+-- ---- a reader
+
+module _ (stream : RefT (List ℕ)) where
+  reads-stands : (i : ℕ) → i ≤ length (commands (now stream)) → steps i (begun stream) ≡ movedTo (begun stream) (placeOf (now stream) i)
+  unfolding steps placeOf spread
+  reads-stands zero h = refl
+  reads-stands (suc i) h =
+      ap passed (reads-stands i (omega arith))
+      ∙ ap (λ (n : Next). movedTo (begun stream) (onward (placeOf (now stream) i) n)) (visits (now stream) .goes i (omega arith))
+
+  -- So many steps past the last command.
+  reads-stays : (n : ℕ) → steps (n + length (commands (now stream))) (begun stream) ≡ movedTo (begun stream) (endOf (now stream))
+  unfolding steps
+  reads-stays zero =
+      ap (λ (i : ℕ). steps i (begun stream)) (zero-add (length (commands (now stream))))
+      ∙ reads-stands (length (commands (now stream))) (omega arith)
+      ∙ ap (movedTo (begun stream)) (visits (now stream) .arrives)
+  reads-stays (suc n) =
+      ap (λ (i : ℕ). steps i (begun stream)) (suc-add n (length (commands (now stream))))
+      ∙ ap passed (reads-stays n)
+      ∙ ap (λ (a : Next). movedTo (begun stream) (onward (endOf (now stream)) a)) (visits (now stream) .stops)
+
+  reads : Reads stream
+  reads =
+      record {
+        stands = reads-stands;
+        ends = λ i h. let past : i ≡ i - length (commands (now stream)) + length (commands (now stream)) = omega arith in rw past (reads-stays (i - length (commands (now stream))));
+      }
+
 pub claims : Claims
-claims = record { parts = parts; first = first; back = back; stepping = stepping; visits = visits }
+claims = record { parts = parts; first = first; back = back; stepping = stepping; visits = visits; reads = reads }

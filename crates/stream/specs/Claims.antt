@@ -5,9 +5,11 @@ use mathlib.Core.Path.{_≡_}
 use mathlib.Core.List.{List, [], _∷_, _++_}
 use mathlib.Core.Bool.{false}
 use lib.ListN.{length, drop, getD}
+use denote.Ref.{RefT, now}
 use Rattle.endian.specs.Parts.{part}
 use Rattle.guard.specs.Command.{fixed, field}
 use Rattle.stream.specs.Stream.{whole, nextAt, commands, endOf, endToEnd, placeOf}
+use Rattle.stream.specs.Reader.{begun, movedTo, steps}
 use Rattle.stream.specs.declared.Next.the-variants.{Whole, Cut}
 
 -- A list of bytes is one whole command, by its own length field.
@@ -46,9 +48,16 @@ pub record Visits (stream : List ℕ) : Type 0 where
   pub arrives : placeOf stream (length (commands stream)) ≡ endOf stream
   pub stops : nextAt stream (endOf stream) ≡ Cut
 
+-- A reader of a lent stream, asked and moved on again and again, stands where each command begins, one after the other, and stays at the byte
+-- that the walk yields.
+pub record Reads (stream : RefT (List ℕ)) : Type 0 where
+  pub stands : (i : ℕ) → i ≤ length (commands (now stream)) → steps i (begun stream) ≡ movedTo (begun stream) (placeOf (now stream) i)
+  pub ends : (i : ℕ) → length (commands (now stream)) ≤ i → steps i (begun stream) ≡ movedTo (begun stream) (endOf (now stream))
+
 pub record Claims : Type 0 where
   pub parts : (stream : List ℕ) → Parts stream
   pub first : First
   pub back : Back
   pub stepping : (stream : List ℕ) (at : ℕ) → Stepping stream at
   pub visits : (stream : List ℕ) → Visits stream
+  pub reads : (stream : RefT (List ℕ)) → Reads stream

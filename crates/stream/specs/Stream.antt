@@ -2,7 +2,7 @@
 -- Assumes nothing.
 use Prim.Native.Nat.{ℕ, zero, suc, _+_}
 use mathlib.Core.List.{List, [], _∷_}
-use mathlib.Core.Bool.{Bool, true, false, cond, _&&_}
+use mathlib.Core.Bool.{Bool, cond, _&&_}
 use lib.Dec.{leb}
 use lib.ListN.{length, take, drop}
 use Rattle.endian.specs.Parts.{spread}
@@ -23,11 +23,7 @@ whole bytes = leb fixed (length bytes) && leb (extent bytes) (length bytes)
 unfoldable pub nextAt : List ℕ → ℕ → Next
 nextAt stream at = cond (whole (drop at stream)) (Whole (at + extent (drop at stream))) Cut
 
--- What the two cases say: whether a command stands there, and where one goes on from, which is the place itself where none does.
-abbrev pub stands : Next → Bool
-stands (Whole end) = true
-stands Cut = false
-
+-- What the two cases say: the place to go on from, which is the place itself where no whole command stands.
 abbrev pub onward : ℕ → Next → ℕ
 onward at (Whole end) = end
 onward at Cut = at

@@ -77,9 +77,15 @@ impl<'a> Reader<'a> {
     }
 }
 
-// What a reader that was moved to a place finds there.
-pub fn read_at(stream: &[u8], at: usize) -> Next
-    ensures { λ r. ⌜ r ≡ nextAt (now (stream .entry)) at ⌝ }
+// A reader that is moved on from command to command, up to the first that is not whole: the place where it stands then.
+pub fn read_to_end(stream: &[u8]) -> usize
+    ensures { λ r. ⌜ r ≡ endOf (now (stream .entry)) ⌝ }
 {
-    Reader::new(stream).moved(at).next()
+    let mut reader = Reader::new(stream);
+    loop {
+        let Next::Whole(end) = reader.next() else {
+            break reader.at;
+        };
+        reader = reader.moved(end);
+    }
 }
