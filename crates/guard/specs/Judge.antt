@@ -37,6 +37,19 @@ textLength (translation (suc t)) e = 0
 abbrev pub overruns : Language → Entry → Command → ℕ → Bool
 overruns l e c lent = reads l c && ltb lent (textLength l e)
 
+-- 6: "act 2: behind; act 4: named edition is not the stored one".
+abbrev pub wrongEdition : Entry → Command → Bool
+wrongEdition e c =
+    reads (translation 0) c && behind (e .edition) (e .from) || writes (translation 0) c && not (eqb (c .edition) (e .edition))
+
+-- 7: "act 3 at edition 65,535".
+abbrev pub editionsSpent : Entry → Command → Bool
+editionsSpent e c = writes original c && eqb (e .edition) lastEdition
+
+-- 8: "text longer than the lent reply buffer", for reads.
+abbrev pub replyShort : Entry → Command → ℕ → Bool
+replyShort e c lent = overruns original e c lent || overruns (translation 0) e c lent
+
 -- Rows 3 to 8 of the table, for the card's entry, a command, the room C and the length of the lent reply buffer.
 abbrev pub entryRows : Entry → Command → ℕ → ℕ → List Row
 entryRows e c room lent =
@@ -46,14 +59,9 @@ entryRows e c room lent =
     ∷ row (not (markFits (e .mark) (c .expected))) 4
     -- 5: payload longer than C
     ∷ row (ltb room (c .length)) 5
-    -- 6: act 2: behind; act 4: named edition is not the stored one
-    ∷ row
-    (reads (translation 0) c && behind (e .edition) (e .from) || writes (translation 0) c && not (eqb (c .edition) (e .edition)))
-    6
-    -- 7: act 3 at edition 65,535
-    ∷ row (writes original c && eqb (e .edition) lastEdition) 7
-    -- 8: text longer than the lent reply buffer
-    ∷ row (overruns original e c lent || overruns (translation 0) e c lent) 8
+    ∷ row (wrongEdition e c) 6
+    ∷ row (editionsSpent e c) 7
+    ∷ row (replyShort e c lent) 8
     ∷ []
 
 -- The rows of an entry that judges a command, whoever made it: row 1, command malformed, on its numbers, then rows 3 to 8.

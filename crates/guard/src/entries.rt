@@ -1,8 +1,6 @@
 ghost use mathlib.Core.Path.{_≡_};
-ghost use mathlib.Core.Bool.{false, cond, not, _&&_, _||_};
-ghost use lib.Dec.{eqb};
-ghost use Rattle.guard.specs.Command.{Language, reads, writes};
-ghost use Rattle.guard.specs.Judge.{markFits, behind, lastEdition, overruns, rows, raise, judged, blank, readLength, replied, refused};
+ghost use mathlib.Core.Bool.{false, cond};
+ghost use Rattle.guard.specs.Judge.{markFits, behind, wrongEdition, editionsSpent, replyShort, rows, raise, judged, blank, readLength, replied, refused};
 ghost use Rattle.guard.specs.Table.{first, settled};
 use crate::Answer;
 use crate::Command;
@@ -56,22 +54,22 @@ impl Entry {
 
     // Row 6: act 2: behind; act 4: the named edition is not the stored one.
     fn wrong_edition(self, c: Command) -> bool
-        ensures { λ r. ⌜ r ≡ (reads (Language.translation 0) c && behind (self .edition) (self .from) || writes (Language.translation 0) c && not (eqb (c .edition) (self .edition))) ⌝ }
+        ensures { λ r. ⌜ r ≡ wrongEdition self c ⌝ }
     {
         (c.reads_translation() & self.is_behind())
             | (c.writes_translation() & !(c.edition == self.edition))
     }
 
     // Row 7: act 3 at edition 65,535.
-    fn at_last(self, c: Command) -> bool
-        ensures { λ r. ⌜ r ≡ (writes Language.original c && eqb (self .edition) lastEdition) ⌝ }
+    fn editions_spent(self, c: Command) -> bool
+        ensures { λ r. ⌜ r ≡ editionsSpent self c ⌝ }
     {
         c.writes_original() & (self.edition == LAST_EDITION)
     }
 
     // Row 8: the text that the command reads is longer than the lent reply buffer.
-    fn too_short(self, c: Command, lent: usize) -> bool
-        ensures { λ r. ⌜ r ≡ (overruns Language.original self c lent || overruns (Language.translation 0) self c lent) ⌝ }
+    fn reply_short(self, c: Command, lent: usize) -> bool
+        ensures { λ r. ⌜ r ≡ replyShort self c lent ⌝ }
     {
         (c.reads_original() & (lent < self.original as usize))
             | (c.reads_translation() & (lent < self.translation as usize))
@@ -96,10 +94,10 @@ impl Entry {
         if self.wrong_edition(c) {
             return EDITION_WRONG;
         }
-        if self.at_last(c) {
+        if self.editions_spent(c) {
             return EDITIONS_SPENT;
         }
-        if self.too_short(c, lent) {
+        if self.reply_short(c, lent) {
             return REPLY_SHORT;
         }
         ACCEPTED
@@ -107,7 +105,7 @@ impl Entry {
 
     // The edition after an accepted command: writing an original raises it by 1.
     fn next_edition(self, c: Command) -> u16
-        requires { ⌜ (writes Language.original c && eqb (self .edition) lastEdition) ≡ false ⌝ }
+        requires { ⌜ editionsSpent self c ≡ false ⌝ }
         ensures { λ r. ⌜ r ≡ raise self c .edition ⌝ }
     {
         if c.writes_original() {
@@ -118,7 +116,7 @@ impl Entry {
 
     // The entry after an accepted command.
     fn raised(self, c: Command) -> Entry
-        requires { ⌜ (writes Language.original c && eqb (self .edition) lastEdition) ≡ false ⌝ }
+        requires { ⌜ editionsSpent self c ≡ false ⌝ }
         ensures { λ r. ⌜ r ≡ raise self c ⌝ }
     {
         let next = c.next;

@@ -30,10 +30,10 @@ past-5 : (c : tie.Else5) → let s = c .before .before .before .before .before .
 past-5 c = past-4 (c .before .before) ∙ rw (sym (c .before .wrong-edition .ensures) ∙ c .if5 .left)
 
 past-6 : (c : tie.Else6) → let s = c .before .before .before .before .before .before .before .before .before .before .before .before in left 0 s ≡ left 6 s
-past-6 c = past-5 (c .before .before) ∙ rw (sym (c .before .at-last .ensures) ∙ c .if6 .left)
+past-6 c = past-5 (c .before .before) ∙ rw (sym (c .before .editions-spent .ensures) ∙ c .if6 .left)
 
 past-7 : (c : tie.Else7) → let s = c .before .before .before .before .before .before .before .before .before .before .before .before .before .before in left 0 s ≡ left 7 s
-past-7 c = past-6 (c .before .before) ∙ rw (sym (c .before .too-short .ensures) ∙ c .if7 .left)
+past-7 c = past-6 (c .before .before) ∙ rw (sym (c .before .reply-short .ensures) ∙ c .if7 .left)
 
 well-formed-requires : tie.Need-well-formed-requires
 well-formed-requires c κs = search needs
@@ -62,17 +62,17 @@ wrong-edition-requires c κs = search needs
 returns-5 : tie.Need-returns-5
 returns-5 c = sym (past-4 (c .before .before) ∙ rw (sym (c .before .wrong-edition .ensures) ∙ c .if5 .taken))
 
-at-last-requires : tie.Need-at-last-requires
-at-last-requires c κs = search needs
+editions-spent-requires : tie.Need-editions-spent-requires
+editions-spent-requires c κs = search needs
 
 returns-6 : tie.Need-returns-6
-returns-6 c = sym (past-5 (c .before .before) ∙ rw (sym (c .before .at-last .ensures) ∙ c .if6 .taken))
+returns-6 c = sym (past-5 (c .before .before) ∙ rw (sym (c .before .editions-spent .ensures) ∙ c .if6 .taken))
 
-too-short-requires : tie.Need-too-short-requires
-too-short-requires c κs = search needs
+reply-short-requires : tie.Need-reply-short-requires
+reply-short-requires c κs = search needs
 
 returns-7 : tie.Need-returns-7
-returns-7 c = sym (past-6 (c .before .before) ∙ rw (sym (c .before .too-short .ensures) ∙ c .if7 .taken))
+returns-7 c = sym (past-6 (c .before .before) ∙ rw (sym (c .before .reply-short .ensures) ∙ c .if7 .taken))
 
 returns-8 : tie.Need-returns-8
 returns-8 c = sym (past-7 c)
@@ -90,8 +90,8 @@ number-spec =
     returns-4
     wrong-edition-requires
     returns-5
-    at-last-requires
+    editions-spent-requires
     returns-6
-    too-short-requires
+    reply-short-requires
     returns-7
     returns-8)

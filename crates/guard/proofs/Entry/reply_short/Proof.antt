@@ -1,7 +1,7 @@
 -- By what the calls ensure. Assumes nothing.
 use borrow.Author.Needs.{needs}
-use Rattle.guard.proofs.Entry.too_short.Statement.{statement}
-use Rattle.guard.proofs.Entry.too_short.Tie as tie
+use Rattle.guard.proofs.Entry.reply_short.Statement.{statement}
+use Rattle.guard.proofs.Entry.reply_short.Tie as tie
 
 reads-original-requires : tie.Need-reads-original-requires
 reads-original-requires c κs = search needs
@@ -18,7 +18,7 @@ cast-result-2 c = search needs
 returns : tie.Need-returns
 returns c = rw (c .before .reads-translation .ensures, c .before .before .before .reads-original .ensures)
 
-pub too-short-spec : {M : Type 1} → statement M
-too-short-spec =
+pub reply-short-spec : {M : Type 1} → statement M
+reply-short-spec =
     tie.close
     (tie.spec reads-original-requires cast-result reads-translation-requires cast-result-2 returns)
