@@ -7,30 +7,13 @@ use Rattle.endian.proofs.Tests.{to-T, from-T}
 use Rattle.guard.specs.Command.{wellFormed, formed}
 use Rattle.guard.specs.Entry.{entrySound, FitsEntry, FitsCommand}
 use Rattle.guard.specs.Judge.{raise, judged}
-use Rattle.guard.specs.Claims.{EachNumber, Acceptance, RefusalLeaves, AcceptanceRaises, AcceptedFresh, JudgedSound, JudgedFits, StaleStays, StoredGrows, CommandComesBack, BytesComeBack}
+use Rattle.guard.specs.Claims.{Judging, Judges, StaleStays, CommandComesBack, BytesComeBack}
 use Rattle.guard.specs.declared.Command.{Command}
 use Rattle.guard.specs.declared.Entry.{Entry}
 use Rattle.guard.proofs.Stamp.{stale-more}
 use Rattle.guard.proofs.Judge.{Accepted, exactly, accepted-exactly, accepted, refusal-leaves, accepted-raises, accepted-mode, raise-more}
 use Rattle.guard.proofs.Raise.{raise-sound, raise-fits}
 use Rattle.guard.proofs.CommandBytes.{payload-command, parsed-command, command-fields}
-
-pub each-number : EachNumber
-each-number = exactly
-
-pub acceptance : Acceptance
-acceptance = accepted-exactly
-
-pub a-refusal-leaves : RefusalLeaves
-a-refusal-leaves = refusal-leaves
-
-pub acceptance-raises : AcceptanceRaises
-acceptance-raises = accepted-raises
-
-pub accepted-fresh : AcceptedFresh
-accepted-fresh e c room lent h =
-    let a = accepted e c room lent h in
-    (to-T (a .formed), accepted-mode e c room lent a, a .fresh)
 
 -- What holds of the entry as it was and, where the command is accepted, of the raised one, holds of the entry as it now is.
 judged-keeps : (P : Entry → Type 0) (e : Entry) (c : Command) (room lent : ℕ) → P e → (Accepted e c room lent → P (raise e c)) → P (judged e c room lent .entry)
@@ -40,18 +23,23 @@ judged-keeps P e c room lent p q = go (judged e c room lent .number) refl
     go zero h = subst P (sym (accepted-raises e c room lent h)) (q (accepted e c room lent h))
     go (suc n) h = subst P (sym (refusal-leaves e c room lent n h)) p
 
-pub judged-sound : JudgedSound
-judged-sound e c room lent s = judged-keeps (λ d. T (entrySound room d)) e c room lent s (λ a. raise-sound a s)
-
-pub judged-fits : JudgedFits
-judged-fits e c room lent f g = judged-keeps FitsEntry e c room lent f (λ a. raise-fits a f g)
+pub judges : Judges
+judges e c room lent =
+    record {
+      each = exactly e c room lent;
+      accepts = accepted-exactly e c room lent;
+      leaves = refusal-leaves e c room lent;
+      raises = accepted-raises e c room lent;
+      formed = λ h. to-T (accepted e c room lent h .formed);
+      mode = λ h. accepted-mode e c room lent (accepted e c room lent h);
+      fresh = λ h. accepted e c room lent h .fresh;
+      sound = λ s. judged-keeps (λ d. T (entrySound room d)) e c room lent s (λ a. raise-sound a s);
+      fits = λ f g. judged-keeps FitsEntry e c room lent f (λ a. raise-fits a f g);
+      grows = judged-keeps (λ d. (e .pair .s ≤ d .pair .s) × (e .pair .x ≤ d .pair .x)) e c room lent (omega arith) (λ a. raise-more e c);
+    }
 
 pub stale-stays : StaleStays
 stale-stays mode stored more new hs hx t = stale-more mode new hs hx t
-
-pub stored-grows : StoredGrows
-stored-grows e c room lent =
-    judged-keeps (λ d. (e .pair .s ≤ d .pair .s) × (e .pair .x ≤ d .pair .x)) e c room lent (omega arith) (λ a. raise-more e c)
 
 pub command-comes-back : CommandComesBack
 command-comes-back c text f w l = (parsed-command c text f (from-T (wellFormed c) w) l, payload-command c text)

@@ -18,54 +18,34 @@ use Rattle.guard.specs.declared.Entry.{Entry}
 use Rattle.guard.specs.declared.Pair.{Pair}
 use Rattle.guard.specs.declared.Parsed.the-variants.{Formed}
 
--- "A number is given exactly when its row applies and no earlier row does."
-abbrev pub EachNumber : Type 0
-EachNumber =
-    (e : Entry) (c : Command) (room lent n : ℕ) →
-    (judged e c room lent .number ≡ suc n)
-    ↔ (T (applies (suc n) (rows e c room lent)) × T (none (earlier (suc n) (rows e c room lent))))
+-- What holds of an entry that judges a command.
+pub record Judging (e : Entry) (c : Command) (room lent : ℕ) : Type 0 where
+  -- "A number is given exactly when its row applies and no earlier row does"; accepted, 0, exactly when no row applies.
+  pub each : (n : ℕ) → (judged e c room lent .number ≡ suc n) ↔ (T (applies (suc n) (rows e c room lent)) × T (none (earlier (suc n) (rows e c room lent))))
+  pub accepts : (judged e c room lent .number ≡ 0) ↔ T (none (rows e c room lent))
+  -- A refusal leaves the entry as it was; an accepted command leaves it raised.
+  pub leaves : (n : ℕ) → judged e c room lent .number ≡ suc n → judged e c room lent .entry ≡ e
+  pub raises : judged e c room lent .number ≡ 0 → judged e c room lent .entry ≡ raise e c
+  -- An accepted command is well formed, shared or exclusive, and not stale.
+  pub formed : judged e c room lent .number ≡ 0 → T (wellFormed c)
+  pub mode : judged e c room lent .number ≡ 0 → (c .mode ≡ shared) ⊎ (c .mode ≡ exclusive)
+  pub fresh : judged e c room lent .number ≡ 0 → stale (c .mode) (e .pair) (verifier c) ≡ false
+  -- An entry by the rules of a sound image stays so, and within its fields' widths, whatever it judges; its stamps grow.
+  pub sound : T (entrySound room e) → T (entrySound room (judged e c room lent .entry))
+  pub fits : FitsEntry e → FitsCommand c → FitsEntry (judged e c room lent .entry)
+  pub grows : (e .pair .s ≤ judged e c room lent .entry .pair .s) × (e .pair .x ≤ judged e c room lent .entry .pair .x)
 
--- Accepted, 0, exactly when no row applies.
-abbrev pub Acceptance : Type 0
-Acceptance = (e : Entry) (c : Command) (room lent : ℕ) → (judged e c room lent .number ≡ 0) ↔ T (none (rows e c room lent))
-
--- A refusal leaves the entry as it was; an accepted command leaves it raised.
-abbrev pub RefusalLeaves : Type 0
-RefusalLeaves = (e : Entry) (c : Command) (room lent n : ℕ) → judged e c room lent .number ≡ suc n → judged e c room lent .entry ≡ e
-
-abbrev pub AcceptanceRaises : Type 0
-AcceptanceRaises = (e : Entry) (c : Command) (room lent : ℕ) → judged e c room lent .number ≡ 0 → judged e c room lent .entry ≡ raise e c
-
--- An accepted command is well formed, shared or exclusive, and not stale.
-abbrev pub AcceptedFresh : Type 0
-AcceptedFresh =
-    (e : Entry) (c : Command) (room lent : ℕ) → judged e c room lent .number ≡ 0 →
-    T (wellFormed c) × ((c .mode ≡ shared) ⊎ (c .mode ≡ exclusive)) × (stale (c .mode) (e .pair) (verifier c) ≡ false)
-
--- An entry by the rules of a sound image stays so, whatever it judges.
-abbrev pub JudgedSound : Type 0
-JudgedSound =
-    (e : Entry) (c : Command) (room lent : ℕ) → T (entrySound room e) → T (entrySound room (judged e c room lent .entry))
-
-abbrev pub JudgedFits : Type 0
-JudgedFits =
-    (e : Entry) (c : Command) (room lent : ℕ) → FitsEntry e → FitsCommand c → FitsEntry (judged e c room lent .entry)
+abbrev pub Judges : Type 0
+Judges = (e : Entry) (c : Command) (room lent : ℕ) → Judging e c room lent
 
 -- What is stale stays stale, as the stored stamps grow.
 abbrev pub StaleStays : Type 0
-StaleStays =
-    (mode : ℕ) (stored more new : Pair) → stored .s ≤ more .s → stored .x ≤ more .x → T (stale mode stored new) → T (stale mode more new)
-
-abbrev pub StoredGrows : Type 0
-StoredGrows =
-    (e : Entry) (c : Command) (room lent : ℕ) →
-    (e .pair .s ≤ judged e c room lent .entry .pair .s) × (e .pair .x ≤ judged e c room lent .entry .pair .x)
+StaleStays = (mode : ℕ) (stored more new : Pair) → stored .s ≤ more .s → stored .x ≤ more .x → T (stale mode stored new) → T (stale mode more new)
 
 -- A well-formed command comes back from its bytes, and so does its payload.
 abbrev pub CommandComesBack : Type 0
 CommandComesBack =
-    (c : Command) (text : List ℕ) → FitsCommand c → T (wellFormed c) → length text ≡ c .length →
-    (parsed (commandBytes c text) ≡ Formed c) × (payload (commandBytes c text) ≡ text)
+    (c : Command) (text : List ℕ) → FitsCommand c → T (wellFormed c) → length text ≡ c .length → (parsed (commandBytes c text) ≡ Formed c) × (payload (commandBytes c text) ≡ text)
 
 -- Bytes that are a command are the bytes of that command and its payload.
 abbrev pub BytesComeBack : Type 0
