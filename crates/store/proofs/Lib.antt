@@ -9,3 +9,5 @@ pub mod Exact
 pub mod Premise
 pub mod Cases
 pub mod Step
+pub mod Texts
+pub mod Kept
