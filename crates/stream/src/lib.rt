@@ -79,7 +79,7 @@ impl<'a> Reader<'a> {
 
 // A reader that is moved on from command to command, up to the first that is not whole: the place where it stands then.
 pub fn read_to_end(stream: &[u8]) -> usize
-    ensures { λ r. ⌜ r ≡ endOf (now (stream .entry)) ⌝ }
+    ensures { λ end. ⌜ end ≡ endOf (now (stream .entry)) ⌝ }
 {
     let mut reader = Reader::new(stream);
     loop {
