@@ -2,18 +2,20 @@
 use Prim.Native.Nat.{ℕ, zero, suc, _≤_}
 use native.Mathlib.Omega.{arith}
 use mathlib.Core.Path.{_≡_, refl, sym, subst}
-use lib.Dec.{T}
-use Rattle.endian.proofs.Tests.{to-T, from-T}
+use mathlib.Core.Bool.{true, false}
+use mathlib.Core.Logic.{_⊎_, inl, inr}
+use lib.Dec.{T, T-not}
+use Rattle.endian.proofs.Tests.{to-T, from-T, from-false, cases}
 use Rattle.guard.specs.Command.{wellFormed, formed}
 use Rattle.guard.specs.Entry.{entrySound, FitsEntry, FitsCommand}
 use Rattle.guard.specs.Judge.{raise, judged}
-use Rattle.guard.specs.Claims.{Judging, Judges, StaleStays, CommandComesBack, BytesComeBack}
+use Rattle.guard.specs.Claims.{Judging, Judges, StaleStays, Parsing, Parses, CommandComesBack, BytesComeBack}
 use Rattle.guard.specs.declared.Command.{Command}
 use Rattle.guard.specs.declared.Entry.{Entry}
 use Rattle.guard.proofs.Stamp.{stale-more}
 use Rattle.guard.proofs.Judge.{Accepted, exactly, accepted-exactly, accepted, refusal-leaves, accepted-raises, accepted-mode, raise-more}
 use Rattle.guard.proofs.Raise.{raise-sound, raise-fits}
-use Rattle.guard.proofs.CommandBytes.{payload-command, parsed-command, command-fields}
+use Rattle.guard.proofs.CommandBytes.{parsed-formed, parsed-malformed, payload-command, parsed-command, command-fields}
 
 -- What holds of the entry as it was and, where the command is accepted, of the raised one, holds of the entry as it now is.
 judged-keeps : (P : Entry → Type 0) (e : Entry) (c : Command) (room lent : ℕ) → P e → (Accepted e c room lent → P (raise e c)) → P (judged e c room lent .entry)
@@ -40,6 +42,23 @@ judges e c room lent =
 
 pub stale-stays : StaleStays
 stale-stays mode stored more new hs hx t = stale-more mode new hs hx t
+
+pub parses : Parses
+parses bytes = go (cases (formed bytes))
+  where
+    go : (formed bytes ≡ true) ⊎ (formed bytes ≡ false) → Parsing bytes
+    go (inl f) =
+        record {
+          number = rw (parsed-formed bytes f, f);
+          numbers = λ t. rw (parsed-formed bytes f);
+          blanks = λ t. absurd (T-not (formed bytes) t (to-T f));
+        }
+    go (inr f) =
+        record {
+          number = rw (parsed-malformed bytes f, f);
+          numbers = λ t. absurd (from-false f t);
+          blanks = λ t. rw (parsed-malformed bytes f);
+        }
 
 pub command-comes-back : CommandComesBack
 command-comes-back c text f w l = (parsed-command c text f (from-T (wellFormed c) w) l, payload-command c text)

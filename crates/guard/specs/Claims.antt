@@ -3,20 +3,20 @@
 use Prim.Native.Nat.{ℕ, suc, _≤_}
 use mathlib.Core.Path.{_≡_}
 use mathlib.Core.Logic.{_↔_, _⊎_}
-use mathlib.Core.List.{List}
-use mathlib.Core.Bool.{false}
+use mathlib.Core.List.{List, [], _∷_}
+use mathlib.Core.Bool.{false, not}
 use lib.Dec.{T}
 use lib.ListN.{length}
 use Rattle.endian.specs.Parts.{Bytes}
 use Rattle.guard.specs.Stamp.{shared, exclusive, stale}
-use Rattle.guard.specs.Command.{verifier, wellFormed, fieldsOf, payload, formed, parsed, commandBytes}
-use Rattle.guard.specs.Table.{applies, none, earlier}
+use Rattle.guard.specs.Command.{verifier, wellFormed, fieldsOf, payload, formed, parsed, parsedNumber, parsedCommand, commandBytes}
+use Rattle.guard.specs.Table.{row, first, applies, none, earlier}
 use Rattle.guard.specs.Judge.{rows, raise, judged}
 use Rattle.guard.specs.Entry.{entrySound, FitsEntry, FitsCommand}
 use Rattle.guard.specs.declared.Command.{Command}
 use Rattle.guard.specs.declared.Entry.{Entry}
 use Rattle.guard.specs.declared.Pair.{Pair}
-use Rattle.guard.specs.declared.Parsed.the-variants.{Formed}
+use Rattle.guard.specs.declared.Parsed.the-variants.{Malformed, Formed}
 
 -- What holds of an entry that judges a command.
 pub record Judging (e : Entry) (c : Command) (room lent : ℕ) : Type 0 where
@@ -41,6 +41,15 @@ Judges = (e : Entry) (c : Command) (room lent : ℕ) → Judging e c room lent
 -- What is stale stays stale, as the stored stamps grow.
 abbrev pub StaleStays : Type 0
 StaleStays = (mode : ℕ) (stored more new : Pair) → stored .s ≤ more .s → stored .x ≤ more .x → T (stale mode stored new) → T (stale mode more new)
+
+-- Lent bytes by the sheet's number: 1 exactly where row 1 applies to them, with zeros, else 0 with the numbers at the sheet's offsets.
+pub record Parsing (bytes : List ℕ) : Type 0 where
+  pub number : parsedNumber (parsed bytes) ≡ first (row (not (formed bytes)) 1 ∷ [])
+  pub numbers : T (formed bytes) → parsedCommand (parsed bytes) ≡ fieldsOf bytes
+  pub blanks : T (not (formed bytes)) → parsedCommand (parsed bytes) ≡ parsedCommand Malformed
+
+abbrev pub Parses : Type 0
+Parses = (bytes : List ℕ) → Parsing bytes
 
 -- A well-formed command comes back from its bytes, and so does its payload.
 abbrev pub CommandComesBack : Type 0

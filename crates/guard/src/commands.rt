@@ -48,24 +48,28 @@ const EDITION: usize = 48;
 const LENGTH: usize = 50;
 
 impl Command {
+    // Act 1 reads the original.
     pub fn reads_original(self) -> bool
         ensures { λ r. ⌜ r ≡ reads Language.original self ⌝ }
     {
         self.act == READ_ORIGINAL
     }
 
+    // Act 2 reads the translation.
     pub fn reads_translation(self) -> bool
         ensures { λ r. ⌜ r ≡ reads (Language.translation 0) self ⌝ }
     {
         self.act == READ_TRANSLATION
     }
 
+    // Act 3 writes the original.
     pub fn writes_original(self) -> bool
         ensures { λ r. ⌜ r ≡ writes Language.original self ⌝ }
     {
         self.act == WRITE_ORIGINAL
     }
 
+    // Act 4 writes the translation.
     pub fn writes_translation(self) -> bool
         ensures { λ r. ⌜ r ≡ writes (Language.translation 0) self ⌝ }
     {
@@ -132,6 +136,7 @@ fn mark_at(bytes: &[u8], at: usize) -> Mark
     }
 }
 
+// The command's pair.
 fn pair_of(bytes: &[u8]) -> Pair
     requires { ⌜ fixed ≤ length (now bytes) ⌝ }
     ensures { λ r. ⌜ r ≡ fieldsOf (now (bytes .entry)) .pair ⌝ }

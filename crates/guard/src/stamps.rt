@@ -66,6 +66,7 @@ pub fn mark_whole(m: Mark) -> bool
     (m.desk == 0) == (m.transaction == 0)
 }
 
+// The larger of two stamps.
 pub fn larger(a: u64, b: u64) -> u64
     ensures { λ r. ⌜ r ≡ max a b ⌝ }
 {
