@@ -21,11 +21,14 @@ ghost use Rattle.image.specs.Image.{
   fresh,
 };
 use crate::layout;
+use crate::layout::CARDS_AT;
 use crate::layout::ENTRY;
 use crate::layout::HEADER;
 use crate::layout::MAGIC;
-use crate::layout::NUMBERS;
+use crate::layout::ROOM_AT;
 use crate::layout::VERSION;
+use crate::layout::VERSION_AT;
+use crate::layout::ZEROS_AT;
 use endian::inner as le;
 use guard::Entry;
 use guard::Mark;
@@ -36,7 +39,7 @@ pub fn count(image: &[u8]) -> u16
     requires { ⌜ 16 ≤ length (now image) ⌝ }
     ensures { λ r. ⌜ r ≡ countOf (now (image .entry)) ⌝ }
 {
-    le::read_u16(image, 6)
+    le::read_u16(image, CARDS_AT)
 }
 
 // C as the header says.
@@ -44,7 +47,7 @@ pub fn room(image: &[u8]) -> u16
     requires { ⌜ 16 ≤ length (now image) ⌝ }
     ensures { λ r. ⌜ r ≡ roomOf (now (image .entry)) ⌝ }
 {
-    le::read_u16(image, 8)
+    le::read_u16(image, ROOM_AT)
 }
 
 // Whether an entry keeps the rules, where texts have this room.
@@ -170,9 +173,9 @@ pub fn header_sound(image: &[u8]) -> bool
     let n = count(image);
     let c = room(image);
     (le::read_u32(image, 0) == MAGIC)
-        & (le::read_u16(image, 4) == VERSION)
+        & (le::read_u16(image, VERSION_AT) == VERSION)
         & layout::shape_ok(n as usize, c as usize)
-        & endian::all_zero(&image[10..16])
+        & endian::all_zero(&image[ZEROS_AT..HEADER])
         & (image.len() == layout::size_of(n, c))
 }
 
@@ -198,9 +201,9 @@ fn write_header(image: &mut [u8], n: u16, c: u16)
     ensures { λ _. ⌜ now (image .exit) ≡ splice 0 (headerNumbers n c) (now (image .entry)) ⌝ }
 {
     le::write_u32(image, 0, MAGIC);
-    le::write_u16(image, 4, VERSION);
-    le::write_u16(image, 6, n);
-    le::write_u16(image, 8, c);
+    le::write_u16(image, VERSION_AT, VERSION);
+    le::write_u16(image, CARDS_AT, n);
+    le::write_u16(image, ROOM_AT, c);
 }
 
 // Writes a fresh image of n cards with room c.
@@ -210,5 +213,5 @@ pub fn write_fresh(image: &mut [u8], n: u16, c: u16)
 {
     let size = image.len();
     write_header(image, n, c);
-    le::clear(image, NUMBERS, size - NUMBERS);
+    le::clear(image, ZEROS_AT, size - ZEROS_AT);
 }

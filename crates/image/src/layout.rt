@@ -17,8 +17,14 @@ pub const HEADER: usize = 16;
 
 pub const ENTRY: usize = 32;
 
-// Up to where the header has numbers; the rest of it is zeros.
-pub const NUMBERS: usize = 10;
+// Where the header has its version, its N and its C, and where its zeros begin.
+pub const VERSION_AT: usize = 4;
+
+pub const CARDS_AT: usize = 6;
+
+pub const ROOM_AT: usize = 8;
+
+pub const ZEROS_AT: usize = 10;
 
 // The header's first numbers: the bytes 52 43 31 00, and the version.
 pub const MAGIC: u32 = 0x0031_4352;

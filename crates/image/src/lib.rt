@@ -28,20 +28,25 @@ pub fn sound(image: &[u8]) -> bool
     true
 }
 
-// Makes a fresh image, and answers 0; or answers 14 and writes nothing, if N, C or the lent length breaks the rules.
+// What making an image answers: made, and where N, C or the lent length breaks the rules.
+pub const MADE: u8 = 0;
+
+pub const NOT_MADE: u8 = 14;
+
+// Makes a fresh image, and answers MADE; or answers NOT_MADE and writes nothing, if N, C or the lent length breaks the rules.
 pub fn make(image: &mut [u8], cards: usize, room: usize) -> u8
     ensures number { λ r. ⌜ r ≡ makeNumber cards room (length (now (image .entry))) ⌝ }
     ensures bytes { λ r. ⌜ now (image .exit)
         ≡ settled (makeNumber cards room (length (now (image .entry)))) (fresh cards room) (now (image .entry)) ⌝ }
 {
     if !layout::shape_ok(cards, room) {
-        return 14;
+        return NOT_MADE;
     }
     let n = cards as u16;
     let c = room as u16;
     if image.len() != layout::size_of(n, c) {
-        return 14;
+        return NOT_MADE;
     }
     inner::write_fresh(image, n, c);
-    0
+    MADE
 }
