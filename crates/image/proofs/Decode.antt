@@ -2,7 +2,7 @@
 use Prim.Native.Nat.{ℕ, zero, suc, _+_, _*_, _≤_, _<_}
 use native.Mathlib.Omega.{arith}
 use native.Mathlib.Nat.{zero-add}
-use mathlib.Core.Path.{_≡_, sym, ap, _∙_}
+use mathlib.Core.Path.{_≡_, refl, sym, ap, _∙_}
 use mathlib.Core.List.{List, _++_}
 use mathlib.Core.Bool.{true}
 use borrow.Author.Tests.{eqb-true}
@@ -30,6 +30,19 @@ countOf-fits image b = le-part-bound 6 2 image b
 
 pub roomOf-fits : (image : List ℕ) → Bytes image → roomOf image < 65536
 roomOf-fits image b = le-part-bound 8 2 image b
+
+-- The cards that an image holds, by their number, their room and their places.
+pub count-decode : (image : List ℕ) → length (decode image .cards) ≡ countOf image
+unfolding decode
+count-decode image = length-table (cardAt image) (countOf image)
+
+pub room-decode : (image : List ℕ) → decode image .room ≡ roomOf image
+unfolding decode
+room-decode image = refl
+
+pub card-decode : (image : List ℕ) (k : ℕ) → k < countOf image → getD (decode image .cards) k noCard ≡ cardAt image k
+unfolding decode
+card-decode image k below = getD-table (cardAt image) (countOf image) k noCard below
 
 module _ (image : List ℕ) (holds : T (sound image)) where
   pub header-holds : headerSound image ≡ true
@@ -209,12 +222,11 @@ module _ (image : List ℕ) (b : Bytes image) (holds : T (sound image)) where
       (part-whole (headerSize + n * entrySize + n * (2 * c)) image (sym size))
 
   pub decode-good : GoodCards (decode image)
-  unfolding decode
   decode-good =
       record {
-        shape = rw (length-table (cardAt image) (countOf image)) (to-T (shape-holds image holds));
-        each = λ k below. each k (rw (length-table (cardAt image) (countOf image)) at below);
+        shape = rw (count-decode image, room-decode image) (to-T (shape-holds image holds));
+        each = λ k below. each k (rw (count-decode image) at below);
       }
     where
-      each : (k : ℕ) → k < countOf image → GoodCard (roomOf image) (getD (table (cardAt image) (countOf image)) k noCard)
-      each k below = rw (getD-table (cardAt image) (countOf image) k noCard below) (card-back k below)
+      each : (k : ℕ) → k < countOf image → GoodCard (decode image .room) (getD (decode image .cards) k noCard)
+      each k below = rw (room-decode image, card-decode image k below) (card-back k below)
