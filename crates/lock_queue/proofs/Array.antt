@@ -10,18 +10,13 @@ use denote.Struct.Declared.{row}
 use borrow.Author.Needs.{needs}
 use Rattle.lock_queue.specs.Queue.{mostPlaces}
 use Rattle.lock_queue.specs.declared.Places.{Places}
-use Rattle.lock_queue.specs.declared.Queue.{Queue}
 use Rattle.lock_queue.proofs.Places as P
-use Rattle.lock_queue.proofs.Queue as Q
 
 pub unmapped : {A B : Type 0} (f : A → B) (l : List A) {n : ℕ} → length (map f l) ≡ n → length l ≡ n
 unmapped f l e = sym (length-map l f) ∙ e
 
 pub places-long : (p : Places) (vs : List Val) → Is (row P.the-type) p vs → length (p .at) ≡ mostPlaces
 places-long p vs h = search (unmapped, needs)
-
-pub queue-long : (q : Queue) (vs : List Val) → Is (row Q.the-type) q vs → length (q .places .at) ≡ mostPlaces
-queue-long q vs h = search (unmapped, needs)
 
 -- So many places are there.
 pub places-fit : (p : Places) (vs : List Val) {count : ℕ} → Is (row P.the-type) p vs → count ≤ mostPlaces → count ≤ length (p .at)

@@ -5,26 +5,25 @@ use native.Mathlib.Numerals.{add-one}
 use mathlib.Core.Path.{_≡_, refl, sym, ap, subst, _∙_}
 use mathlib.Core.Logic.{_⊎_, inl, inr}
 use mathlib.Core.List.{List, [], _∷_, _++_, map, append-assoc}
-use mathlib.Core.Bool.{Bool, true, false, cond, not, _&&_, _||_, and-false}
-use borrow.Author.Tests.{eq-eqb, ne-eqb, eqb-true, eqb-false, leb-true, le-leb, ltb-true, ltb-false, le-ltb, not-true, not-false}
+use mathlib.Core.Bool.{Bool, true, false, cond, not, _&&_, and-false}
+use borrow.Author.Tests.{eq-eqb, eqb-true, eqb-false, leb-true, le-leb, ltb-true, ltb-false, not-true, not-false}
 use lib.Dec.{T, ltb, leb, eqb, eqb→eq}
-use lib.ListN.{length, take, drop, getD, set, length-append, length-take, length-drop, length-map, length-set}
-use lib.Seq.{getD-take, length-take-le, take-suc-set, drop-set-lt, take-at, drop-at, getD-at, append-snoc, getD-append-seam, take-append-seam}
+use lib.ListN.{length, take, drop, getD, length-append, length-take, length-drop, length-map, length-set}
+use lib.Seq.{getD-take, length-take-le, take-suc-set, drop-set-lt, take-at, drop-at, getD-at, append-snoc, take-append-le, drop-append-le, set-append-left, getD-append-seam, take-append-seam}
 use Rattle.endian.specs.Parts.{table}
 use Rattle.endian.specs.Tests.{all, allFrom}
-use Rattle.endian.proofs.Tests.{cases, to-T, from-T, and-in, and-left, and-right, or-cases, or-left, or-none, never-both}
-use Rattle.guard.proofs.Stamp.{max-one, larger-old, larger-new, SessionRules, session-rules}
-use Rattle.guard.proofs.Table.{given, unapplied, settled-new, settled-old}
+use Rattle.endian.proofs.Tests.{cases, to-T, from-T, and-in, and-left, and-right, or-cases}
+use Rattle.guard.proofs.Stamp.{max-one, larger-old, SessionRules, session-rules}
+use Rattle.guard.proofs.Table.{given, unapplied}
 use Rattle.guard.specs.Stamp.{stampValid, deskNumber, deskStart, own, shared, exclusive, largerOfEach}
-use Rattle.guard.specs.declared.Pair.{Pair}
-use Rattle.lock_queue.specs.Claims.{EachNumber, Acceptance, RefusalLeaves, BlankAnswers, LookedWithin, StaysGood, JoinsEnd, GapClosed, FreedZeroed, OthersKept, LargestGrows, AskerHolds, LeaverHoldsNothing, HoldersShared, RoomAfterLeaving, NoDeskZero, modeOf}
-use Rattle.lock_queue.specs.Entries.{entriesGood, fitsBehind}
+use Rattle.guard.specs.Command.{noPair}
+use Rattle.lock_queue.specs.Claims.{EachNumber, Acceptance, RefusalLeaves, BlankAnswers, LookedWithin, StaysGood, JoinsEnd, GapClosed, FreedZeroed, OthersKept, LargestGrows, AskerHolds, LeaverHoldsNothing, HoldersShared, RoomAfterLeaving, NoDeskZero, BeyondLent, longer, modeOf}
 use Rattle.lock_queue.specs.Queue.{State, noWaiting, mostPlaces, standing, desk, desks, stands, firstPlace, looked, distinct, noExclusive, holdsAt, holds, formed, within, good, joined, removed, without}
 use Rattle.lock_queue.specs.Requests.{Request, asks, leaves, rows, sender, accepted, blank, answered, number, after, answer}
 use Rattle.lock_queue.specs.Trials.{numbers, TrialN}
 use Rattle.lock_queue.specs.declared.Waiting.{Waiting}
-use Rattle.lock_queue.proofs.Standing.{stands-place, stands-below, place-within, stands-append, distinct-more, map-append}
-use Rattle.lock_queue.proofs.Judged.{Good, good-out, good-in, good-by, shown-not-bad, not-bad, each-once, no-row, accepted-good, ask-room, leave-stands, leave-place}
+use Rattle.lock_queue.proofs.Standing.{stands-place, stands-append, map-append}
+use Rattle.lock_queue.proofs.Judged.{good-unsized, good-out, good-by, each-once, no-row, accepted-good, accepted-after, refused-after, ask-room, leave-stands, leave-place}
 use Rattle.lock_queue.proofs.Removed.{all-at, all-weaker, all-joined, all-removed, within-more, distinct-joined, distinct-removed, gone, removed-long, stands-inside, place-desk, place-last, none-exclusive}
 
 pub each-number : EachNumber
@@ -38,12 +37,7 @@ acceptance lent q r = unapplied (rows lent q r) (each-once lent q r)
 -- ---- the queue after a request
 
 pub refusal-leaves : RefusalLeaves
-unfolding after
-refusal-leaves lent q r n e = rw e
-
-accepted-after : (lent : ℕ) (q : State) (r : Request) → number lent q r ≡ 0 → after lent q r ≡ accepted r q
-unfolding after
-accepted-after lent q r e = rw e
+refusal-leaves lent q r n e = refused-after lent q r (λ z. absurd (omega arith))
 
 -- What holds of the queue as it was and, where the request is accepted, of the queue that it makes, holds of the queue as it now is.
 after-keeps : (P : State → Type 0) (lent : ℕ) (q : State) (r : Request) → P q → (number lent q r ≡ 0 → P (accepted r q)) → P (after lent q r)
@@ -345,6 +339,82 @@ no-desk-zero lent q start t h = rw (from-T (good lent q) t, absent (cases (stand
         let place = firstPlace start (desks (standing q)) in
         let fine = all-at formed (standing q) (good-out lent q (from-T (good lent q) t) .all-formed) place (stands-inside start (standing q) s) in
         absurd (omega (arith, entry-desk (getD (standing q) place noWaiting) fine, place-desk start (standing q) s))
+
+-- ---- places beyond the lent ones
+
+bad-number : (lent : ℕ) (q : State) (r : Request) → good lent q ≡ false → number lent q r ≡ 10
+unfolding number
+bad-number lent q (asks new) e = rw e
+bad-number lent q (leaves d) e = rw e
+
+bad-answer : (lent : ℕ) (q : State) (r : Request) → number lent q r ≡ 10 →
+    answer lent q r ≡ record { number = 10; holds = false; largest = noPair; looked = 0 }
+unfolding answer answered
+bad-answer lent q r e = rw e
+
+over-bad : (lent : ℕ) (q : State) → leb (q .count) lent ≡ false → good lent q ≡ false
+over-bad lent q e = sym (good-unsized lent q (rw e (and-false (leb 1 lent && leb lent mostPlaces))))
+
+module _ (lent : ℕ) (q : State) (more : List Waiting) (lie : lent ≤ length (q .places)) where
+  module _ (h : q .count ≤ lent) where
+    same-standing : standing (longer more q) ≡ standing q
+    same-standing = take-append-le (q .count) (q .places) more (omega arith)
+
+    same-good : good lent (longer more q) ≡ good lent q
+    unfolding good
+    same-good = rw same-standing
+
+    same-number : (r : Request) → number lent (longer more q) r ≡ number lent q r
+    unfolding number
+    same-number (asks new) = rw (same-good, same-standing)
+    same-number (leaves d) = rw (same-good, same-standing)
+
+    same-accepted : (r : Request) → number lent q r ≡ 0 → accepted r (longer more q) ≡ longer more (accepted r q)
+    unfolding joined without
+    same-accepted (asks new) e = rw (set-append-left (q .places) more (q .count) new (omega (arith, ask-room lent q new e)))
+    same-accepted (leaves d) e =
+        rw (same-standing, drop-append-le (q .count) (q .places) more (omega arith), append-assoc)
+
+    same-after : (r : Request) → after lent (longer more q) r ≡ longer more (after lent q r)
+    same-after r = go (number lent q r) refl
+      where
+        go : (n : ℕ) → number lent q r ≡ n → after lent (longer more q) r ≡ longer more (after lent q r)
+        go zero e =
+            accepted-after lent (longer more q) r (same-number r ∙ e)
+            ∙ same-accepted r e
+            ∙ ap (longer more) (sym (accepted-after lent q r e))
+        go (suc n) e =
+            refusal-leaves lent (longer more q) r n (same-number r ∙ e)
+            ∙ ap (longer more) (sym (refusal-leaves lent q r n e))
+
+    after-inside : (r : Request) → after lent q r .count ≤ lent
+    unfolding joined without
+    after-inside r = after-keeps (λ s. s .count ≤ lent) lent q r h (made r)
+      where
+        made : (r : Request) → number lent q r ≡ 0 → accepted r q .count ≤ lent
+        made (asks new) e = omega (arith, ask-room lent q new e)
+        made (leaves d) e = omega arith
+
+    same-answer : (r : Request) → answer lent (longer more q) r ≡ answer lent q r
+    unfolding answer answered
+    same-answer r =
+        let inside : after lent q r .count ≤ length (after lent q r .places) = omega (arith, after-inside r, others-kept lent q r lie .1) in
+        rw (same-number r, same-after r, take-append-le (after lent q r .count) (after lent q r .places) more inside, same-standing)
+
+pub beyond-lent : BeyondLent
+beyond-lent lent q r more lie = go (leb (q .count) lent) refl
+  where
+    go : (b : Bool) → leb (q .count) lent ≡ b →
+        (answer lent (longer more q) r ≡ answer lent q r) × (after lent (longer more q) r ≡ longer more (after lent q r))
+    go true e =
+        let h = leb-true (q .count) lent e in
+        (same-answer lent q more lie h r, same-after lent q more lie h r)
+    go false e =
+        let here = bad-number lent q r (over-bad lent q e) in
+        let there = bad-number lent (longer more q) r (over-bad lent (longer more q) e) in (
+          bad-answer lent (longer more q) r there ∙ sym (bad-answer lent q r here),
+          refusal-leaves lent (longer more q) r 9 there ∙ ap (longer more) (sym (refusal-leaves lent q r 9 here)),
+        )
 
 -- ---- trial n
 

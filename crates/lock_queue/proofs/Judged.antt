@@ -1,27 +1,24 @@
 -- Laws of a good queue and of the numbers: what the judging functions cite. Assumes nothing.
-use Prim.Native.Nat.{ℕ, zero, suc, _+_, _-_, _≤_, _<_}
+use Prim.Native.Nat.{ℕ, _-_, _≤_, _<_}
 use native.Mathlib.Omega.{arith}
 use mathlib.Core.Path.{_≡_, refl, sym, ap, _∙_}
-use mathlib.Core.List.{List, [], _∷_, map}
-use mathlib.Core.Bool.{Bool, true, false, cond, not, _&&_, _||_}
-use borrow.Author.Tests.{leb-true, le-leb, eqb-false, not-true, not-false}
+use mathlib.Core.List.{List, _∷_, map}
+use mathlib.Core.Bool.{Bool, true, false, not, _&&_}
+use borrow.Author.Tests.{leb-true, le-leb, eqb-false, not-false}
 use lib.Dec.{T, leb, eqb}
 use lib.ListN.{drop}
 use Rattle.endian.proofs.Tests.{all-out, and-in, and-left, and-right, or-fails}
 use Rattle.endian.specs.Tests.{all, allFrom}
-use Rattle.guard.proofs.Table.{unapplied, none-applies, settled-new, settled-old}
+use Rattle.guard.proofs.Table.{unapplied, none-applies, settled-old}
 use Rattle.guard.specs.Stamp.{stampValid}
 use Rattle.guard.specs.declared.Pair.{Pair}
-use Rattle.guard.specs.Table.{Row, row, first, applies, once, settled}
+use Rattle.guard.specs.Table.{Row, row, first, applies, once}
 use Rattle.lock_queue.proofs.Standing.{stands-below}
-use Rattle.lock_queue.specs.Queue.{State, mostPlaces, standing, desk, desks, firstPlace, stands, distinct, formed, within, queueChecks, good, joined, without}
+use Rattle.lock_queue.specs.Queue.{State, mostPlaces, standing, desks, firstPlace, stands, distinct, formed, within, queueChecks, good, joined, without}
 use Rattle.lock_queue.specs.Entries.{entriesGood}
 use Rattle.lock_queue.specs.Requests.{asking, leaving, answered, blank, Request, asks, leaves, rows, sender, accepted, number, after, answer}
 use Rattle.lock_queue.specs.declared.Answer.{Answer}
 use Rattle.lock_queue.specs.declared.Waiting.{Waiting}
-
-abbrev pub count-of : State → ℕ
-count-of q = q .count
 
 -- ---- a good queue
 
@@ -165,16 +162,25 @@ module _ (lent : ℕ) (q : State) where
   accepted-fits (asks new) e = omega (arith, ask-place new e)
   accepted-fits (leaves d) e = omega (arith, leave-place d e .0)
 
-  -- ---- the whole outcome
+  -- ---- the queue after a request, and the whole outcome
+
+  pub accepted-after : (r : Request) → number lent q r ≡ 0 → after lent q r ≡ accepted r q
+  unfolding after
+  accepted-after r e = rw e
+
+  pub refused-after : (r : Request) → (number lent q r ≡ 0 → ⊥) → after lent q r ≡ q
+  unfolding after
+  refused-after r h = settled-old (accepted r q) q h
+
   module _ (r : Request) {n d : ℕ} {ans : Answer} (number-is : n ≡ number lent q r) (sender-is : d ≡ sender r) where
     pub accepted-outcome : {s : State} → n ≡ 0 → s ≡ accepted r q → ans ≡ answered n d q s → (ans ≡ answer lent q r) × (s ≡ after lent q r)
-    unfolding answer after
+    unfolding answer
     accepted-outcome {s} e f a =
-        let now : s ≡ settled (number lent q r) (accepted r q) q = f ∙ sym (settled-new (accepted r q) q (sym number-is ∙ e)) in
+        let now : s ≡ after lent q r = f ∙ sym (accepted-after r (sym number-is ∙ e)) in
         (a ∙ rw (number-is, sender-is, now), now)
 
     pub refused-outcome : (n ≡ 0 → ⊥) → ans ≡ answered n d q q → (ans ≡ answer lent q r) × (q ≡ after lent q r)
-    unfolding answer after
+    unfolding answer
     refused-outcome e a =
-        let now : q ≡ settled (number lent q r) (accepted r q) q = sym (settled-old (accepted r q) q (λ z. e (number-is ∙ z))) in
+        let now : q ≡ after lent q r = sym (refused-after r (λ z. e (number-is ∙ z))) in
         (a ∙ rw (number-is, sender-is) (ap (answered (number lent q r) (sender r) q) now), now)

@@ -1,21 +1,18 @@
 -- Laws of an entry that joins and of one that is removed. Assumes nothing.
-use Prim.Native.Nat.{ℕ, zero, suc, _+_, _-_, _≤_, _<_, max}
+use Prim.Native.Nat.{ℕ, zero, suc, _+_, _-_, _≤_, _<_}
 use native.Mathlib.Omega.{arith}
-use native.Mathlib.Numerals.{add-one}
-use mathlib.Core.Path.{_≡_, refl, sym, ap, subst, _∙_}
-use mathlib.Core.Logic.{_⊎_, inl, inr}
+use mathlib.Core.Path.{_≡_, refl, sym, ap, _∙_}
 use mathlib.Core.List.{List, [], _∷_, _++_, map}
-use mathlib.Core.Bool.{Bool, true, false, cond, not, _&&_, _||_}
-use borrow.Author.Tests.{eq-eqb, ne-eqb, eqb-true, eqb-false, ltb-true, leb-true, le-leb, leb-false, not-true, not-false}
-use lib.Dec.{ltb, leb, eqb}
-use lib.ListN.{length, take, drop, getD, length-append, length-map}
-use lib.Seq.{getD-append-seam, take-append-seam}
-use Rattle.endian.proofs.Tests.{all-out, all-cons, all-append, and-in, and-left, and-right, or-fails, or-none, or-left, or-right, eqb-comm, never-both, cases, not-in}
+use mathlib.Core.Bool.{Bool, true, false, cond, not, _||_}
+use borrow.Author.Tests.{eq-eqb, eqb-true, eqb-false, ltb-true, leb-true, le-leb, not-true}
+use lib.Dec.{leb, eqb}
+use lib.ListN.{length, getD, length-map}
+use Rattle.endian.proofs.Tests.{all-cons, all-append, and-in, and-left, and-right, or-fails, or-none, never-both, not-in}
 use Rattle.endian.specs.Tests.{all, allFrom}
-use Rattle.guard.specs.Stamp.{stampValid, deskNumber, deskStart, own, shared, exclusive, sessionChecks}
+use Rattle.guard.specs.Stamp.{exclusive}
 use Rattle.guard.specs.declared.Pair.{Pair}
-use Rattle.lock_queue.specs.Queue.{noWaiting, desk, desks, stands, firstPlace, distinct, noExclusive, holdsAt, holds, formed, within, removed}
-use Rattle.lock_queue.proofs.Standing.{stands-place, stands-append, distinct-more, map-append}
+use Rattle.lock_queue.specs.Queue.{noWaiting, desk, desks, stands, firstPlace, distinct, noExclusive, within, removed}
+use Rattle.lock_queue.proofs.Standing.{stands-place, distinct-more, map-append}
 use Rattle.lock_queue.specs.declared.Waiting.{Waiting}
 
 -- ---- a test of every entry

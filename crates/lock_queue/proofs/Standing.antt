@@ -1,18 +1,17 @@
 -- Laws of the standing entries and their desks. Assumes nothing.
-use Prim.Native.Nat.{ℕ, zero, suc, _+_, _-_, _≤_, _<_}
+use Prim.Native.Nat.{ℕ, suc, _+_, _-_, _≤_, _<_}
 use native.Mathlib.Omega.{arith}
 use native.Mathlib.Nat.{add-zero}
 use native.Mathlib.Numerals.{add-one}
 use mathlib.Core.Path.{_≡_, refl, sym, ap, _∙_}
-use mathlib.Core.Logic.{_⊎_, inl, inr}
 use mathlib.Core.List.{List, [], _∷_, _++_, map, append-assoc}
 use mathlib.Core.Bool.{Bool, true, false, cond, not, _&&_, _||_}
-use borrow.Author.Tests.{eq-eqb, ne-eqb, lt-ltb, le-ltb, ltb-true, ltb-false}
+use borrow.Author.Tests.{eq-eqb, ne-eqb, lt-ltb, le-ltb, ltb-true}
 use lib.Dec.{ltb, eqb, leb·suc-suc}
 use lib.ListN.{length, take, drop, getD, set, length-map, length-take, length-drop, length-append, drop-of-length-le}
 use lib.Seq.{getD-take, length-take-le, take-suc, take-take}
 use Rattle.endian.proofs.Parts.{drop-left}
-use Rattle.endian.proofs.Loops.{Writing, writing-none, writing-more, writing-done}
+use Rattle.endian.proofs.Loops.{Writing, writing-more, writing-done}
 use Rattle.endian.specs.Parts.{splice}
 use Rattle.endian.proofs.Tests.{eqb-comm, all-append}
 use Rattle.endian.specs.Tests.{all, allFrom}

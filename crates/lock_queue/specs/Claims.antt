@@ -61,11 +61,15 @@ FreedZeroed =
     (lent : ℕ) (q : State) (d : ℕ) (w : Waiting) → lent ≤ length (q .places) → number lent q (leaves d) ≡ 0 →
     getD (after lent q (leaves d) .places) (q .count - 1) w ≡ noWaiting
 
--- "Other places past the count keep what they hold", and there are as many places as before.
+-- "Other places past the count keep what they hold", and there are as many places as before. A place is past the count if it is so before
+-- and after.
+abbrev pub past : ℕ → State → Request → ℕ
+past lent q r = max (q .count) (after lent q r .count)
+
 abbrev pub OthersKept : Type 0
 OthersKept =
     (lent : ℕ) (q : State) (r : Request) → lent ≤ length (q .places) →
-    (drop (max (q .count) (after lent q r .count)) (after lent q r .places) ≡ drop (max (q .count) (after lent q r .count)) (q .places))
+    (drop (past lent q r) (after lent q r .places) ≡ drop (past lent q r) (q .places))
     × (length (after lent q r .places) ≡ length (q .places))
 
 -- The largest pair never falls.
@@ -102,3 +106,12 @@ RoomAfterLeaving =
 -- Desk 0, with any start, never stands in a good queue, so that its leaving gets 15.
 abbrev pub NoDeskZero : Type 0
 NoDeskZero = (lent : ℕ) (q : State) (start : ℕ) → T (good lent q) → start < 65536 → number lent q (leaves start) ≡ 15
+
+-- Places beyond the lent ones make no difference, and keep what they hold.
+abbrev pub longer : List Waiting → State → State
+longer more q = record { places = q .places ++ more; count = q .count; largest = q .largest }
+
+abbrev pub BeyondLent : Type 0
+BeyondLent =
+    (lent : ℕ) (q : State) (r : Request) (more : List Waiting) → lent ≤ length (q .places) →
+    (answer lent (longer more q) r ≡ answer lent q r) × (after lent (longer more q) r ≡ longer more (after lent q r))

@@ -1,6 +1,6 @@
 -- The three tests on the standing entries, and the same for one entry behind those before it: what a pass over the places computes.
 -- Assumes nothing.
-use mathlib.Core.List.{List, [], _∷_, map}
+use mathlib.Core.List.{List, map}
 use mathlib.Core.Bool.{Bool, not, _&&_}
 use Rattle.endian.specs.Tests.{all}
 use Rattle.guard.specs.declared.Pair.{Pair}

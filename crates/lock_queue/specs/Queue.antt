@@ -1,13 +1,13 @@
 -- The lock queue of one card, as lists (the sheet, "The lock queue of one card"): who stands in it, who holds the lock, how many entries
 -- are looked at, and when a queue is good. Minuet: the lock manager's queue for one shared resource.
 -- Assumes nothing.
-use Prim.Native.Nat.{ℕ, zero, suc, _+_, _-_}
+use Prim.Native.Nat.{ℕ, suc, _+_, _-_}
 use mathlib.Core.List.{List, [], _∷_, _++_, map}
 use mathlib.Core.Bool.{Bool, true, false, cond, not, _&&_, _||_}
 use lib.ListN.{length, take, drop, getD, set}
-use lib.Dec.{ltb, leb, eqb}
+use lib.Dec.{leb, eqb}
 use Rattle.endian.specs.Tests.{all}
-use Rattle.guard.specs.Stamp.{stampValid, deskOf, exclusive, sessionChecks, largerOfEach}
+use Rattle.guard.specs.Stamp.{stampValid, deskOf, exclusive, sessionChecks, stale, largerOfEach}
 use Rattle.guard.specs.Command.{noPair}
 use Rattle.guard.specs.declared.Pair.{Pair}
 use Rattle.lock_queue.specs.declared.Queue.{Queue}
@@ -103,6 +103,11 @@ queueChecks lent q =
 
 unfoldable pub good : ℕ → State → Bool
 good lent q = all (queueChecks lent q)
+
+-- "Asking shared is denied if its x is below the largest x; asking exclusive, if s or x is below its largest": as a command is stale. Minuet:
+-- UpgradeDenied.
+abbrev pub denied : Pair → Waiting → Bool
+denied largest new = stale (new .mode) largest (new .pair)
 
 -- "Full, exactly when count equals length".
 abbrev pub full : ℕ → ℕ → Bool

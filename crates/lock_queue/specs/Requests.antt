@@ -1,14 +1,13 @@
 -- Asking and leaving: the numbers as tables of rows, the queue as it is afterwards, and the answer (the sheet, "The lock queue of one card").
--- Minuet: UpgradeLock, UpgradeDenied, and DowngradeLock to no lock.
+-- Minuet: UpgradeLock, and DowngradeLock to no lock.
 -- Assumes nothing.
 use Prim.Native.Nat.{ℕ}
 use mathlib.Core.List.{List, [], _∷_}
 use mathlib.Core.Bool.{Bool, cond, not, _&&_, _||_}
 use lib.Dec.{eqb}
-use Rattle.guard.specs.Stamp.{stale}
 use Rattle.guard.specs.Command.{noPair}
 use Rattle.guard.specs.Table.{Row, row, first, settled}
-use Rattle.lock_queue.specs.Queue.{State, standing, desk, desks, stands, already, looked, holds, formed, good, full, joined, without}
+use Rattle.lock_queue.specs.Queue.{State, standing, desk, desks, stands, already, looked, holds, formed, good, denied, full, joined, without}
 use Rattle.lock_queue.specs.declared.Answer.{Answer}
 use Rattle.lock_queue.specs.declared.Waiting.{Waiting}
 
@@ -22,7 +21,7 @@ asking lent q new =
     -- 12: this desk and start already stands
     ∷ row (already (new .mode) (desk new) (desks (standing q))) 12
     -- 11: denied
-    ∷ row (stale (new .mode) (q .largest) (new .pair)) 11
+    ∷ row (denied (q .largest) new) 11
     -- 13: full
     ∷ row (full lent (q .count)) 13
     ∷ []

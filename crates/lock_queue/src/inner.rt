@@ -1,6 +1,6 @@
 ghost use mathlib.Core.Path.{_≡_};
 ghost use mathlib.Core.Bool.{false};
-ghost use mathlib.Core.List.{_∷_, [], _++_};
+ghost use mathlib.Core.List.{_∷_, _++_};
 ghost use Prim.Native.Nat.{_≤_, _<_};
 ghost use lib.ListN.{take, getD, set, drop};
 ghost use Rattle.lock_queue.specs.Queue.{state, mostPlaces, noWaiting, standing, desks, firstPlace, stands, looked, noExclusive, holds, removed, joined, without};

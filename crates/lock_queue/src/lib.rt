@@ -16,8 +16,9 @@ pub struct Waiting {
     pub pair: Pair,
 }
 
+// The places of a queue by value. How many of them are lent is told apart.
 pub struct Places {
-    pub at: [Waiting; 32],
+    pub at: [Waiting; MOST_PLACES],
 }
 
 // A queue: its places, of which the first `count` are taken, and the largest s and x ever accepted in it.
@@ -48,10 +49,10 @@ pub fn ask(queue: Queue, lent: usize, new: Waiting) -> Outcome
     let number = judge::ask_number(queue, lent, new);
     let desk = guard::desk_of(new.mode, new.pair);
     if number == 0 {
-        let after = inner::joined(queue, new);
+        let joined = inner::joined(queue, new);
         return Outcome {
-            answer: inner::answered(number, desk, queue, after),
-            queue: after,
+            answer: inner::answered(number, desk, queue, joined),
+            queue: joined,
         };
     }
     Outcome {
@@ -66,10 +67,10 @@ pub fn leave(queue: Queue, lent: usize, desk: u32) -> Outcome
 {
     let number = judge::leave_number(queue, lent, desk);
     if number == 0 {
-        let after = inner::without(queue, desk);
+        let closed = inner::without(queue, desk);
         return Outcome {
-            answer: inner::answered(number, desk, queue, after),
-            queue: after,
+            answer: inner::answered(number, desk, queue, closed),
+            queue: closed,
         };
     }
     Outcome {

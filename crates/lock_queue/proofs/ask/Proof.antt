@@ -1,10 +1,10 @@
 -- Accepted: the queue is the joined one; refused: it is as it was. Assumes nothing.
-use mathlib.Core.Path.{_≡_, sym, ap, subst, _∙_}
+use mathlib.Core.Path.{sym, subst, _∙_}
 use borrow.Author.Needs.{needs}
-use Prim.Native.Nat.{ℕ, _≤_}
+use Prim.Native.Nat.{_≤_}
 use Rattle.lock_queue.specs.Queue.{State, state, mostPlaces}
 use Rattle.lock_queue.specs.Requests.{asks}
-use Rattle.lock_queue.proofs.Judged.{count-of, shown-fits, ask-place, accepted-fits, accepted-outcome, refused-outcome}
+use Rattle.lock_queue.proofs.Judged.{shown-fits, ask-place, accepted-fits, accepted-outcome, refused-outcome}
 use Rattle.lock_queue.proofs.ask.Statement.{statement}
 use Rattle.lock_queue.proofs.ask.Tie as tie
 

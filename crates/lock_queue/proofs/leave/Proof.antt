@@ -1,10 +1,10 @@
 -- Accepted: the queue without the desk; refused: it is as it was. Assumes nothing.
-use mathlib.Core.Path.{_≡_, refl, sym, ap, subst, _∙_}
+use mathlib.Core.Path.{refl, sym, subst, _∙_}
 use borrow.Author.Needs.{needs}
-use Prim.Native.Nat.{ℕ, _≤_}
+use Prim.Native.Nat.{_≤_}
 use Rattle.lock_queue.specs.Queue.{State, state, mostPlaces}
 use Rattle.lock_queue.specs.Requests.{leaves}
-use Rattle.lock_queue.proofs.Judged.{count-of, shown-fits, leave-place, accepted-fits, accepted-outcome, refused-outcome}
+use Rattle.lock_queue.proofs.Judged.{shown-fits, leave-place, accepted-fits, accepted-outcome, refused-outcome}
 use Rattle.lock_queue.proofs.leave.Statement.{statement}
 use Rattle.lock_queue.proofs.leave.Tie as tie
 

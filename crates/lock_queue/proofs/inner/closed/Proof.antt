@@ -1,8 +1,8 @@
 -- The loop: the entries behind the gap, and the freed place, are left to write. Assumes nothing.
-use Prim.Native.Nat.{_≤_, _<_, _-_, _+_}
+use Prim.Native.Nat.{_≤_, _-_, _+_}
 use native.Mathlib.Omega.{arith}
-use mathlib.Core.Path.{_≡_, refl, sym, ap, _∙_}
-use lib.ListN.{length, take}
+use mathlib.Core.Path.{_≡_}
+use lib.ListN.{length}
 use Rattle.lock_queue.specs.Queue.{mostPlaces}
 use Rattle.endian.proofs.Loops.{writing-none}
 use Rattle.lock_queue.proofs.Array.{places-long}

@@ -1,7 +1,7 @@
 -- The loop: `kept` says whether the first i entries keep the rules. Assumes nothing.
 use Prim.Native.Nat.{_≤_, _-_}
 use native.Mathlib.Omega.{arith}
-use mathlib.Core.Path.{_≡_, refl, sym, ap, _∙_}
+use mathlib.Core.Path.{_≡_, refl}
 use lib.ListN.{length, take}
 use Rattle.lock_queue.specs.Queue.{mostPlaces, distinct}
 use Rattle.endian.specs.Tests.{all, allFrom}

@@ -1,7 +1,7 @@
 -- The length and the count first, then the stamps and the entries. Assumes nothing.
 use borrow.Author.Tests.{not-true, not-false}
 use Rattle.lock_queue.specs.Queue.{state}
-use Rattle.lock_queue.proofs.Judged.{sized, sized-count, good-unsized, good-rest}
+use Rattle.lock_queue.proofs.Judged.{sized-count, good-unsized, good-rest}
 use borrow.Author.Needs.{needs}
 use Rattle.lock_queue.proofs.judge.good.Statement.{statement}
 use Rattle.lock_queue.proofs.judge.good.Tie as tie
