@@ -1,5 +1,5 @@
 -- The claims of specs/Claims, proved. Assumes nothing.
-use Prim.Native.Nat.{ℕ, zero, suc, _+_, _-_, _*_, _/_, _≤_, _<_, zero-le, suc-le-suc}
+use Prim.Native.Nat.{ℕ, zero, suc, _+_, _-_, _*_, _≤_, _<_, zero-le, suc-le-suc}
 use native.Mathlib.Omega.{arith}
 use native.Mathlib.Nat.{zero-add, suc-add, not-suc-le-zero, le-of-suc-le-suc}
 use mathlib.Core.Path.{_≡_, refl, sym, ap, _∙_}
@@ -10,13 +10,13 @@ use lib.Seq.{length-take-le, drop-drop, take-at, drop-at, take-suc, take-length,
 use denote.Ref.{RefT, now}
 use Rattle.endian.specs.Parts.{part, spread}
 use Rattle.endian.proofs.Spread.{spread-append}
-use Rattle.guard.specs.Command.{fixed, field}
+use Rattle.guard.specs.Command.{fixed}
 use Rattle.stream.specs.Stream.{extent, whole, nextAt, onward, commands, endOf, endToEnd, placeOf}
 use Rattle.stream.specs.Claims.{OneCommand, Parts, First, Back, Stepping, Visits, Reads, Claims}
 use Rattle.stream.specs.Reader.{begun, movedTo, passed, steps}
 use Rattle.stream.specs.declared.Next.{Next}
-use Rattle.stream.specs.declared.Next.the-variants.{Whole, Cut}
-use Rattle.stream.proofs.Place.{extent-fixed, extent-take, extent-append, whole-in, whole-out, next-whole, next-cut, Stands, says-whole, says-cut}
+use Rattle.stream.specs.declared.Next.the-variants.{Whole}
+use Rattle.stream.proofs.Place.{extent-fixed, extent-take, extent-append, whole-in, whole-out, next-whole, next-cut, says-whole, says-cut}
 use Rattle.stream.proofs.Commands.{commands-whole, commands-cut, end-length, end-whole, end-cut, along}
 
 -- ---- the parts of a stream

@@ -1,17 +1,16 @@
 -- The commands of a stream and its end. Assumes nothing.
-use Prim.Native.Nat.{ℕ, zero, suc, _+_, _-_, _*_, _≤_, _<_, zero-le}
+use Prim.Native.Nat.{ℕ, zero, suc, _+_, _-_, _≤_, _<_, zero-le}
 use native.Mathlib.Omega.{arith}
 use native.Mathlib.Nat.{zero-add}
 use mathlib.Core.Path.{_≡_, refl, sym, ap, _∙_}
-use mathlib.Core.List.{List, [], _∷_, _++_, append-assoc}
+use mathlib.Core.List.{List, [], _∷_}
 use mathlib.Core.Bool.{Bool, true, false, cond}
-use lib.ListN.{length, take, drop, getD, length-drop, length-append}
+use lib.ListN.{length, take, drop, length-drop, length-append}
 use lib.Seq.{length-take-le, drop-drop}
 use Rattle.endian.specs.Parts.{spread}
-use Rattle.guard.specs.Command.{fixed}
 use Rattle.stream.specs.Stream.{extent, whole, nextAt, commandsWithin, commands, endWithin, endOf, endToEnd}
 use Rattle.stream.specs.declared.Next.the-variants.{Whole, Cut}
-use Rattle.stream.proofs.Place.{extent-fixed, whole-out, cut-short, Stands, says-whole, says-cut}
+use Rattle.stream.proofs.Place.{extent-fixed, whole-out, cut-short, says-whole, says-cut}
 
 -- ---- one step, with as many steps left as one likes
 

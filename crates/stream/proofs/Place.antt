@@ -1,20 +1,19 @@
 -- What stands at a place of a stream. Assumes nothing.
-use Prim.Native.Nat.{ℕ, _+_, _-_, _≤_, _<_}
+use Prim.Native.Nat.{ℕ, _+_, _≤_, _<_}
 use native.Mathlib.Omega.{arith}
 use native.Mathlib.Nat.{add-assoc}
 use mathlib.Core.Path.{_≡_, refl, sym, ap, _∙_}
-use mathlib.Core.List.{List, [], _∷_, _++_}
-use mathlib.Core.Bool.{Bool, true, false, cond, _&&_}
-use borrow.Author.Tests.{leb-true, le-leb, lt-leb}
+use mathlib.Core.List.{List, _++_}
+use mathlib.Core.Bool.{Bool, true, false}
+use borrow.Author.Tests.{leb-true, le-leb}
 use lib.Dec.{leb}
-use lib.ListN.{length, take, drop, length-drop, length-append}
+use lib.ListN.{length, take, drop, length-drop}
 use Rattle.endian.specs.Parts.{part}
 use Rattle.endian.specs.Le.{le}
 use Rattle.endian.proofs.Parts.{part-drop, part-take, part-append-left}
-use Rattle.endian.proofs.Tests.{and-in, and-left, and-right, or-none}
+use Rattle.endian.proofs.Tests.{and-in, and-right}
 use Rattle.guard.specs.Command.{fixed}
 use Rattle.stream.specs.Stream.{extent, whole, nextAt}
-use Rattle.stream.specs.declared.Next.{Next}
 use Rattle.stream.specs.declared.Next.the-variants.{Whole, Cut}
 
 -- ---- the command that begins some bytes

@@ -3,8 +3,8 @@
 --     Place, At     the loop's invariant: the place that the reader has come to, as for the walk over plain parameters (`Walked`), and the memory there
 --     found         a turn from where `next` has answered, by cases on the answer: the reader is moved on, or the loop is left and the function returns
 -- Assumes nothing.
-use mathlib.Core.Path.{_≡_, refl, sym, ap, _∙_}
-use Prim.Native.Nat.{ℕ, _-_, _≤_, _<_, _^_}
+use mathlib.Core.Path.{_≡_, refl, sym, ap}
+use Prim.Native.Nat.{ℕ, _-_, _<_, _^_}
 use native.Mathlib.Nat.{lt-of-le-of-lt}
 use mathlib.Core.WellFounded.{WellFounded, InvImage·wf}
 use mathlib.Core.List.{List, [], _∷_}
