@@ -7,9 +7,9 @@ use mathlib.Core.Logic.{_⊎_, inl, inr}
 use lib.Dec.{T, T-not}
 use Rattle.endian.proofs.Tests.{to-T, from-T, from-false, cases}
 use Rattle.guard.specs.Command.{wellFormed, formed}
-use Rattle.guard.specs.Entry.{entrySound, FitsEntry, FitsCommand}
+use Rattle.guard.specs.Entry.{entrySound, FitsEntry}
 use Rattle.guard.specs.Judge.{raise, judged}
-use Rattle.guard.specs.Claims.{Judging, Judges, StaleStays, Parsing, Parses, CommandComesBack, BytesComeBack}
+use Rattle.guard.specs.Claims.{Judges, StaleStays, Parsing, Parses, CommandComesBack, BytesComeBack}
 use Rattle.guard.specs.declared.Command.{Command}
 use Rattle.guard.specs.declared.Entry.{Entry}
 use Rattle.guard.proofs.Stamp.{stale-more}

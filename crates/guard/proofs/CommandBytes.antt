@@ -3,7 +3,7 @@ use Prim.Native.Nat.{ℕ, _+_, _≤_, _<_}
 use native.Mathlib.Omega.{arith}
 use mathlib.Core.Path.{_≡_, refl, sym, ap, subst, _∙_}
 use mathlib.Core.List.{List, [], _∷_, _++_}
-use mathlib.Core.Bool.{Bool, true, false, cond, _&&_}
+use mathlib.Core.Bool.{Bool, true, false, _&&_}
 use borrow.Author.Tests.{eqb-true, eq-eqb, ne-eqb}
 use lib.Dec.{eqb, lit<, lit≤}
 use lib.ListN.{length, drop, replicate, length-drop, take-append-drop}
@@ -15,10 +15,9 @@ use Rattle.endian.proofs.Bytes.{Bytes-cons, Bytes-nil, Bytes-append, Bytes-repl
 use Rattle.endian.proofs.Le.{le-toLe, toLe-le, le-part-bound, Bytes-toLe}
 use Rattle.endian.proofs.Parts.{length-part, drop-left}
 use Rattle.guard.specs.Command.{fixed, field, markAt, markBytes, fieldsOf, payload, formed, parsed, wellFormed, commandBytes}
-use Rattle.guard.specs.Entry.{FitsPair, FitsMark, FitsCommand}
+use Rattle.guard.specs.Entry.{FitsMark, FitsCommand}
 use Rattle.guard.specs.declared.Command.{Command}
 use Rattle.guard.specs.declared.Mark.{Mark}
-use Rattle.guard.specs.declared.Parsed.{Parsed}
 use Rattle.guard.specs.declared.Parsed.the-variants.{Malformed, Formed}
 
 -- A parse by the one test of the bytes.

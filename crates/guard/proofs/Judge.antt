@@ -1,14 +1,13 @@
 -- Laws of an entry that judges a command. Assumes nothing.
-use Prim.Native.Nat.{ℕ, zero, suc, _+_, _≤_, _<_, max}
+use Prim.Native.Nat.{ℕ, zero, suc, _≤_}
 use native.Mathlib.Omega.{arith}
-use mathlib.Core.Path.{_≡_, refl, sym, ap, subst, _∙_}
+use mathlib.Core.Path.{_≡_, refl, subst}
 use mathlib.Core.Logic.{_↔_, _⊎_}
-use mathlib.Core.List.{List, [], _∷_}
-use mathlib.Core.Bool.{Bool, true, false, cond, not, _&&_, _||_}
-use borrow.Author.Tests.{ltb-false, le-ltb, eqb-true, eqb-false, not-true, not-false}
-use lib.Dec.{T, eqb, ltb}
-use Rattle.endian.proofs.Tests.{to-T, from-T, never-both, and-left, and-right, or-fails, or-none, cases}
-use Rattle.guard.specs.Stamp.{shared, exclusive, stale, largerOfEach}
+use mathlib.Core.Bool.{Bool, true, false, not, _&&_}
+use borrow.Author.Tests.{ltb-false, eqb-true, eqb-false, not-true, not-false}
+use lib.Dec.{T, eqb}
+use Rattle.endian.proofs.Tests.{from-T, never-both, or-fails}
+use Rattle.guard.specs.Stamp.{shared, exclusive, stale}
 use Rattle.guard.specs.Command.{Language, original, translation, reads, writes, verifier, update, wellFormed}
 use Rattle.guard.specs.Table.{first, none, applies, earlier, once, settled}
 use Rattle.guard.specs.Judge.{markFits, behind, lastEdition, overruns, entryRows, rows, raise, judged, blank, readLength, replied, refused}
@@ -16,8 +15,8 @@ use Rattle.guard.specs.declared.Command.{Command}
 use Rattle.guard.specs.declared.Entry.{Entry}
 use Rattle.guard.specs.declared.Judged.{Judged}
 use Rattle.guard.proofs.Table.{given, unapplied, none-applies, first-all, settled-new, settled-old}
-use Rattle.guard.proofs.Rules.{CommandRules, command-rules}
-use Rattle.guard.proofs.Stamp.{SessionRules, larger-old, stale-more}
+use Rattle.guard.proofs.Rules.{command-rules}
+use Rattle.guard.proofs.Stamp.{larger-old, stale-more}
 
 second-fails : (a b : Bool) → (a && b) ≡ false → a ≡ true → b ≡ false
 second-fails true b h e = h

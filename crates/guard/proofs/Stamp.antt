@@ -1,10 +1,10 @@
 -- Laws of stamps, pairs and staleness. Assumes nothing.
-use Prim.Native.Nat.{ℕ, _+_, _*_, _/_, _%_, _≤_, _<_, max}
+use Prim.Native.Nat.{ℕ, _+_, _*_, _/_, _≤_, _<_, max}
 use native.Mathlib.Omega.{arith}
 use mathlib.Core.Path.{_≡_, sym, subst, _∙_}
 use mathlib.Core.Logic.{_⊎_, inl, inr}
-use mathlib.Core.Bool.{Bool, true, false, not, _&&_, _||_}
-use borrow.Author.Tests.{ltb-true, ltb-false, lt-ltb, ne-eqb, eqb-true, eqb-false, not-true}
+use mathlib.Core.Bool.{true, false, _&&_}
+use borrow.Author.Tests.{ltb-true, ltb-false, ne-eqb, eqb-true, eqb-false, not-true}
 use lib.Dec.{T, ltb, eqb, lt→ltb, ltb→lt}
 use Rattle.endian.specs.Tests.{all}
 use Rattle.endian.proofs.Tests.{cases, not-in, or-right, or-cases, all-out, T-and, T-and-left, T-and-right, T-or-left, T-or-right, T-or-cases}

@@ -1,13 +1,13 @@
 -- Laws of a table of numbered refusals, by number and not by place. Assumes nothing.
 use Prim.Native.Nat.{ℕ, zero, suc}
 use native.Mathlib.Omega.{arith}
-use mathlib.Core.Path.{_≡_, refl, sym, ap, subst, _∙_}
-use mathlib.Core.Logic.{_↔_, _⊎_, inl, inr}
+use mathlib.Core.Path.{_≡_, refl, sym, subst}
+use mathlib.Core.Logic.{_↔_}
 use mathlib.Core.List.{List, [], _∷_}
 use mathlib.Core.Bool.{Bool, true, false, cond, not, _&&_, _||_}
 use borrow.Author.Tests.{eqb-true, eqb-false}
 use lib.Dec.{T, eqb, T-not}
-use Rattle.endian.proofs.Tests.{to-T, from-T, never-both, eq→eqb, T-and-left, T-and-right, T-or-left, T-or-right}
+use Rattle.endian.proofs.Tests.{eq→eqb, T-and-left, T-and-right, T-or-left, T-or-right}
 use Rattle.guard.specs.Table.{Row, row, first, none, applies, earlier, numbered, once, settled}
 
 -- The number that is given stands on a row.

@@ -2,7 +2,7 @@
 -- Assumes nothing.
 use Prim.Native.Nat.{ℕ, zero, suc, _+_}
 use mathlib.Core.List.{List, [], _∷_, _++_}
-use mathlib.Core.Bool.{Bool, true, false, cond, not, _&&_, _||_, Bool·beq}
+use mathlib.Core.Bool.{Bool, false, cond, not, _&&_, _||_, Bool·beq}
 use lib.ListN.{length, drop, getD, replicate}
 use lib.Dec.{leb, eqb}
 use Rattle.endian.specs.Parts.{part, zeros}

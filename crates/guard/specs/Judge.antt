@@ -13,7 +13,6 @@ use Rattle.guard.specs.declared.Command.{Command}
 use Rattle.guard.specs.declared.Entry.{Entry}
 use Rattle.guard.specs.declared.Judged.{Judged}
 use Rattle.guard.specs.declared.Mark.{Mark}
-use Rattle.guard.specs.declared.Pair.{Pair}
 
 -- "The commit mark must equal the stored mark in desk and in transaction."
 abbrev pub markFits : Mark → Mark → Bool
