@@ -9,7 +9,7 @@ use borrow.Author.Tests.{not-true, not-false, ltb-true, lt-ltb, eqb-true, eqb-fa
 use lib.Dec.{eqb, ltb}
 use Rattle.endian.proofs.Tests.{never-both, cases, and-in, and-left, and-right, or-left, or-right, or-cases, or-fails, not-in}
 use Rattle.guard.specs.Command.{fieldsOf, verifier, update}
-use Rattle.guard.specs.Stamp.{exclusive, deskNumber, deskStart, deskOf}
+use Rattle.guard.specs.Stamp.{shared, exclusive, deskNumber, deskStart, deskOf}
 use Rattle.guard.specs.declared.Command.{Command}
 use Rattle.guard.specs.declared.Pair.{Pair}
 use Rattle.store.specs.Words.{Sent, Event, any, none, since, last, commandOf, accepted, largerS, largerX, late, sentFor, carries, under, breaks, premise, deskIn, intrudes}
@@ -274,6 +274,39 @@ late-means before c = (out, λ h. back (h .0) (h .1) (h .2) (h .2 .larger))
 -- Two stamps have one desk and start: the 16 bits of the desk and the 16 bits of the start are equal.
 pub desk-and-start : (m n : ℕ) → (deskStart m ≡ deskStart n) ↔ ((deskNumber m ≡ deskNumber n) × (m % 65536 ≡ n % 65536))
 desk-and-start m n = (λ e. omega arith, λ h. omega arith)
+
+-- A shared command carries another desk's exclusive stamp: "its x is nonzero and differs from its s in desk or start".
+pub record Carries (c : Command) : Type 0 where
+  pub mode : c .mode ≡ shared
+  pub some : update c .x ≡ 0 → ⊥
+  pub other : (deskNumber (update c .x) ≡ deskNumber (update c .s)) × (update c .x % 65536 ≡ update c .s % 65536) → ⊥
+
+pub carries-means : (c : Command) → (carries c ≡ true) ↔ Carries c
+carries-means c = (out, back)
+  where
+    is-shared : Bool
+    is-shared = eqb (c .mode) shared
+
+    some : Bool
+    some = not (eqb (update c .x) 0)
+
+    other : Bool
+    other = not (eqb (deskStart (update c .x)) (deskStart (update c .s)))
+
+    out : carries c ≡ true → Carries c
+    out h =
+        let front = and-left (is-shared && some) other h in
+        let apart = eqb-false (deskStart (update c .x)) (deskStart (update c .s)) (not-true (eqb (deskStart (update c .x)) (deskStart (update c .s))) (and-right (is-shared && some) other h)) in
+        record {
+          mode = eqb-true (c .mode) shared (and-left is-shared some front);
+          some = eqb-false (update c .x) 0 (not-true (eqb (update c .x) 0) (and-right is-shared some front));
+          other = λ same. apart (desk-and-start (update c .x) (update c .s) .1 same);
+        }
+
+    back : Carries c → carries c ≡ true
+    back r =
+        and-in (and-in (eq-eqb (c .mode) shared (r .mode)) (not-in (ne-eqb (update c .x) 0 (r .some))))
+        (not-in (ne-eqb (deskStart (update c .x)) (deskStart (update c .s)) (λ e. r .other (desk-and-start (update c .x) (update c .s) .0 e))))
 
 -- An event intrudes: accepted for the card, of another desk or start than b's, and one of the two is exclusive.
 pub record Intruder (k : ℕ) (b e : Event) : Type 0 where

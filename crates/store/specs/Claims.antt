@@ -80,8 +80,7 @@ pub record Claim (n : ℕ) (sent : List Sent) (log : List Event) : Type 0 where
 abbrev pub Demand3 : Type 0
 Demand3 = (n c : ℕ) → T (shapeOk n c) → (sent : List Sent) → AllBytes sent → Claim n sent (logOf n c sent)
 
--- The premise is neither idle nor empty: it holds of trial a's list and fails of trial d's ("the premise on shared stamps is broken here"), where a
--- shared command of another desk is accepted between two accepted commands of one exclusive session.
+-- A log in which an accepted command of another desk stands between two accepted commands of one session for card 0.
 pub record Intruded (log : List Event) : Type 0 where
   pub a : Event
   pub e : Event
@@ -92,6 +91,8 @@ pub record Intruded (log : List Event) : Type 0 where
   pub same : OneSession a b
   pub intruder : intrudes 0 b e ≡ true
 
+-- The premise is neither empty nor idle: it holds of trial a's list and fails of trial d's ("the premise on shared stamps is broken here"), in
+-- whose log sessions are not isolated.
 pub record PremiseTells : Type 0 where
   pub holds : premise 0 sentA ≡ true
   pub fails : premise 0 sentD ≡ false
