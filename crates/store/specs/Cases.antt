@@ -1,5 +1,5 @@
--- The starred trials of the sheet ("Trials at the desk") and the four commands of case P, as one table: a start, requests in the order in which
--- they are sent, and what each must get. Where no act is named it is verify; commit marks are zero throughout.
+-- The starred trials of the sheet ("Trials at the desk"), the four commands of case P and the three slips, as one table: a start, requests in the
+-- order in which they are sent, and what each must get. Where no act is named it is verify; commit marks are zero throughout.
 -- Assumes nothing.
 use Prim.Native.Nat.{ℕ}
 use mathlib.Core.Path.{_≡_}
@@ -298,6 +298,39 @@ caseP =
           ∷ [];
     }
 
+-- The three slips of the sheet ("Three slips we have seen"). "Serving a translation because its length is nonzero. The edition decides.":
+-- a translation of three bytes, behind since the original was written again.
+abbrev pub slipByLength : Trial
+slipByLength =
+    record {
+      start = empty;
+      sent = bothWritten ++ (writeOriginal first first text205 ∷ readTranslation (long 3) ∷ []);
+      expected = bothGot ++ (got 0 first first 0 0 2 1 0 [] ∷ got 6 first first 0 0 2 1 0 (long 3) ∷ []);
+    }
+
+-- "Storing the command's pair in place of the larger of each: a shared command with a small s would then reopen the card to an older exclusive
+-- one."
+abbrev pub slipCommandPair : Trial
+slipCommandPair =
+    record {
+      start = empty;
+      sent = verify exclusive second first ∷ verify shared (stamp 0 2 0) first ∷ verify exclusive first first ∷ [];
+      expected =
+          got 0 second first 0 0 0 0 0 []
+          ∷ got 0 second first 0 0 0 0 0 []
+          ∷ got 3 second first 0 0 0 0 0 []
+          ∷ [];
+    }
+
+-- "Raising the stored pair, then finding the reply buffer short (8).": A' still passes after a read by B that got 8.
+abbrev pub slipRaised : Trial
+slipRaised =
+    record {
+      start = empty;
+      sent = bothWritten ++ (readOriginal (long 2) ∷ verify exclusive first first ∷ []);
+      expected = bothGot ++ (got 8 first first 0 0 1 1 0 (long 2) ∷ got 0 first first 0 0 1 1 0 [] ∷ []);
+    }
+
 abbrev pub trials : List Trial
 trials =
     trialA
@@ -316,6 +349,9 @@ trials =
     ∷ trialLOriginal
     ∷ trialLTranslation
     ∷ caseP
+    ∷ slipByLength
+    ∷ slipCommandPair
+    ∷ slipRaised
     ∷ []
 
 -- The claim: each row gets exactly what it must, whole lists of answers, fields and reply buffers.
