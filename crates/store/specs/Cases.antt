@@ -3,7 +3,7 @@
 -- Assumes nothing.
 use Prim.Native.Nat.{ℕ}
 use mathlib.Core.Path.{_≡_}
-use mathlib.Core.List.{List, [], _∷_, _++_, map}
+use mathlib.Core.List.{List, [], _∷_, _++_, map, reverse}
 use lib.ListN.{length, replicate}
 use Rattle.guard.specs.Command.{commandBytes, noMark, noPair}
 use Rattle.guard.specs.Stamp.{stamp, shared, exclusive}
@@ -12,7 +12,7 @@ use Rattle.guard.specs.declared.Entry.{Entry}
 use Rattle.guard.specs.declared.Pair.{Pair}
 use Rattle.image.specs.Image.{encode, fresh}
 use Rattle.store.specs.Serve.{serve}
-use Rattle.store.specs.Words.{Sent}
+use Rattle.store.specs.Words.{Sent, Event, history}
 
 -- What a request gets: its answer and the reply buffer afterwards.
 pub record Got : Type 0 where
@@ -25,6 +25,13 @@ run image [] = []
 run image (s ∷ later) =
     record { answer = serve image (s .command) (s .lent) .answer; reply = serve image (s .command) (s .lent) .reply }
     ∷ run (serve image (s .command) (s .lent) .image) later
+
+-- What a run gets is what the log of demand 3 shows for the same requests.
+abbrev pub shown : Event → Got
+shown e = record { answer = e .answer; reply = e .reply }
+
+abbrev pub RunLogged : Type 0
+RunLogged = (start : List ℕ) (sent : List Sent) → run start sent ≡ map shown (reverse (history start (reverse sent)))
 
 -- One row of the table.
 pub record Trial : Type 0 where
