@@ -1,10 +1,9 @@
 -- What the writes of an accepted command make of the bytes of cards. Assumes nothing.
 use Prim.Native.Nat.{ℕ, _<_}
-use native.Mathlib.Omega.{arith}
-use lib.Dec.{T, eqb, lit≤}
+use lib.Dec.{lit≤}
 use mathlib.Core.Path.{_≡_, refl, sym, ap, subst, _∙_}
 use mathlib.Core.List.{List}
-use mathlib.Core.Bool.{Bool, true, false, cond}
+use mathlib.Core.Bool.{Bool, true, false}
 use borrow.Author.Tests.{eqb-true}
 use lib.ListN.{length, getD, set, length-set}
 use lib.Seq.{getD-set-same, set-set}
@@ -14,34 +13,15 @@ use Rattle.guard.specs.Command.{original, translation, writes}
 use Rattle.guard.specs.Judge.{raise}
 use Rattle.guard.specs.declared.Command.{Command}
 use Rattle.guard.specs.declared.Entry.{Entry}
-use Rattle.image.specs.Image.{
-  Card,
-  Cards,
-  withCard,
-  withEntry,
-  withText,
-  noCard,
-  entryPlace,
-  bodyPlace,
-  entryBytes,
-  pad,
-  countOf,
-  roomOf,
-  entryAt,
-  cardAt,
-  encode,
-  decode,
-  sound,
-}
+use Rattle.image.specs.Image.{Card, Cards, withCard, withEntry, withText, noCard, entryPlace, bodyPlace, entryBytes, pad, countOf, entryAt, cardAt, encode, decode, sound}
 use Rattle.image.proofs.Claims.{soundReadsBack, goodEncodes}
 use Rattle.image.proofs.Encode.{put-entry, put-text}
 use Rattle.store.specs.Effects.{bodyWritten, textWritten}
 use Rattle.store.specs.Serve.{stepped, serve}
-use Rattle.store.specs.Claims.{SentBytes}
 use Rattle.store.specs.Words.{Sent}
 use Rattle.store.proofs.Machine.{numberOn, cardsBy}
 use Rattle.store.proofs.Simulation.{good-more, same-image}
-use Rattle.store.proofs.Step.{count-cards, card-of}
+use Rattle.image.proofs.Decode.{count-decode, card-decode}
 
 -- ---- a text, then an entry, at card k
 
@@ -93,18 +73,18 @@ card-entry image k = refl
 
 module _ (image : List ℕ) (same : encode (decode image) ≡ image) (k : ℕ) (h : k < countOf image) (e : Entry) where
   exists : k < length (decode image .cards)
-  exists = rw (count-cards image) h
+  exists = rw (count-decode image) h
 
   side-kept : (side : ℕ) (t : List ℕ) → side < 2 →
       splice (entryPlace k) (entryBytes e) (bodyWritten image k side t)
       ≡ encode (withCard k (withEntry e (withText side t (cardAt image k))) (decode image))
   unfolding decode
   side-kept side t g =
-      rw (same, count-cards image, card-of image k h) at (text-then-entry (decode image) k exists e side t g)
+      rw (same, count-decode image, card-decode image k h) at (text-then-entry (decode image) k exists e side t g)
 
   entry-kept :
       splice (entryPlace k) (entryBytes e) image ≡ encode (withCard k (withEntry e (cardAt image k)) (decode image))
-  entry-kept = rw (same, card-of image k h) at (put-entry (decode image) k e exists)
+  entry-kept = rw (same, card-decode image k h) at (put-entry (decode image) k e exists)
 
 -- The text that a command writes, then the raised entry: the image of the cards after it.
 pub keeps : (image : List ℕ) (same : encode (decode image) ≡ image) (c : Command) (t : List ℕ) {e : Entry} →

@@ -1,32 +1,31 @@
 -- What one request comes to, by the tests in the order of the table: the laws that the code of a step cites. Assumes nothing.
-use Prim.Native.Nat.{ℕ, _+_, _-_, _<_, _≤_}
+use Prim.Native.Nat.{ℕ, _-_, _<_, _≤_}
 use native.Mathlib.Omega.{arith}
-use mathlib.Core.Path.{_≡_, refl, sym, ap, _∙_}
-use mathlib.Core.List.{List, [], _∷_}
+use mathlib.Core.Path.{_≡_, refl, ap, _∙_}
+use mathlib.Core.List.{List}
 use mathlib.Core.Logic.{_⊎_, inl, inr}
-use mathlib.Core.Bool.{Bool, true, false, cond, not, _&&_}
+use mathlib.Core.Bool.{Bool, true, false}
 use borrow.Author.Tests.{lt-ltb, ltb-true, ltb-false}
-use lib.ListN.{length, take, drop, getD, length-drop}
+use lib.ListN.{length, take, drop, length-drop}
 use lib.Seq.{take-all}
-use lib.Dec.{T, ltb, eqb}
-use Rattle.endian.specs.Parts.{part, splice, table, zeros}
+use lib.Dec.{ltb}
+use Rattle.endian.specs.Parts.{splice}
 use Rattle.endian.proofs.Tests.{cases, never-both}
-use Rattle.endian.proofs.Spread.{getD-table, length-table}
 use Rattle.guard.specs.Command.{Language, original, translation, reads, fieldsOf, payload, formed, parsed, fixed}
-use Rattle.guard.specs.Table.{Row, row, first, settled}
+use Rattle.guard.specs.Table.{first}
 use Rattle.guard.specs.Judge.{rows, readLength, overruns, raise, replied, judged, refused}
 use Rattle.guard.specs.declared.Answer.{Answer}
 use Rattle.guard.specs.declared.Command.{Command}
 use Rattle.guard.specs.declared.Entry.{Entry}
 use Rattle.guard.specs.declared.Judged.{Judged}
-use Rattle.guard.specs.declared.Parsed.{Parsed}
 use Rattle.guard.specs.declared.Parsed.the-variants.{Malformed, Formed}
 use Rattle.guard.proofs.CommandBytes.{parsed-formed, parsed-malformed, formed-short}
 use Rattle.guard.proofs.Judge.{Accepted, accepted, accepted-raises}
 use Rattle.guard.proofs.Table.{settled-old}
-use Rattle.image.specs.Image.{Card, Cards, withCard, noCard, cardAt, entryAt, countOf, roomOf, encode, decode, sound}
+use Rattle.image.specs.Image.{Card, withCard, cardAt, entryAt, countOf, roomOf, encode, decode, sound}
+use Rattle.image.proofs.Decode.{count-decode, card-decode}
 use Rattle.store.specs.Effects.{judgedAt, carried}
-use Rattle.store.specs.Serve.{Outcome, cardOf, textRead, stepped, cardsAfter, storeRows, serveBy, serve}
+use Rattle.store.specs.Serve.{Outcome, cardOf, textRead, stepped, storeRows, serveBy, serve}
 use Rattle.store.proofs.Formed.{formed-well}
 
 -- What a refusal with this answer leaves: image and reply buffer as they were.
@@ -71,17 +70,6 @@ pub behind-fixed : (bytes : List ℕ) → take (length bytes - fixed) (drop fixe
 unfolding payload
 behind-fixed bytes = take-all (length bytes - fixed) (drop fixed bytes) (rw length-drop (omega arith))
 
--- ---- the cards of an image
-
--- N, and the card that a command names, if it exists.
-pub count-cards : (image : List ℕ) → length (decode image .cards) ≡ countOf image
-unfolding decode
-count-cards image = length-table (cardAt image) (countOf image)
-
-pub card-of : (image : List ℕ) (k : ℕ) → k < countOf image → getD (decode image .cards) k noCard ≡ cardAt image k
-unfolding decode
-card-of image k h = getD-table (cardAt image) (countOf image) k noCard h
-
 -- The text that an accepted command reads fits the lent buffer.
 read-fits : (e : Entry) (c : Command) (lent : ℕ) → ((l : Language) → overruns l e c lent ≡ false) → readLength e c ≤ lent
 read-fits e c lent h = go (reads original c) (reads (translation 0) c) refl refl
@@ -104,14 +92,14 @@ module _ (image command : List ℕ) (lent : ℕ) where
       sound image ≡ true → formed command ≡ true
       → ltb (fieldsOf command .card) (countOf image) ≡ false
       → first (storeRows image command lent) ≡ 2
-  first-no-card e f g = rw (e, f, count-cards image, g)
+  first-no-card e f g = rw (e, f, count-decode image, g)
 
   first-judged :
       sound image ≡ true → formed command ≡ true
       → ltb (fieldsOf command .card) (countOf image) ≡ true
       → first (storeRows image command lent)
       ≡ first (rows (cardOf (decode image) (fieldsOf command) .entry) (fieldsOf command) (decode image .room) lent)
-  first-judged e f g = rw (e, f, count-cards image, g, formed-well command f)
+  first-judged e f g = rw (e, f, count-decode image, g, formed-well command f)
 
 -- ---- what a request leaves, by the tests
 
@@ -159,8 +147,8 @@ module _ (image command reply : List ℕ) where
       (first-judged image command (length reply) e f (lt-ltb (fieldsOf command .card) (countOf image) g)
       ∙ ap
       (λ (card : Card). first (rows (card .entry) (fieldsOf command) (roomOf image) (length reply)))
-      (card-of image (fieldsOf command .card) g))
-      ∙ by-judged (cardAt image (fieldsOf command .card)) (card-of image (fieldsOf command .card) g) refl refl
+      (card-decode image (fieldsOf command .card) g))
+      ∙ by-judged (cardAt image (fieldsOf command .card)) (card-decode image (fieldsOf command .card) g) refl refl
 
   -- The same for a command and a payload that were found in the lent bytes.
   pub serve-found : {c : Command} {text : List ℕ} →

@@ -8,7 +8,6 @@ use lib.ListN.{length, replicate}
 use Rattle.guard.specs.Command.{commandBytes, noMark, noPair}
 use Rattle.guard.specs.Stamp.{stamp, shared, exclusive}
 use Rattle.guard.specs.declared.Answer.{Answer}
-use Rattle.guard.specs.declared.Entry.{Entry}
 use Rattle.guard.specs.declared.Pair.{Pair}
 use Rattle.image.specs.Image.{encode, fresh}
 use Rattle.store.specs.Serve.{serve}
