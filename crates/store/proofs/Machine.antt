@@ -263,13 +263,9 @@ ties-more cs s before t zero e k b = go (cases (eqb (fieldsOf (s .command) .card
         (sym (getD-set-other (cs .cards) place k after noCard (λ z. eqb-false place k h (sym z))))
         (tied-other k (eventBy 0 cs s) before (getD (cs .cards) k noCard) (accepted-at cs s k ∙ h) (t k within))
 
--- N and C stay.
+-- N stays.
 pub count-kept : (number : ℕ) (cs : Cards) (s : Sent) → length (cardsBy number cs s .cards) ≡ length (cs .cards)
 count-kept zero cs s =
     length-set (cs .cards) (fieldsOf (s .command) .card)
     (stepped (cardOf cs (fieldsOf (s .command))) (fieldsOf (s .command)) (payload (s .command)))
 count-kept (suc j) cs s = refl
-
-pub room-kept : (number : ℕ) (cs : Cards) (s : Sent) → cardsBy number cs s .room ≡ cs .room
-room-kept zero cs s = refl
-room-kept (suc j) cs s = refl

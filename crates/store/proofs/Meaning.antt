@@ -31,14 +31,6 @@ module _ {A : Type 0} where
   among-right [] m = m
   among-right (b ∷ s) m = among-later b (among-right s m)
 
-  pub among-left : {a : A} {l : List A} (s : List A) → Among a l → Among a (l ++ s)
-  among-left s m =
-      record {
-        front = m .front;
-        back = m .back ++ s;
-        split = ap (λ (r : List A). r ++ s) (m .split) ∙ append-assoc (m .front) (_ ∷ m .back) s;
-      }
-
   pub among-reverse : {a : A} {l : List A} → Among a (reverse l) → Among a l
   among-reverse {a} {l} m =
       record {
