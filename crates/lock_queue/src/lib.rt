@@ -6,6 +6,8 @@ use guard::Pair;
 
 mod inner;
 mod judge;
+mod lent;
+pub mod slice;
 
 // The largest number of places that a queue can have.
 pub const MOST_PLACES: usize = 32;
