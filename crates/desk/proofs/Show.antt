@@ -1,20 +1,19 @@
 -- What a desk shows: the steps of `shown`. Assumes nothing.
 use Prim.Native.Nat.{ℕ, _≤_}
-use native.Mathlib.Omega.{arith}
-use mathlib.Core.Path.{_≡_, refl}
-use mathlib.Core.Bool.{Bool, true, false, _||_}
+use mathlib.Core.Path.{_≡_}
+use mathlib.Core.Bool.{Bool, false, _||_}
 use borrow.Author.Tests.{ltb-false}
 use lib.ListN.{length, take}
 use Rattle.endian.proofs.Tests.{or-fails}
 use Rattle.guard.specs.Table.{first, settled}
+use Rattle.guard.proofs.Table.{unapplied, none-applies}
 use Rattle.desk.specs.Show.{Text, of, beyond, showRows, shownNumber, shownPart}
 use Rattle.desk.specs.declared.Language.{Language}
 use Rattle.desk.specs.declared.Language.the-variants.{Original, Translation}
 
 -- Where nothing is refused, no length is beyond its buffer.
 none-long : (long late : Bool) → first (showRows long late) ≡ 0 → long ≡ false
-none-long true late e = absurd (omega arith)
-none-long false late e = refl
+none-long long late e = none-applies (showRows long late) (unapplied (showRows long late) tt .0 e) 8
 
 pub fits : (l : Language) (o t : Text) (late : Bool) → first (showRows (beyond o || beyond t) late) ≡ 0 → of l o t .length ≤ length (of l o t .buffer)
 fits l o t late e = go l (or-fails (beyond o) (beyond t) (none-long (beyond o || beyond t) late e))

@@ -25,15 +25,15 @@ extent-fixed s = omega arith
 -- Its length stands in its fixed part.
 pub extent-take : (n : ℕ) (s : List ℕ) → fixed ≤ n → extent (take n s) ≡ extent s
 unfolding extent
-extent-take n s h = ap (λ (l : List ℕ). fixed + le l) (part-take 50 2 n s h)
+extent-take n s h = ap (λ (l : List ℕ). fixed + le l) (part-take _ 2 n s (omega arith))
 
 pub extent-append : (c s : List ℕ) → fixed ≤ length c → extent (c ++ s) ≡ extent c
 unfolding extent
-extent-append c s h = ap (λ (l : List ℕ). fixed + le l) (part-append-left 50 2 c s h)
+extent-append c s h = ap (λ (l : List ℕ). fixed + le l) (part-append-left _ 2 c s (omega arith))
 
 pub extent-at : (at : ℕ) (s : List ℕ) → extent (drop at s) ≡ fixed + le (part (at + 50) 2 s)
 unfolding extent
-extent-at at s = ap (λ (l : List ℕ). fixed + le l) (part-drop 50 2 at s)
+extent-at at s = ap (λ (l : List ℕ). fixed + le l) (part-drop _ 2 at s)
 
 pub whole-in : (s : List ℕ) → extent s ≤ length s → whole s ≡ true
 unfolding whole
