@@ -3,7 +3,3 @@ pub mod Standing
 pub mod Judged
 pub mod Removed
 pub mod Claims
-pub mod Written
-pub mod Loaded
-pub mod Shared
-pub mod Served

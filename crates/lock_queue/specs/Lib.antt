@@ -3,4 +3,3 @@ pub mod Entries
 pub mod Requests
 pub mod Claims
 pub mod Trials
-pub mod Slice

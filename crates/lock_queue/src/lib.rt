@@ -4,10 +4,8 @@ ghost use Rattle.lock_queue.specs.Queue.{state};
 ghost use Rattle.lock_queue.specs.Requests.{asks, leaves, answer, after};
 use guard::Pair;
 
-mod inner;
+pub mod inner;
 mod judge;
-mod lent;
-pub mod slice;
 
 // The largest number of places that a queue can have.
 pub const MOST_PLACES: usize = 32;

@@ -1,4 +1,4 @@
--- `lock_queue::slice::ask` meets its contract: the walk of `Served.antt`, at `asked` and a `Waiting`. All that the proof knows of `load`, `asked` and `store` is that each meets its contract.
+-- `lent_queue::ask` meets its contract: the walk of `Served.antt`, at `asked` and a `Waiting`. All that the proof knows of `load`, `asked` and `store` is that each meets its contract.
 -- Assumes nothing.
 use mathlib.Core.Path.{_≡_, refl}
 use Prim.Native.Nat.{ℕ}
@@ -32,40 +32,40 @@ use denote.Triple.Table.{entered, cited}
 use denote.Triple.Walked.{says, Stays, stay-none, gave-slice, walkOf, goes-none, goes-gave-slice, Walks, ends-at, walked, walk-meets}
 use denote.Exit.{yes}
 use denote.Triple.Clauses.{ensured, lasts}
 use Rattle.lock_queue.specs.Queue.{state, mostPlaces}
 use Rattle.lock_queue.specs.Requests.{Request, asks, answer, after}
-use Rattle.lock_queue.specs.Slice.{held, written, loaded, replyOf}
+use Rattle.lent_queue.specs.Slice.{held, written, loaded, replyOf}
 use Rattle.lock_queue.specs.declared.Waiting.{Waiting}
 use Rattle.lock_queue.specs.declared.Places.{Places}
 use Rattle.lock_queue.specs.declared.Outcome.{Outcome}
-use Rattle.lock_queue.specs.declared.slice.Kept.{Kept}
-use Rattle.lock_queue.specs.declared.slice.Reply.{Reply}
-use Rattle.lock_queue.proofs.Loaded.{settled-lent}
-use Rattle.lock_queue.proofs.Served as S
-use Rattle.lock_queue.proofs.Served.{pval, kval, Load, Store}
+use Rattle.lent_queue.specs.declared.Kept.{Kept}
+use Rattle.lent_queue.specs.declared.Reply.{Reply}
+use Rattle.lent_queue.proofs.Loaded.{settled-lent}
+use Rattle.lent_queue.proofs.Served as S
+use Rattle.lent_queue.proofs.Served.{pval, kval, Load, Store}
 use Rattle.lock_queue.proofs.Waiting as T
 use Rattle.lock_queue.proofs.Waiting.Laws as T′
 use Rattle.lock_queue.proofs.Places as P
 use Rattle.lock_queue.proofs.Places.Laws as P′
 use Rattle.lock_queue.proofs.Outcome as O
-use Rattle.lock_queue.proofs.slice.Kept as K
-use Rattle.lock_queue.proofs.slice.Kept.Laws as K′
-use Rattle.lock_queue.proofs.slice.Reply as Y
-use Rattle.lock_queue.proofs.slice.Reply.Laws as Y′
-use Rattle.lock_queue.proofs.lent.load.Symbol as load-def
-use Rattle.lock_queue.proofs.lent.load.Symbol.{name as #load}
-use Rattle.lock_queue.proofs.lent.load.Met as load-thm
-use Rattle.lock_queue.proofs.lent.store.Symbol as store-def
-use Rattle.lock_queue.proofs.lent.store.Symbol.{name as #store}
-use Rattle.lock_queue.proofs.lent.store.Met as store-thm
-use Rattle.lock_queue.proofs.lent.asked as asked
-use Rattle.lock_queue.proofs.lent.asked.Symbol as asked-def
-use Rattle.lock_queue.proofs.lent.asked.Symbol.{name as #asked}
-use Rattle.lock_queue.proofs.lent.asked.Met as asked-thm
-use Rattle.lock_queue.proofs.slice.ask.Key.{name as #ask}
-use Rattle.lock_queue.proofs.slice.ask as ask
-use Rattle.lock_queue.proofs.slice.ask.Statement as stated
-use Rattle.lock_queue.proofs.slice.ask.Code as code
+use Rattle.lent_queue.proofs.Kept as K
+use Rattle.lent_queue.proofs.Kept.Laws as K′
+use Rattle.lent_queue.proofs.Reply as Y
+use Rattle.lent_queue.proofs.Reply.Laws as Y′
+use Rattle.lent_queue.proofs.lent.load.Symbol as load-def
+use Rattle.lent_queue.proofs.lent.load.Symbol.{name as #load}
+use Rattle.lent_queue.proofs.lent.load.Met as load-thm
+use Rattle.lent_queue.proofs.lent.store.Symbol as store-def
+use Rattle.lent_queue.proofs.lent.store.Symbol.{name as #store}
+use Rattle.lent_queue.proofs.lent.store.Met as store-thm
+use Rattle.lent_queue.proofs.lent.asked as asked
+use Rattle.lent_queue.proofs.lent.asked.Symbol as asked-def
+use Rattle.lent_queue.proofs.lent.asked.Symbol.{name as #asked}
+use Rattle.lent_queue.proofs.lent.asked.Met as asked-thm
+use Rattle.lent_queue.proofs.ask.Key.{name as #ask}
+use Rattle.lent_queue.proofs.ask as ask
+use Rattle.lent_queue.proofs.ask.Statement as stated
+use Rattle.lent_queue.proofs.ask.Code as code
 
 abbrev stayed : Stays (ask.ended .signature .params) (ask.ended .kept)
 stayed = (gave-slice (0 ∷ []) tt (plain (λ _. T.the-row)), (stay-none (λ _. K.the-row) yes, (stay-none (λ _. T.the-row) yes, tt)))
@@ -150,6 +150,6 @@ ask-spec 𝓤 H 𝓜 𝓖 𝓡 =
     entered 𝓤 H (tripleOf 𝓤 H (𝓖 .A) ask.signature (ask.spec 𝓤 H (𝓖 .A) (𝓜 .mem) (𝓡 .run)))
     (tables 𝓤 H 𝓜 𝓡 code.env .C) (tables 𝓤 H 𝓜 𝓡 code.env .Λ) #ask code.function (code.unfolded 𝓤 H 𝓜 𝓡)
     (ask-meets 𝓤 H (𝓖 .A) (givenOf 𝓤 H 𝓜 𝓖) (𝓜 .mem) (𝓡 .run) (tablesOf 𝓤 H 𝓜 (tables 𝓤 H 𝓜 𝓡 code.env))
-    (cited 𝓤 H (Load 𝓤 H (𝓖 .A) (𝓜 .mem) (𝓡 .run)) 𝓜 𝓡 code.env #load load-def.routine code.calls-lock-queue·lent·load (load-thm.met 𝓤 H 𝓜 𝓖 𝓡))
-    (cited 𝓤 H (Asked 𝓤 H (𝓖 .A) (𝓜 .mem) (𝓡 .run)) 𝓜 𝓡 code.env #asked asked-def.routine code.calls-lock-queue·lent·asked (asked-thm.met 𝓤 H 𝓜 𝓖 𝓡))
-    (cited 𝓤 H (Store 𝓤 H (𝓖 .A) (𝓜 .mem) (𝓡 .run)) 𝓜 𝓡 code.env #store store-def.routine code.calls-lock-queue·lent·store (store-thm.met 𝓤 H 𝓜 𝓖 𝓡)))
+    (cited 𝓤 H (Load 𝓤 H (𝓖 .A) (𝓜 .mem) (𝓡 .run)) 𝓜 𝓡 code.env #load load-def.routine code.calls-lent-queue·lent·load (load-thm.met 𝓤 H 𝓜 𝓖 𝓡))
+    (cited 𝓤 H (Asked 𝓤 H (𝓖 .A) (𝓜 .mem) (𝓡 .run)) 𝓜 𝓡 code.env #asked asked-def.routine code.calls-lent-queue·lent·asked (asked-thm.met 𝓤 H 𝓜 𝓖 𝓡))
+    (cited 𝓤 H (Store 𝓤 H (𝓖 .A) (𝓜 .mem) (𝓡 .run)) 𝓜 𝓡 code.env #store store-def.routine code.calls-lent-queue·lent·store (store-thm.met 𝓤 H 𝓜 𝓖 𝓡)))

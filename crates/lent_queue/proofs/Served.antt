@@ -1,4 +1,4 @@
--- The walk that `lock_queue::slice::ask` and `leave` have in common: the lent slice is shared for `load`, the places are judged by value, and the slice is passed on to `store`, for good.
+-- The walk that `lent_queue::ask` and `leave` have in common: the lent slice is shared for `load`, the places are judged by value, and the slice is passed on to `store`, for good.
 -- It is over the MIR with the judging function's key and the type of the request left open (`function`), and over what that function gives (`Judged`).
 -- All that it knows of `load` and `store` is that each meets its contract.
 -- Assumes `Given`, and of the judging function what a walk says of it.
@@ -33,28 +33,28 @@ use denote.Triple.Statement.{Contract, Triple}
 use denote.Triple.Call.{calls-at, calls-from}
 use denote.Triple.Spec.{tripleOf}
 use denote.Triple.Clauses.{ensured, lasts}
 use Rattle.lock_queue.specs.Queue.{mostPlaces}
-use Rattle.lock_queue.specs.Slice.{written, loaded, replyOf}
+use Rattle.lent_queue.specs.Slice.{written, loaded, replyOf}
 use Rattle.lock_queue.specs.declared.Waiting.{Waiting}
 use Rattle.lock_queue.specs.declared.Places.{Places}
 use Rattle.lock_queue.specs.declared.Outcome.{Outcome}
-use Rattle.lock_queue.specs.declared.slice.Kept.{Kept}
-use Rattle.lock_queue.specs.declared.slice.Reply.{Reply}
-use Rattle.lock_queue.proofs.Shared.{LentShared, lends-shared, shared-back}
+use Rattle.lent_queue.specs.declared.Kept.{Kept}
+use Rattle.lent_queue.specs.declared.Reply.{Reply}
+use Rattle.lent_queue.proofs.Shared.{LentShared, lends-shared, shared-back}
 use Rattle.lock_queue.proofs.Waiting as T
 use Rattle.lock_queue.proofs.Waiting.Laws as T′
 use Rattle.lock_queue.proofs.Places as P
 use Rattle.lock_queue.proofs.Places.Laws as P′
 use Rattle.lock_queue.proofs.Outcome as O
 use Rattle.lock_queue.proofs.Outcome.Laws as O′
-use Rattle.lock_queue.proofs.slice.Kept as K
-use Rattle.lock_queue.proofs.slice.Kept.Laws as K′
-use Rattle.lock_queue.proofs.slice.Reply as Y
-use Rattle.lock_queue.proofs.slice.Reply.Laws as Y′
-use Rattle.lock_queue.proofs.lent.load as load′
-use Rattle.lock_queue.proofs.lent.load.Symbol.{name as #load}
-use Rattle.lock_queue.proofs.lent.store as store
-use Rattle.lock_queue.proofs.lent.store.Symbol.{name as #store}
+use Rattle.lent_queue.proofs.Kept as K
+use Rattle.lent_queue.proofs.Kept.Laws as K′
+use Rattle.lent_queue.proofs.Reply as Y
+use Rattle.lent_queue.proofs.Reply.Laws as Y′
+use Rattle.lent_queue.proofs.lent.load as load′
+use Rattle.lent_queue.proofs.lent.load.Symbol.{name as #load}
+use Rattle.lent_queue.proofs.lent.store as store
+use Rattle.lent_queue.proofs.lent.store.Symbol.{name as #store}
 
 -- ---- the code
 

@@ -1,4 +1,4 @@
--- `lock_queue::lent::load` meets its contract: a walk of its MIR, by hand. The lent slice is looked into once for each place, and the entry found there is put into places by value by `put`.
+-- `lent_queue::lent::load` meets its contract: a walk of its MIR, by hand. The lent slice is looked into once for each place, and the entry found there is put into places by value by `put`.
 -- All that the proof knows of `empty`, `within` and `put` is that each meets its contract.
 --     Place, At     the loop's invariant: how many places are loaded, that their machine value is typed, and the memory there
 --     more          a turn from where `within` has answered yes: one more place is loaded
@@ -51,31 +51,31 @@ use denote.Triple.Table.{entered, cited}
 use denote.Triple.Walked.{says, Stays, stay-none-slice, walkOf, goes-none-slice, Walks, ends-at, walked, walk-meets}
 use denote.Exit.{yes}
 use denote.Triple.Clauses.{ensured, lasts}
 use Rattle.lock_queue.specs.Queue.{mostPlaces, noWaiting}
-use Rattle.lock_queue.specs.Slice.{written, loaded}
+use Rattle.lent_queue.specs.Slice.{written, loaded}
 use Rattle.lock_queue.specs.declared.Waiting.{Waiting}
 use Rattle.lock_queue.specs.declared.Places.{Places}
-use Rattle.lock_queue.proofs.Written.{written-none, written-next, written-done, goes, stops}
+use Rattle.lent_queue.proofs.Written.{written-none, written-next, written-done, goes, stops}
 use Rattle.lock_queue.proofs.Waiting as T
 use Rattle.lock_queue.proofs.Waiting.Laws as T′
 use Rattle.lock_queue.proofs.Places as P
 use Rattle.lock_queue.proofs.Places.Laws as P′
-use Rattle.lock_queue.proofs.lent.empty as empty
-use Rattle.lock_queue.proofs.lent.empty.Symbol as empty-def
-use Rattle.lock_queue.proofs.lent.empty.Symbol.{name as #empty}
-use Rattle.lock_queue.proofs.lent.empty.Met as empty-thm
-use Rattle.lock_queue.proofs.lent.within as within
-use Rattle.lock_queue.proofs.lent.within.Symbol as within-def
-use Rattle.lock_queue.proofs.lent.within.Symbol.{name as #within}
-use Rattle.lock_queue.proofs.lent.within.Met as within-thm
+use Rattle.lent_queue.proofs.lent.empty as empty
+use Rattle.lent_queue.proofs.lent.empty.Symbol as empty-def
+use Rattle.lent_queue.proofs.lent.empty.Symbol.{name as #empty}
+use Rattle.lent_queue.proofs.lent.empty.Met as empty-thm
+use Rattle.lent_queue.proofs.lent.within as within
+use Rattle.lent_queue.proofs.lent.within.Symbol as within-def
+use Rattle.lent_queue.proofs.lent.within.Symbol.{name as #within}
+use Rattle.lent_queue.proofs.lent.within.Met as within-thm
 use Rattle.lock_queue.proofs.inner.put as put
 use Rattle.lock_queue.proofs.inner.put.Symbol as put-def
 use Rattle.lock_queue.proofs.inner.put.Symbol.{name as #put}
 use Rattle.lock_queue.proofs.inner.put.Met as put-thm
-use Rattle.lock_queue.proofs.lent.load.Key.{name as #load}
-use Rattle.lock_queue.proofs.lent.load as load′
-use Rattle.lock_queue.proofs.lent.load.Statement as stated
-use Rattle.lock_queue.proofs.lent.load.Code as code
+use Rattle.lent_queue.proofs.lent.load.Key.{name as #load}
+use Rattle.lent_queue.proofs.lent.load as load′
+use Rattle.lent_queue.proofs.lent.load.Statement as stated
+use Rattle.lent_queue.proofs.lent.load.Code as code
 
 abbrev stayed : Stays (load′.ended .signature .params) (load′.ended .kept)
 stayed = (stay-none-slice (0 ∷ []) tt (plain (λ _. T.the-row)) yes, tt)
@@ -340,6 +340,6 @@ load-spec 𝓤 H 𝓜 𝓖 𝓡 =
     entered 𝓤 H (tripleOf 𝓤 H (𝓖 .A) load′.signature (load′.spec 𝓤 H (𝓖 .A) (𝓜 .mem) (𝓡 .run)))
     (tables 𝓤 H 𝓜 𝓡 code.env .C) (tables 𝓤 H 𝓜 𝓡 code.env .Λ) #load code.function (code.unfolded 𝓤 H 𝓜 𝓡)
     (load-meets 𝓤 H (𝓖 .A) (givenOf 𝓤 H 𝓜 𝓖) (𝓜 .mem) (𝓡 .run) (tablesOf 𝓤 H 𝓜 (tables 𝓤 H 𝓜 𝓡 code.env))
-    (cited 𝓤 H (Empty 𝓤 H (𝓖 .A) (𝓜 .mem) (𝓡 .run)) 𝓜 𝓡 code.env #empty empty-def.routine code.calls-lock-queue·lent·empty (empty-thm.met 𝓤 H 𝓜 𝓖 𝓡))
-    (cited 𝓤 H (Within 𝓤 H (𝓖 .A) (𝓜 .mem) (𝓡 .run)) 𝓜 𝓡 code.env #within within-def.routine code.calls-lock-queue·lent·within (within-thm.met 𝓤 H 𝓜 𝓖 𝓡))
+    (cited 𝓤 H (Empty 𝓤 H (𝓖 .A) (𝓜 .mem) (𝓡 .run)) 𝓜 𝓡 code.env #empty empty-def.routine code.calls-lent-queue·lent·empty (empty-thm.met 𝓤 H 𝓜 𝓖 𝓡))
+    (cited 𝓤 H (Within 𝓤 H (𝓖 .A) (𝓜 .mem) (𝓡 .run)) 𝓜 𝓡 code.env #within within-def.routine code.calls-lent-queue·lent·within (within-thm.met 𝓤 H 𝓜 𝓖 𝓡))
     (cited 𝓤 H (Put 𝓤 H (𝓖 .A) (𝓜 .mem) (𝓡 .run)) 𝓜 𝓡 code.env #put put-def.routine code.calls-lock-queue·inner·put (put-thm.met 𝓤 H 𝓜 𝓖 𝓡)))

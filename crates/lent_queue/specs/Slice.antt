@@ -4,11 +4,11 @@
 use Prim.Native.Nat.{ℕ, zero, suc}
 use mathlib.Core.List.{List, [], _∷_}
 use lib.ListN.{replicate}
 use Rattle.lock_queue.specs.Queue.{State, mostPlaces, noWaiting}
 use Rattle.lock_queue.specs.declared.Outcome.{Outcome}
 use Rattle.lock_queue.specs.declared.Waiting.{Waiting}
-use Rattle.lock_queue.specs.declared.slice.Kept.{Kept}
-use Rattle.lock_queue.specs.declared.slice.Reply.{Reply}
+use Rattle.lent_queue.specs.declared.Kept.{Kept}
+use Rattle.lent_queue.specs.declared.Reply.{Reply}
 
 -- The state of a queue whose places are lent.
 abbrev pub held : List Waiting → Kept → State

@@ -1,15 +1,17 @@
 // The lock queue of one card as a lent slice of waiting entries: the places are loaded, judged by value, and stored back.
 ghost use mathlib.Core.Path.{_≡_};
 ghost use lib.ListN.{length};
 ghost use Rattle.lock_queue.specs.Requests.{asks, leaves, answer, after};
-ghost use Rattle.lock_queue.specs.Slice.{held};
-use crate::Answer;
-use crate::Waiting;
-use crate::lent::asked;
-use crate::lent::left;
-use crate::lent::load;
-use crate::lent::store;
+ghost use Rattle.lent_queue.specs.Slice.{held};
 use guard::Pair;
+use lent::asked;
+use lent::left;
+use lent::load;
+use lent::store;
+use lock_queue::Answer;
+use lock_queue::Waiting;
+
+mod lent;
 
 // What a queue keeps beside its places: how many of them are taken, and the largest s and x ever accepted in it.
 pub struct Kept {

@@ -14,17 +14,17 @@ use Rattle.endian.specs.Tests.{all, allFrom}
 use Rattle.guard.proofs.Table.{settled-new, settled-old}
 use Rattle.guard.specs.Table.{first, settled}
 use Rattle.guard.specs.declared.Pair.{Pair}
 use Rattle.lock_queue.proofs.Claims.{refusal-leaves, blank-answers, stays-good, others-kept}
 use Rattle.lock_queue.proofs.Judged.{sized, good-unsized, good-out, not-bad, shown-not-bad, ask-room}
-use Rattle.lock_queue.proofs.Written.{written-nothing, written-nowhere}
+use Rattle.lent_queue.proofs.Written.{written-nothing, written-nowhere}
 use Rattle.lock_queue.specs.Queue.{State, state, mostPlaces, noWaiting, standing, good, removed, joined, without}
 use Rattle.lock_queue.specs.Requests.{answered, blank, Request, asks, leaves, rows, sender, accepted, number, after, answer}
-use Rattle.lock_queue.specs.Slice.{held, written, loaded, replyOf}
+use Rattle.lent_queue.specs.Slice.{held, written, loaded, replyOf}
 use Rattle.lock_queue.specs.declared.Answer.{Answer}
 use Rattle.lock_queue.specs.declared.Outcome.{Outcome}
 use Rattle.lock_queue.specs.declared.Waiting.{Waiting}
-use Rattle.lock_queue.specs.declared.slice.Kept.{Kept}
-use Rattle.lock_queue.specs.declared.slice.Reply.{Reply}
+use Rattle.lent_queue.specs.declared.Kept.{Kept}
+use Rattle.lent_queue.specs.declared.Reply.{Reply}
 
 -- ---- lists
 

@@ -4,18 +4,18 @@ ghost use mathlib.Core.Bool.{_&&_};
 ghost use Prim.Native.Nat.{_<_};
 ghost use lib.Dec.{ltb};
 ghost use lib.ListN.{replicate, getD};
 ghost use Rattle.lock_queue.specs.Queue.{state, mostPlaces, noWaiting};
 ghost use Rattle.lock_queue.specs.Requests.{asks, leaves, answer, after};
-ghost use Rattle.lock_queue.specs.Slice.{held, written, loaded, replyOf};
-use crate::MOST_PLACES;
-use crate::Outcome;
-use crate::Places;
-use crate::Queue;
-use crate::Waiting;
-use crate::inner;
-use crate::slice::Kept;
-use crate::slice::Reply;
+ghost use Rattle.lent_queue.specs.Slice.{held, written, loaded, replyOf};
+use crate::Kept;
+use crate::Reply;
 use guard::Pair;
+use lock_queue::MOST_PLACES;
+use lock_queue::Outcome;
+use lock_queue::Places;
+use lock_queue::Queue;
+use lock_queue::Waiting;
+use lock_queue::inner;
 
 // Whether place i is lent, and one of the 32.
 fn within(i: usize, lent: usize) -> bool
@@ -97,7 +97,7 @@ pub fn asked(places: Places, kept: Kept, lent: usize, new: Waiting) -> Outcome
         count: kept.count,
         largest,
     };
-    crate::ask(queue, lent, new)
+    lock_queue::ask(queue, lent, new)
 }
 
 // Leaving, by value.
@@ -110,5 +110,5 @@ pub fn left(places: Places, kept: Kept, lent: usize, desk: u32) -> Outcome
         count: kept.count,
         largest,
     };
-    crate::leave(queue, lent, desk)
+    lock_queue::leave(queue, lent, desk)
 }
