@@ -1,13 +1,8 @@
 -- What the calls require, from what is known of a good store. Assumes nothing.
-use mathlib.Core.Path.{sym, _∙_}
-use borrow.Author.Needs.{needs}
+use mathlib.Core.Path.{_∙_}
 use native.Mathlib.Omega.{arith}
-use mathlib.Core.Path.{_≡_}
-use lib.ListN.{length, take, drop, length-drop}
-use Rattle.stream.specs.Stream.{endOf}
-use lib.Seq.{length-take-le}
-use Rattle.stream.proofs.Claims.{claims}
-use Rattle.cards.proofs.Steps.{Front, front}
+use Rattle.cards.proofs.Steps.{front, lines-fit, lent}
+use borrow.Author.Needs.{needs}
 use Rattle.cards.proofs.serve.Statement.{statement}
 use Rattle.cards.proofs.serve.Tie as tie
 
@@ -30,9 +25,7 @@ write-all-requires-2 : tie.Need-write-all-requires-2
 write-all-requires-2 c κs = search needs
 
 count-requires : tie.Need-count-requires
-count-requires c κs =
-    let f = front (c .before .before .before .before .before .args .input .now) (λ e. c .before .before .if1 .left (c .before .before .before .store-size .ensures ∙ e)) in
-    omega (arith, f .header, f .within, f .small, f .room, f .size, c .before .before .before .store-size .ensures)
+count-requires c κs = front (c .before .before .before .before .before .args .input .now) (λ e. c .before .before .if1 .left (c .before .before .before .store-size .ensures ∙ e)) .header
 
 cast-print-number : tie.Need-cast-print-number
 cast-print-number c = search needs
@@ -47,62 +40,40 @@ write-all-requires-3 : tie.Need-write-all-requires-3
 write-all-requires-3 c κs = search needs
 
 room-requires : tie.Need-room-requires
-room-requires c κs =
-    let f = front (c .before .before .before .before .before .before .before .before .before .args .input .now) (λ e. c .before .before .before .before .before .before .if1 .left (c .before .before .before .before .before .before .before .store-size .ensures ∙ e)) in
-    omega (arith, f .header, f .within, f .small, f .room, f .size, c .before .before .before .before .before .before .before .store-size .ensures)
+room-requires c κs = front (c .before .before .before .before .before .before .before .before .before .args .input .now) (λ e. c .before .before .before .before .before .before .if1 .left (c .before .before .before .before .before .before .before .store-size .ensures ∙ e)) .header
 
 cast-room : tie.Need-cast-room
 cast-room c = search needs
 
-slice-aggregate-put : tie.Need-slice-aggregate-put
-slice-aggregate-put c = search needs
+slice-aggregate-answers : tie.Need-slice-aggregate-answers
+slice-aggregate-answers c = search needs
 
-slice-aggregate-put-2 : tie.Need-slice-aggregate-put-2
-slice-aggregate-put-2 c =
-    let f = front (c .before .before .before .before .before .before .before .before .before .before .before .before .args .input .now) (λ e. c .before .before .before .before .before .before .before .before .before .if1 .left (c .before .before .before .before .before .before .before .before .before .before .store-size .ensures ∙ e)) in
-    sym (length-take-le _ _ (omega (arith, f .within, f .small, f .room, f .size, c .before .before .before .before .before .before .before .before .before .before .store-size .ensures)))
+answers-requires : tie.Need-answers-requires
+answers-requires c κs = lent _ _ _ _ (front (c .before .before .before .before .before .before .before .before .before .before .before .args .input .now) (λ e. c .before .before .before .before .before .before .before .before .if1 .left (c .before .before .before .before .before .before .before .before .before .store-size .ensures ∙ e))) (c .before .before .before .before .before .before .before .before .before .store-size .ensures) (c .before .room .ensures) (c .before .before .before .before .before .before .before .before .before .before .before .pre) (search needs)
 
-put-requires : tie.Need-put-requires
-put-requires c κs =
-    let f = front (c .before .before .before .before .before .before .before .before .before .before .before .before .args .input .now) (λ e. c .before .before .before .before .before .before .before .before .before .if1 .left (c .before .before .before .before .before .before .before .before .before .before .store-size .ensures ∙ e)) in
-    let lent : length (take (c .before .before .before .before .before .before .before .before .before .before .store-size .result) (c .before .before .before .before .before .before .before .before .before .before .before .before .args .input .now)) ≡ c .before .before .before .before .before .before .before .before .before .before .store-size .result = length-take-le _ _ (omega (arith, f .within, f .size, c .before .before .before .before .before .before .before .before .before .before .store-size .ensures)) in
-    omega (arith, lent, f .small, f .size, c .before .before .before .before .before .before .before .before .before .before .store-size .ensures)
+slice-aggregate-print-lines : tie.Need-slice-aggregate-print-lines
+slice-aggregate-print-lines c = search needs
 
-array-borrow-prefix-image : tie.Need-array-borrow-prefix-image
-array-borrow-prefix-image c =
-    let f = front (c .before .before .before .before .before .before .before .before .before .before .before .before .before .before .args .input .now) (λ e. c .before .before .before .before .before .before .before .before .before .before .before .if1 .left (c .before .before .before .before .before .before .before .before .before .before .before .before .store-size .ensures ∙ e)) in
-    omega (arith, f .header, f .within, f .small, f .room, f .size, c .before .before .before .before .before .before .before .before .before .before .before .before .store-size .ensures)
+print-lines-requires : tie.Need-print-lines-requires
+print-lines-requires c κs =
+    let l = lines-fit (c .before .before .before .before .before .before .before .before .before .before .before .before .store-size .result) (c .before .before .before .before .before .before .before .before .before .before .before .before .before .before .args .input .now) (c .before .before .before .before .before .before .before .before .before .before .before .before .before .before .pre) in
+    omega (arith, l, c .before .before .answers .ensures .0)
 
-slice-aggregate-run : tie.Need-slice-aggregate-run
-slice-aggregate-run c =
+sub-left-over : tie.Need-sub-left-over
+sub-left-over c =
     let f = front (c .before .before .before .before .before .before .before .before .before .before .before .before .before .before .before .args .input .now) (λ e. c .before .before .before .before .before .before .before .before .before .before .before .before .if1 .left (c .before .before .before .before .before .before .before .before .before .before .before .before .before .store-size .ensures ∙ e)) in
-    sym (length-take-le _ _ (omega (arith, f .within, f .small, f .room, f .size, c .before .before .before .before .before .before .before .before .before .before .before .before .before .store-size .ensures)))
+    omega (arith, f .size, f .within, c .before .before .before .before .before .before .before .before .before .before .before .before .before .store-size .ensures)
 
-sub-run : tie.Need-sub-run
-sub-run c =
+part-left-over-start : tie.Need-part-left-over-start
+part-left-over-start c =
     let f = front (c .before .before .before .before .before .before .before .before .before .before .before .before .before .before .before .args .input .now) (λ e. c .before .before .before .before .before .before .before .before .before .before .before .before .if1 .left (c .before .before .before .before .before .before .before .before .before .before .before .before .before .store-size .ensures ∙ e)) in
-    omega (arith, f .header, f .within, f .small, f .room, f .size, c .before .before .before .before .before .before .before .before .before .before .before .before .before .store-size .ensures)
+    omega (arith, f .size, f .within, c .before .before .before .before .before .before .before .before .before .before .before .before .before .store-size .ensures)
 
-part-run-start : tie.Need-part-run-start
-part-run-start c =
-    let f = front (c .before .before .before .before .before .before .before .before .before .before .before .before .before .before .before .args .input .now) (λ e. c .before .before .before .before .before .before .before .before .before .before .before .before .if1 .left (c .before .before .before .before .before .before .before .before .before .before .before .before .before .store-size .ensures ∙ e)) in
-    omega (arith, f .header, f .within, f .small, f .room, f .size, c .before .before .before .before .before .before .before .before .before .before .before .before .before .store-size .ensures)
+part-left-over-end : tie.Need-part-left-over-end
+part-left-over-end c = search needs
 
-part-run-end : tie.Need-part-run-end
-part-run-end c = search needs
-
-array-borrow-prefix-reply : tie.Need-array-borrow-prefix-reply
-array-borrow-prefix-reply c =
-    let f = front (c .before .before .before .before .before .before .before .before .before .before .before .before .before .before .before .before .args .input .now) (λ e. c .before .before .before .before .before .before .before .before .before .before .before .before .before .if1 .left (c .before .before .before .before .before .before .before .before .before .before .before .before .before .before .store-size .ensures ∙ e)) in
-    omega (arith, f .header, f .within, f .small, f .room, f .size, c .before .before .before .before .before .before .before .before .before .before .before .before .before .before .store-size .ensures, c .before .before .before .before .before .before .room .ensures)
-
-slice-aggregate-run-2 : tie.Need-slice-aggregate-run-2
-slice-aggregate-run-2 c =
-    let f = front (c .before .before .before .before .before .before .before .before .before .before .before .before .before .before .before .before .before .args .input .now) (λ e. c .before .before .before .before .before .before .before .before .before .before .before .before .before .before .if1 .left (c .before .before .before .before .before .before .before .before .before .before .before .before .before .before .before .store-size .ensures ∙ e)) in
-    sym (length-take-le _ _ (omega (arith, f .within, f .small, f .room, f .size, c .before .before .before .before .before .before .before .before .before .before .before .before .before .before .before .store-size .ensures)))
-
-run-requires : tie.Need-run-requires
-run-requires c κs = search needs
+left-over-requires : tie.Need-left-over-requires
+left-over-requires c κs = search needs
 
 print-end-requires : tie.Need-print-end-requires
 print-end-requires c κs = search needs
@@ -127,16 +98,13 @@ serve-spec =
     write-all-requires-3
     room-requires
     cast-room
-    slice-aggregate-put
-    slice-aggregate-put-2
-    put-requires
-    array-borrow-prefix-image
-    slice-aggregate-run
-    sub-run
-    part-run-start
-    part-run-end
-    array-borrow-prefix-reply
-    slice-aggregate-run-2
-    run-requires
+    slice-aggregate-answers
+    answers-requires
+    slice-aggregate-print-lines
+    print-lines-requires
+    sub-left-over
+    part-left-over-start
+    part-left-over-end
+    left-over-requires
     print-end-requires
     returns-2)
