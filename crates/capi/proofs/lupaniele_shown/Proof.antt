@@ -3,9 +3,6 @@ use borrow.Author.Needs.{needs}
 use Rattle.capi.proofs.Shown.{third}
 use Rattle.capi.proofs.lupaniele_shown.Statement.{statement}
 use Rattle.capi.proofs.lupaniele_shown.Tie as tie
-use Rattle.capi.proofs.lupaniele_shown.Reads as reads
-use Rattle.capi.proofs.lupaniele_shown.Lts as lts
-use Rattle.capi.proofs.inner.length_shown.Reads as length-shown-reads
 
 length-shown-requires : tie.Need-length-shown-requires
 length-shown-requires c κs = search needs

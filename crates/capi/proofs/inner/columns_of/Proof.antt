@@ -9,8 +9,6 @@ use Rattle.capi.specs.Fields.{modesOf, sharedOf, exclusiveOf}
 use Rattle.capi.proofs.Arrays.{Filling, filling-none, filling-more, filling-done, getD-map}
 use Rattle.capi.proofs.inner.columns_of.Statement.{statement}
 use Rattle.capi.proofs.inner.columns_of.Tie as tie
-use Rattle.capi.proofs.inner.columns_of.Reads as reads
-use Rattle.capi.proofs.inner.columns_of.Lts as lts
 
 abbrev Inv-loop : tie.InvT-loop
 Inv-loop places c₀ i₀ c i =

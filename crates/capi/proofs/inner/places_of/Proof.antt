@@ -8,8 +8,6 @@ use Rattle.capi.specs.Fields.{placesOf}
 use Rattle.capi.proofs.Arrays.{Filling, filling-none, filling-more, filling-done}
 use Rattle.capi.proofs.inner.places_of.Statement.{statement}
 use Rattle.capi.proofs.inner.places_of.Tie as tie
-use Rattle.capi.proofs.inner.places_of.Reads as reads
-use Rattle.capi.proofs.inner.places_of.Lts as lts
 
 abbrev Inv-loop : tie.InvT-loop
 Inv-loop modes s x places₀ i₀ places i = (i ≤ 32) × Filling (placesOf modes s x) (places .at) i

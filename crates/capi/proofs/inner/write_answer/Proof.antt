@@ -7,8 +7,6 @@ use mir.Val.{boolByte}
 use borrow.Author.Needs.{needs}
 use Rattle.capi.proofs.inner.write_answer.Statement.{statement}
 use Rattle.capi.proofs.inner.write_answer.Tie as tie
-use Rattle.capi.proofs.inner.write_answer.Reads as reads
-use Rattle.capi.proofs.inner.write_answer.Lts as lts
 
 as-number : (t : Bool) → boolByte t ≡ cond t 1 0
 as-number true = refl

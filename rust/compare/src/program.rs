@@ -1,0 +1,110 @@
+//! The program's binary against the second program's output, on whole inputs.
+
+use std::fs::{self, File};
+use std::path::{Path, PathBuf};
+use std::process::{Command, Stdio};
+
+use second::generate;
+use second::random::Random;
+use second::short::fresh;
+
+use crate::run::{bytes, same, Compared, Difference, Run};
+
+/// The most bytes that the program takes.
+const LIMIT: usize = 65_536;
+
+/// Where the gate leaves the program.
+pub fn binary() -> PathBuf {
+    Path::new(env!("CARGO_MANIFEST_DIR")).join("../../target/bin/cards")
+}
+
+/// An input of any sort, at every edge of its length.
+fn input(random: &mut Random) -> Vec<u8> {
+    let mut input = match random.below(24) {
+        0 => fresh(1, 16),
+        _ => generate::image(random),
+    };
+    match random.below(40) {
+        0 => input.truncate(0),
+        1 => input.truncate(15),
+        2 => input.truncate(16),
+        3 => input.truncate(input.len().saturating_sub(1)),
+        4 => return filled(random, LIMIT),
+        5 => return filled(random, LIMIT + 1),
+        6 => return filled(random, LIMIT - 1),
+        7 => return random.bytes(LIMIT + 1),
+        8 => {}
+        _ => {
+            let image = input.clone();
+            for _ in 0..random.below(4) {
+                input.extend(generate::stream(random, &image));
+            }
+        }
+    }
+    if random.one_in(8) {
+        let cut = random.index(input.len() + 1);
+        input.truncate(cut);
+    }
+    input
+}
+
+/// A sound image with commands up to so many bytes, cut there.
+fn filled(random: &mut Random, length: usize) -> Vec<u8> {
+    let image = generate::sound_image(random);
+    let mut input = image.clone();
+    while input.len() < length {
+        input.extend(generate::command(random, &image));
+    }
+    input.truncate(length);
+    input
+}
+
+/// What the binary prints for an input, which goes through a file.
+fn printed(binary: &Path, file: &Path, input: &[u8]) -> Compared<Vec<u8>> {
+    let failed = |error: std::io::Error| Difference(format!("{}: {error}", binary.display()));
+    fs::write(file, input).map_err(failed)?;
+    let output = Command::new(binary)
+        .stdin(File::open(file).map_err(failed)?)
+        .stderr(Stdio::inherit())
+        .output()
+        .map_err(failed)?;
+    Ok(output.stdout)
+}
+
+/// Runs the binary on so many inputs.
+pub fn any(run: &mut Run, random: &mut Random, binary: &Path, inputs: u64) -> Compared<()> {
+    let file = std::env::temp_dir().join(format!("lupaniele-compare-{}", std::process::id()));
+    let result = (0..inputs).try_for_each(|_| one(run, random, binary, &file));
+    let _ = fs::remove_file(&file);
+    result
+}
+
+fn one(run: &mut Run, random: &mut Random, binary: &Path, file: &Path) -> Compared<()> {
+    let input = input(random);
+    let proved = String::from_utf8_lossy(&printed(binary, file, &input)?).into_owned();
+    let second = second::output(&input);
+    let last = second.lines().last().unwrap_or_default();
+    let kind = match last.split(' ').next() {
+        Some("too") => "program: too long",
+        Some("bad") => "program: bad store",
+        Some("cut") => "program: runs that end with cut",
+        _ => "program: runs that end with end",
+    };
+    same("program", proved, second, || bytes("standard input", &input))?;
+    run.seen("program: inputs", 1);
+    run.seen(kind, 1);
+    if input.len() == LIMIT || input.len() == LIMIT + 1 {
+        run.seen("program: inputs of 65,536 and 65,537 bytes", 1);
+    }
+    Ok(())
+}
+
+/// The lines of the table for the program; each must come.
+pub const KINDS: [&str; 6] = [
+    "program: inputs",
+    "program: too long",
+    "program: bad store",
+    "program: runs that end with cut",
+    "program: runs that end with end",
+    "program: inputs of 65,536 and 65,537 bytes",
+];
