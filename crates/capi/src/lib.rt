@@ -50,9 +50,9 @@ pub extern "C" fn lupaniele_answer(
     ensures image { λ _. ⌜ now (image .exit) ≡ serve (now (image .entry)) (now (command .entry)) (now (reply .entry)) .image ⌝ }
     ensures reply { λ _. ⌜ now (reply .exit) ≡ serve (now (image .entry)) (now (command .entry)) (now (reply .entry)) .reply ⌝ }
 {
-    let given = store::answer(image, command, reply);
-    inner::write_fields(fields, given);
-    given.number
+    let served = store::answer(image, command, reply);
+    inner::write_fields(fields, served);
+    served.number
 }
 
 // A desk asks for the lock of one card. The queue is three arrays, with the mode, the s and the x of each place, of which the first `places`
@@ -113,8 +113,8 @@ pub extern "C" fn lupaniele_leave(
 {
     let queue = inner::load(modes, s, x, kept);
     let outcome = lock_queue::leave(queue, places as usize, desk);
-    let left = outcome.queue;
-    inner::store(modes, s, x, kept, left);
+    let rest = outcome.queue;
+    inner::store(modes, s, x, kept, rest);
     let given = outcome.answer;
     inner::write_answer(fields, given);
     given.number

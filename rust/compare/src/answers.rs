@@ -3,7 +3,7 @@
 
 use second::generate;
 use second::random::Random;
-use second::{Act, Command, Layout};
+use second::{Act, Command, CommandFields, Layout};
 
 use crate::proved::{self, Answer};
 use crate::run::{bytes, same, Compared, Run};
@@ -13,19 +13,20 @@ use crate::run::{bytes, same, Compared, Run};
 pub fn answer(
     run: &mut Run,
     part: &'static str,
-    image: &mut Vec<u8>,
+    image: &mut [u8],
     command: &[u8],
-    reply: &mut Vec<u8>,
+    reply: &mut [u8],
 ) -> Compared<Answer> {
-    let (mut second_image, mut second_reply) = (image.clone(), reply.clone());
-    let (image_lent, reply_lent) = (image.clone(), reply.clone());
-    let input = || bytes("image", &image_lent) + &bytes("command", command) + &bytes("reply", &reply_lent);
+    let (mut second_image, mut second_reply) = (image.to_vec(), reply.to_vec());
+    let (image_lent, reply_lent) = (image.to_vec(), reply.to_vec());
+    let input =
+        || bytes("image", &image_lent) + &bytes("command", command) + &bytes("reply", &reply_lent);
     let proved = proved::answer(image, command, reply);
     let second = second::answer(&mut second_image, command, &mut second_reply);
     let told = (second.number, second.fields.numbers());
     same("answer", (proved.number, proved.fields), told, input)?;
-    same("image after", &image[..], &second_image, input)?;
-    same("reply after", &reply[..], &second_reply, input)?;
+    same("image after", &*image, &second_image[..], input)?;
+    same("reply after", &*reply, &second_reply[..], input)?;
     run.case(part);
     run.number(proved.number);
     Ok(proved)
@@ -36,7 +37,14 @@ fn soundness(run: &mut Run, part: &'static str, image: &[u8]) -> Compared<()> {
     let (proved, second) = (proved::sound(image), second::is_sound(image));
     same("sound", proved, second, || bytes("image", image))?;
     run.case(part);
-    run.seen(if proved { "images sound" } else { "images not sound" }, 1);
+    run.seen(
+        if proved {
+            "images sound"
+        } else {
+            "images not sound"
+        },
+        1,
+    );
     Ok(())
 }
 
@@ -70,6 +78,23 @@ fn carrying(random: &mut Random, image: &[u8]) -> Vec<u8> {
     command
 }
 
+/// A fitting command whose expected mark is off by one, in desk or in
+/// transaction.
+fn off_by_one(random: &mut Random, image: &[u8]) -> Vec<u8> {
+    let command = generate::fitting_command(random, image);
+    let Some(mut fields) = CommandFields::from_bytes(&command) else {
+        return command;
+    };
+    let expected = &mut fields.expected;
+    match random.below(4) {
+        0 => expected.desk = expected.desk.wrapping_add(1),
+        1 => expected.desk = expected.desk.wrapping_sub(1),
+        2 => expected.transaction = expected.transaction.wrapping_add(1),
+        _ => expected.transaction = expected.transaction.wrapping_sub(1),
+    }
+    fields.followed_by(&command[52..])
+}
+
 /// Single commands on sound images near the edges.
 pub fn singles(run: &mut Run, random: &mut Random) -> Compared<()> {
     for _ in 0..100 {
@@ -78,10 +103,17 @@ pub fn singles(run: &mut Run, random: &mut Random) -> Compared<()> {
             let command = match random.below(8) {
                 0 => carrying(random, &image),
                 1 => generate::command(random, &image),
+                2 => off_by_one(random, &image),
                 _ => generate::fitting_command(random, &image),
             };
             let mut reply = reply_near(random, &image, &command);
-            answer(run, "commands on sound images", &mut image, &command, &mut reply)?;
+            answer(
+                run,
+                "commands on sound images",
+                &mut image,
+                &command,
+                &mut reply,
+            )?;
             note_edges(run, &command);
         }
     }
@@ -90,18 +122,24 @@ pub fn singles(run: &mut Run, random: &mut Random) -> Compared<()> {
 
 /// Counts commands that carry what few do.
 fn note_edges(run: &mut Run, bytes: &[u8]) {
-    let Some(fields) = second::CommandFields::from_bytes(bytes) else {
+    let Some(fields) = CommandFields::from_bytes(bytes) else {
         return;
     };
     if !matches!(fields.act, 3 | 4) && fields.length > 0 {
         run.seen("non-writes that carry a payload", 1);
     }
     let marks = [fields.expected, fields.next];
-    if marks.iter().any(|mark| mark.transaction >= 1 << 31 || mark.desk >= 1 << 15) {
+    if marks
+        .iter()
+        .any(|mark| mark.transaction >= 1 << 31 || mark.desk >= 1 << 15)
+    {
         run.seen("marks with their top bits set", 1);
     }
     let stamps = [fields.pair.s, fields.pair.x];
-    if stamps.iter().any(|stamp| stamp >> 63 == 1 || stamp >> 31 & 1 == 1) {
+    if stamps
+        .iter()
+        .any(|stamp| stamp >> 63 == 1 || stamp >> 31 & 1 == 1)
+    {
         run.seen("stamps with their top bits set", 1);
     }
 }
@@ -114,7 +152,13 @@ pub fn large(run: &mut Run, random: &mut Random) -> Compared<()> {
     for _ in 0..6 {
         let command = generate::fitting_command(random, &image);
         let mut reply = reply_near(random, &image, &command);
-        answer(run, "commands on the largest images", &mut image, &command, &mut reply)?;
+        answer(
+            run,
+            "commands on the largest images",
+            &mut image,
+            &command,
+            &mut reply,
+        )?;
     }
     let at = random.index(image.len());
     image[at] ^= 1 << random.below(8);
@@ -122,8 +166,17 @@ pub fn large(run: &mut Run, random: &mut Random) -> Compared<()> {
 }
 
 /// The fields of an entry: where and how wide.
-const FIELDS: [(usize, usize); 9] =
-    [(0, 8), (8, 8), (16, 2), (18, 2), (20, 4), (24, 2), (26, 2), (28, 2), (30, 2)];
+const FIELDS: [(usize, usize); 9] = [
+    (0, 8),
+    (8, 8),
+    (16, 2),
+    (18, 2),
+    (20, 4),
+    (24, 2),
+    (26, 2),
+    (28, 2),
+    (30, 2),
+];
 
 /// Damaged images: every header byte and every field of an entry broken in
 /// turn, every other byte changed, bytes missing and bytes too many.
@@ -136,22 +189,51 @@ pub fn damaged(run: &mut Run, random: &mut Random) -> Compared<()> {
     for (offset, width) in FIELDS {
         let at = 16 + 32 * card + offset;
         let stored = u64::from(second::endian::u16_at(&sound, at).unwrap_or(0));
-        let edges = [0, 1, stored + 1, room, room + 1, 0xffff, 1 << 16, 1 << 32, u64::MAX];
+        let edges = [
+            0,
+            1,
+            stored + 1,
+            room,
+            room + 1,
+            0xffff,
+            1 << 16,
+            1 << 32,
+            u64::MAX,
+        ];
         for value in edges {
             let mut image = sound.clone();
             image[at..at + width].copy_from_slice(&value.to_le_bytes()[..width]);
-            one_damaged(run, random, "images with an entry's field broken", image, &command)?;
+            one_damaged(
+                run,
+                random,
+                "images with an entry's field broken",
+                image,
+                &command,
+            )?;
         }
     }
     for at in 0..sound.len() {
-        let part = if at < 16 { "images with a header byte broken" } else { "images with a byte changed" };
+        let part = if at < 16 {
+            "images with a header byte broken"
+        } else {
+            "images with a byte changed"
+        };
         for changed in [sound[at] ^ 1 << random.below(8), random.byte()] {
             let mut image = sound.clone();
             image[at] = changed;
             one_damaged(run, random, part, image, &command)?;
         }
     }
-    for length in [0, 1, 15, 16, 17, sound.len() - 1, sound.len() + 1, sound.len() + 64] {
+    for length in [
+        0,
+        1,
+        15,
+        16,
+        17,
+        sound.len() - 1,
+        sound.len() + 1,
+        sound.len() + 64,
+    ] {
         let mut image = sound.clone();
         image.resize(length, 0);
         one_damaged(run, random, "images too short or too long", image, &command)?;
@@ -159,7 +241,13 @@ pub fn damaged(run: &mut Run, random: &mut Random) -> Compared<()> {
     Ok(())
 }
 
-fn one_damaged(run: &mut Run, random: &mut Random, part: &'static str, mut image: Vec<u8>, command: &[u8]) -> Compared<()> {
+fn one_damaged(
+    run: &mut Run,
+    random: &mut Random,
+    part: &'static str,
+    mut image: Vec<u8>,
+    command: &[u8],
+) -> Compared<()> {
     soundness(run, part, &image)?;
     let mut reply = reply_near(random, &image, command);
     answer(run, part, &mut image, command, &mut reply)?;
@@ -173,19 +261,50 @@ pub fn malformed(run: &mut Run, random: &mut Random) -> Compared<()> {
     let command = generate::fitting_command(random, &image);
     for at in 0..52 {
         let byte = command[at];
-        for changed in [0, 1, 0xff, byte ^ 1, byte ^ 0x80, byte.wrapping_add(1), random.byte()] {
+        for changed in [
+            0,
+            1,
+            0xff,
+            byte ^ 1,
+            byte ^ 0x80,
+            byte.wrapping_add(1),
+            random.byte(),
+        ] {
             let mut broken = command.clone();
             broken[at] = changed;
             let (mut image, mut reply) = (image.clone(), random.bytes(18));
-            answer(run, "commands with a byte broken", &mut image, &broken, &mut reply)?;
+            answer(
+                run,
+                "commands with a byte broken",
+                &mut image,
+                &broken,
+                &mut reply,
+            )?;
         }
     }
     let longer = command.len() + 1;
-    for length in [0, 1, 49, 50, 51, 52, 53, command.len() - 1, longer, 52 + 65_535] {
+    for length in [
+        0,
+        1,
+        49,
+        50,
+        51,
+        52,
+        53,
+        command.len() - 1,
+        longer,
+        52 + 65_535,
+    ] {
         let mut broken = command.clone();
         broken.resize(length, 0);
         let (mut image, mut reply) = (image.clone(), random.bytes(18));
-        answer(run, "commands too short or too long", &mut image, &broken, &mut reply)?;
+        answer(
+            run,
+            "commands too short or too long",
+            &mut image,
+            &broken,
+            &mut reply,
+        )?;
     }
     Ok(())
 }
@@ -195,7 +314,20 @@ pub fn making(run: &mut Run, random: &mut Random) -> Compared<()> {
     for _ in 0..40 {
         let any = random.number();
         let cards = random.pick(&[0, 1, 2, 15, 16, 63, 64, 65, 1 << 16, (1 << 32) + 1, any]);
-        let room = random.pick(&[0, 15, 16, 17, 32, 224, 240, 1_008, 1_024, 1_040, (1 << 16) + 16, any]);
+        let room = random.pick(&[
+            0,
+            15,
+            16,
+            17,
+            32,
+            224,
+            240,
+            1_008,
+            1_024,
+            1_040,
+            (1 << 16) + 16,
+            any,
+        ]);
         let right = Layout::new(cards, room).map_or(80, Layout::size);
         let length = random.pick(&[0, 16, right, right, right, right + 1, right - 1]);
         let mut image = random.bytes(length);

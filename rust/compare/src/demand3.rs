@@ -61,12 +61,16 @@ struct List<'a> {
 impl<'a> List<'a> {
     /// The command at a place if it is accepted.
     fn accepted(&self, at: usize) -> Option<&Command<'a>> {
-        self.commands[at].as_ref().filter(|_| self.events[at].number == 0)
+        self.commands[at]
+            .as_ref()
+            .filter(|_| self.events[at].number == 0)
     }
 
     /// The earlier accepted commands for a card, the last one first.
     fn earlier(&self, at: usize, card: u16) -> impl Iterator<Item = &Command<'a>> {
-        let accepted = (0..at).rev().filter_map(move |before| self.accepted(before));
+        let accepted = (0..at)
+            .rev()
+            .filter_map(move |before| self.accepted(before));
         accepted.filter(move |command| command.card == card)
     }
 
@@ -92,18 +96,25 @@ impl<'a> List<'a> {
         let since = self
             .earlier(at, card)
             .take_while(|before| before.act != Act::Write(Language::Original));
-        !since.into_iter().any(|before| before.act == Act::Write(Language::Translation))
+        !since
+            .into_iter()
+            .any(|before| before.act == Act::Write(Language::Translation))
     }
 
     /// The payload of the last earlier accepted write of a card and language.
     fn last_written(&self, at: usize, card: u16, language: Language) -> Option<&[u8]> {
         let mut earlier = self.earlier(at, card);
-        earlier.find(|before| before.act == Act::Write(language)).map(|before| before.payload)
+        earlier
+            .find(|before| before.act == Act::Write(language))
+            .map(|before| before.payload)
     }
 
     /// The well-formed commands for a card, refused ones too.
     fn sent_for(&self, card: u16) -> impl Iterator<Item = &Command<'a>> {
-        self.commands.iter().flatten().filter(move |command| command.card == card)
+        self.commands
+            .iter()
+            .flatten()
+            .filter(move |command| command.card == card)
     }
 
     /// Whether the premise holds for a card, and whether any command carries
@@ -129,7 +140,10 @@ impl<'a> List<'a> {
 pub fn holds(cards: u16, events: &[Event], spoken: &mut Spoken) -> Result<(), String> {
     let list = List {
         events,
-        commands: events.iter().map(|event| Command::parse(&event.command)).collect(),
+        commands: events
+            .iter()
+            .map(|event| Command::parse(&event.command))
+            .collect(),
         cards,
     };
     for at in 0..events.len() {
@@ -142,11 +156,18 @@ pub fn holds(cards: u16, events: &[Event], spoken: &mut Spoken) -> Result<(), St
 }
 
 fn staleness(list: &List, at: usize, spoken: &mut Spoken) -> Result<(), &'static str> {
-    let Some(command) = list.commands[at].as_ref().filter(|command| command.card < list.cards) else {
+    let Some(command) = list.commands[at]
+        .as_ref()
+        .filter(|command| command.card < list.cards)
+    else {
         return Ok(());
     };
     let late = list.late(at, command);
-    *(if late { &mut spoken.late } else { &mut spoken.in_time }) += 1;
+    *(if late {
+        &mut spoken.late
+    } else {
+        &mut spoken.in_time
+    }) += 1;
     match late == (list.events[at].number == 3) {
         true => Ok(()),
         false => Err("refused as stale exactly when it comes late"),
@@ -154,7 +175,9 @@ fn staleness(list: &List, at: usize, spoken: &mut Spoken) -> Result<(), &'static
 }
 
 fn behindness(list: &List, at: usize, spoken: &mut Spoken) -> Result<(), &'static str> {
-    let reads = |command: &&Command| command.act == Act::Read(Language::Translation) && command.card < list.cards;
+    let reads = |command: &&Command| {
+        command.act == Act::Read(Language::Translation) && command.card < list.cards
+    };
     let Some(command) = list.commands[at].as_ref().filter(reads) else {
         return Ok(());
     };
@@ -162,7 +185,11 @@ fn behindness(list: &List, at: usize, spoken: &mut Spoken) -> Result<(), &'stati
         return Ok(());
     }
     let behind = list.behind(at, command.card);
-    *(if behind { &mut spoken.behind } else { &mut spoken.not_behind }) += 1;
+    *(if behind {
+        &mut spoken.behind
+    } else {
+        &mut spoken.not_behind
+    }) += 1;
     match behind == (list.events[at].number == 6) {
         true => Ok(()),
         false => Err("a translation's read is refused as behind exactly when it is behind"),
@@ -175,7 +202,11 @@ fn showing(list: &List, at: usize, spoken: &mut Spoken) -> Result<(), &'static s
         Some((Act::Read(language), card)) => list.last_written(at, card, language),
         _ => return Ok(()),
     };
-    *(if shown.is_some() { &mut spoken.shown } else { &mut spoken.nothing_shown }) += 1;
+    *(if shown.is_some() {
+        &mut spoken.shown
+    } else {
+        &mut spoken.nothing_shown
+    }) += 1;
     match event.reply.get(..event.length) == Some(shown.unwrap_or_default()) {
         true => Ok(()),
         false => Err("an accepted read shows the payload of the last accepted write"),
@@ -187,7 +218,10 @@ fn isolation(list: &List, card: u16, spoken: &mut Spoken) -> Result<(), String> 
     spoken.premise += u64::from(premise && carries);
     spoken.no_premise += u64::from(!premise);
     let accepted: Vec<usize> = (0..list.events.len())
-        .filter(|&at| list.accepted(at).is_some_and(|command| command.card == card))
+        .filter(|&at| {
+            list.accepted(at)
+                .is_some_and(|command| command.card == card)
+        })
         .collect();
     for (place, &first) in accepted.iter().enumerate() {
         for &second in &accepted[place + 1..] {
@@ -198,7 +232,14 @@ fn isolation(list: &List, card: u16, spoken: &mut Spoken) -> Result<(), String> 
 }
 
 /// Two accepted commands of one session, and what stands between them.
-fn isolated(list: &List, card: u16, premise: bool, first: usize, second: usize, spoken: &mut Spoken) -> Result<(), String> {
+fn isolated(
+    list: &List,
+    card: u16,
+    premise: bool,
+    first: usize,
+    second: usize,
+    spoken: &mut Spoken,
+) -> Result<(), String> {
     let (Some(a), Some(b)) = (list.accepted(first), list.accepted(second)) else {
         return Ok(());
     };

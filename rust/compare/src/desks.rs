@@ -25,7 +25,9 @@ pub fn any(run: &mut Run, random: &mut Random) -> Compared<()> {
         }
         let other = random.between(2, 255) as u8;
         if proved::shown(&held, other) != (1, 0) {
-            return Err(Difference(format!("language {other} is not refused: {held:?}")));
+            return Err(Difference(format!(
+                "language {other} is not refused: {held:?}"
+            )));
         }
         run.case("desks asked for a third language");
     }
@@ -35,7 +37,16 @@ pub fn any(run: &mut Run, random: &mut Random) -> Compared<()> {
 /// A length at, around or far from the buffer's size.
 fn near(random: &mut Random, size: u64) -> u64 {
     let any = random.number();
-    random.pick(&[0, size, size, size, size.saturating_sub(1), size + 1, any, u64::MAX])
+    random.pick(&[
+        0,
+        size,
+        size,
+        size,
+        size.saturating_sub(1),
+        size + 1,
+        any,
+        u64::MAX,
+    ])
 }
 
 fn both(run: &mut Run, held: &Held, language: Language) -> Compared<()> {
@@ -47,7 +58,11 @@ fn both(run: &mut Run, held: &Held, language: Language) -> Compared<()> {
         edition: held.edition.into(),
         translated_from: held.from.into(),
     };
-    let input = || bytes("original", held.original) + &bytes("translation", held.translation) + &format!("  {held:?} {language:?}\n");
+    let input = || {
+        bytes("original", held.original)
+            + &bytes("translation", held.translation)
+            + &format!("  {held:?} {language:?}\n")
+    };
     let (number, text) = shown(&second_held, language);
     let proved = proved::shown(held, proved::asked(language));
     same("shown", proved, (number, text.len() as u64), input)?;

@@ -27,7 +27,12 @@ pub fn any(run: &mut Run, random: &mut Random) -> Compared<()> {
     for sender in [Sender::Strict, Sender::Loose, Sender::Anyone] {
         let (cards, room) = random.pick(&[(1, 16), (1, 16), (2, 16), (2, 32), (3, 48)]);
         let mut image = fresh(cards, room);
-        same("fresh image", proved_fresh(&image, cards, room), image.clone(), || format!("  cards {cards}, room {room}\n"))?;
+        same(
+            "fresh image",
+            proved_fresh(&image, cards, room),
+            image.clone(),
+            || format!("  cards {cards}, room {room}\n"),
+        )?;
         let mut desks = Desks::new(sender == Sender::Strict);
         let mut events = Vec::new();
         for _ in 0..random.between(10, 70) {
@@ -37,7 +42,13 @@ pub fn any(run: &mut Run, random: &mut Random) -> Compared<()> {
             };
             let lent = reply_near(random, &image, &command);
             let mut reply = lent.clone();
-            let told = answer(run, "commands in lists from a fresh image", &mut image, &command, &mut reply)?;
+            let told = answer(
+                run,
+                "commands in lists from a fresh image",
+                &mut image,
+                &command,
+                &mut reply,
+            )?;
             events.push(Event {
                 command,
                 lent,
@@ -61,8 +72,13 @@ fn proved_fresh(like: &[u8], cards: u64, room: u64) -> Vec<u8> {
 fn sentences(run: &mut Run, cards: u16, events: &[Event]) -> Compared<()> {
     let mut spoken = Spoken::default();
     demand3::holds(cards, events, &mut spoken).map_err(|sentence| {
-        let list = events.iter().map(|event| bytes("command", &event.command) + &bytes("reply lent", &event.lent));
-        Difference(format!("demand 3: {sentence}\n{}", list.collect::<String>()))
+        let list = events
+            .iter()
+            .map(|event| bytes("command", &event.command) + &bytes("reply lent", &event.lent));
+        Difference(format!(
+            "demand 3: {sentence}\n{}",
+            list.collect::<String>()
+        ))
     })?;
     for (part, times) in counted(&spoken) {
         if times > 0 {

@@ -1,4 +1,4 @@
-//! `compare test` runs a fixed seed and at least 100,000 cases; `compare soak
+//! `compare test` runs a fixed seed and 2,000,000 cases; `compare soak
 //! N` runs N cases with a new seed, which it prints. `compare seed S N` runs
 //! any seed again. Each prints a table at its end, and fails at the first
 //! difference, and where a number or a sentence never came.
@@ -12,7 +12,7 @@ use second::random::Random;
 
 /// The fixed seed and the cases of `make test`, and its inputs to the program.
 const SEED: u64 = 1;
-const CASES: u64 = 150_000;
+const CASES: u64 = 2_000_000;
 const INPUTS: u64 = 10_000;
 
 fn main() -> ExitCode {
@@ -20,8 +20,15 @@ fn main() -> ExitCode {
     let words: Vec<&str> = words.iter().map(String::as_str).collect();
     let wish = match words[..] {
         ["test"] => Some((SEED, CASES, INPUTS)),
-        ["soak", cases] => cases.parse().ok().map(|cases| (new_seed(), cases, cases / 20)),
-        ["seed", seed, cases] => seed.parse().ok().zip(cases.parse().ok()).map(|(seed, cases): (u64, u64)| (seed, cases, cases / 20)),
+        ["soak", cases] => cases
+            .parse()
+            .ok()
+            .map(|cases| (new_seed(), cases, cases / 20)),
+        ["seed", seed, cases] => seed
+            .parse()
+            .ok()
+            .zip(cases.parse().ok())
+            .map(|(seed, cases): (u64, u64)| (seed, cases, cases / 20)),
         _ => None,
     };
     let Some((seed, cases, inputs)) = wish else {
@@ -33,7 +40,10 @@ fn main() -> ExitCode {
     match compared(&mut run, seed, cases, inputs) {
         Ok(missing) => told(&run, &missing),
         Err(Difference(told)) => {
-            eprintln!("compare: seed {seed}, after {} cases: a difference\n{told}", run.cases);
+            eprintln!(
+                "compare: seed {seed}, after {} cases: a difference\n{told}",
+                run.cases
+            );
             ExitCode::FAILURE
         }
     }
@@ -58,14 +68,15 @@ fn compared(run: &mut Run, seed: u64, cases: u64, inputs: u64) -> Compared<Vec<S
         }
     }
     let mut wanted = lists::SENTENCES.to_vec();
-    let binary = program::binary();
-    if binary.exists() {
+    if let Some(binary) = program::binary() {
         program::any(run, &mut random, &binary, inputs)?;
         wanted.extend(program::KINDS);
-    } else {
-        println!("compare: target/bin/cards is not built; the program is left out");
     }
-    println!("compare: {} cases, {} s", run.cases, started.elapsed().as_secs());
+    println!(
+        "compare: {} cases, {} s",
+        run.cases,
+        started.elapsed().as_secs()
+    );
     Ok(run.missing(&wanted))
 }
 

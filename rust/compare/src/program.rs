@@ -13,9 +13,11 @@ use crate::run::{bytes, same, Compared, Difference, Run};
 /// The most bytes that the program takes.
 const LIMIT: usize = 65_536;
 
-/// Where the gate leaves the program.
-pub fn binary() -> PathBuf {
-    Path::new(env!("CARGO_MANIFEST_DIR")).join("../../target/bin/cards")
+/// Where the gate leaves the program; none if there is no program to build.
+pub fn binary() -> Option<PathBuf> {
+    let top = Path::new(env!("CARGO_MANIFEST_DIR")).join("../..");
+    let there = top.join("crates/cards").exists();
+    there.then(|| top.join("target/bin/cards"))
 }
 
 /// An input of any sort, at every edge of its length.
@@ -90,7 +92,9 @@ fn one(run: &mut Run, random: &mut Random, binary: &Path, file: &Path) -> Compar
         Some("cut") => "program: runs that end with cut",
         _ => "program: runs that end with end",
     };
-    same("program", proved, second, || bytes("standard input", &input))?;
+    same("program", proved, second, || {
+        bytes("standard input", &input)
+    })?;
     run.seen("program: inputs", 1);
     run.seen(kind, 1);
     if input.len() == LIMIT || input.len() == LIMIT + 1 {

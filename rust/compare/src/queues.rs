@@ -60,7 +60,12 @@ impl Both {
             second.largest.x,
             second.looked_at as u64,
         ];
-        same("queue's answer", (number, fields), (second.number, told), input)?;
+        same(
+            "queue's answer",
+            (number, fields),
+            (second.number, told),
+            input,
+        )?;
         let after = proved::Queue::new(&self.places, self.count as u64, self.largest);
         same("queue after", self.proved, after, input)?;
         run.case(part);
@@ -97,7 +102,11 @@ pub fn any(run: &mut Run, random: &mut Random) -> Compared<()> {
 
 /// The low half of the mode's own stamp.
 fn own(place: Place) -> u32 {
-    desk_and_start(if place.mode == 2 { place.pair.x } else { place.pair.s })
+    desk_and_start(if place.mode == 2 {
+        place.pair.x
+    } else {
+        place.pair.s
+    })
 }
 
 /// Chains of asks and leaves on a queue that starts empty, with stamps that

@@ -81,7 +81,11 @@ fn sent(random: &mut Random, image: &[u8], session: Open) -> Vec<u8> {
         1 => random.pick(&[1, 2, 2, 5]),
         _ => random.pick(&[1, 2, 3, 3, 4, 4, 5]),
     };
-    let marks = [Mark::default(), Mark::new(1, 7), Mark::new(0x8001, 0x8000_0007)];
+    let marks = [
+        Mark::default(),
+        Mark::new(1, 7),
+        Mark::new(0x8001, 0x8000_0007),
+    ];
     let fields = CommandFields {
         act,
         mode: session.mode,

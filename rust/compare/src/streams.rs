@@ -18,7 +18,16 @@ pub fn any(run: &mut Run, random: &mut Random) -> Compared<()> {
             walks(run, stream)?;
             let any = random.number() as usize;
             let length = stream.len();
-            for at in [0, 1, 52, length, length + 1, length.saturating_sub(52), any, usize::MAX] {
+            for at in [
+                0,
+                1,
+                52,
+                length,
+                length + 1,
+                length.saturating_sub(52),
+                any,
+                usize::MAX,
+            ] {
                 steps(run, stream, at)?;
             }
         }
@@ -29,9 +38,21 @@ pub fn any(run: &mut Run, random: &mut Random) -> Compared<()> {
 /// The walk's end, and each step on the way.
 fn walks(run: &mut Run, stream: &[u8]) -> Compared<()> {
     let second = walk(stream, 0);
-    same("end of the walk", proved::end(stream), second.place as u64, || bytes("stream", stream))?;
+    same(
+        "end of the walk",
+        proved::end(stream),
+        second.place as u64,
+        || bytes("stream", stream),
+    )?;
     run.case("walks of a stream");
-    run.seen(if second.cut { "walks that end at a cut" } else { "walks that end at the end" }, 1);
+    run.seen(
+        if second.cut {
+            "walks that end at a cut"
+        } else {
+            "walks that end at the end"
+        },
+        1,
+    );
     let mut at = 0;
     for _ in 0..second.commands {
         at = steps(run, stream, at)?;
@@ -46,7 +67,12 @@ fn steps(run: &mut Run, stream: &[u8], at: usize) -> Compared<usize> {
         Standing::End | Standing::Cut => (false, at as u64),
     };
     let input = || bytes("stream", stream) + &format!("  at {at}\n");
-    same("what stands at a place", proved::next(stream, at as u64), second, input)?;
+    same(
+        "what stands at a place",
+        proved::next(stream, at as u64),
+        second,
+        input,
+    )?;
     run.case("places of a stream");
     Ok(second.1 as usize)
 }

@@ -36,7 +36,13 @@ fn verified(list: &[(u8, Pair)], (cards, room, card): (u64, u64, u16)) -> Vec<Ev
         let command = on_card(card, command(VERIFY, *mode, *pair));
         let number = number(&mut image, &command);
         let (lent, reply) = (Vec::new(), Vec::new());
-        Event { command, lent, number, length: 0, reply }
+        Event {
+            command,
+            lent,
+            number,
+            length: 0,
+            reply,
+        }
     };
     list.iter().map(event).collect()
 }
@@ -52,7 +58,9 @@ fn numbers(list: &[(u8, Pair)], premise: bool) -> Vec<u8> {
         events.iter().map(|event| event.number).collect()
     };
     let numbers = run(STORES[0]);
-    STORES.iter().for_each(|&store| assert_eq!(run(store), numbers));
+    STORES
+        .iter()
+        .for_each(|&store| assert_eq!(run(store), numbers));
     numbers
 }
 
@@ -78,14 +86,23 @@ fn a_and_b() {
 #[test]
 fn c() {
     let later = Pair::new(at(2, 2), 0);
-    let list = [(SHARED, a()), (SHARED, later), (SHARED, a()), (EXCLUSIVE, a_prime())];
+    let list = [
+        (SHARED, a()),
+        (SHARED, later),
+        (SHARED, a()),
+        (EXCLUSIVE, a_prime()),
+    ];
     assert_eq!(numbers(&list, true), [0, 0, 0, 3]);
 }
 
 #[test]
 fn d() {
     let small = Pair::new(at(0, 2), at(1, 1));
-    let list = [(EXCLUSIVE, a_prime()), (SHARED, small), (EXCLUSIVE, a_prime())];
+    let list = [
+        (EXCLUSIVE, a_prime()),
+        (SHARED, small),
+        (EXCLUSIVE, a_prime()),
+    ];
     assert_eq!(numbers(&list, false), [0, 0, 0]);
 }
 
@@ -94,7 +111,10 @@ fn e_and_f() {
     for mode in [SHARED, EXCLUSIVE] {
         let answer = send(&mut made(1, 16), &command(READ_ORIGINAL, mode, a_prime()));
         assert_eq!((answer.number, answer.fields[6]), (0, 0));
-        let answer = send(&mut made(1, 16), &command(READ_TRANSLATION, mode, a_prime()));
+        let answer = send(
+            &mut made(1, 16),
+            &command(READ_TRANSLATION, mode, a_prime()),
+        );
         assert_eq!((answer.number, answer.fields[6]), (6, 0));
     }
 }
@@ -138,7 +158,8 @@ fn k_and_l() {
             assert_eq!(reply, text);
             if length > 0 {
                 let mut short = vec![0xaa; length - 1];
-                let answer = proved::answer(&mut image.clone(), &command(act, SHARED, a()), &mut short);
+                let answer =
+                    proved::answer(&mut image.clone(), &command(act, SHARED, a()), &mut short);
                 assert_eq!((answer.number, answer.fields[6]), (8, 0));
                 assert_eq!(short, vec![0xaa; length - 1]);
             }

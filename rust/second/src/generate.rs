@@ -1,10 +1,7 @@
 //! Random inputs near the edges of the rules, for tests and the comparison.
 
 // Nothing here is part of the store.
-#![allow(
-    clippy::arithmetic_side_effects,
-    clippy::indexing_slicing
-)]
+#![allow(clippy::arithmetic_side_effects, clippy::indexing_slicing)]
 
 use crate::random::Random;
 use crate::short::{fresh, put_card};
