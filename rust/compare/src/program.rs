@@ -26,16 +26,16 @@ fn input(random: &mut Random) -> Vec<u8> {
         0 => fresh(1, 16),
         _ => generate::image(random),
     };
-    match random.below(40) {
+    match random.below(120) {
         0 => input.truncate(0),
         1 => input.truncate(15),
-        2 => input.truncate(16),
-        3 => input.truncate(input.len().saturating_sub(1)),
-        4 => return filled(random, LIMIT),
-        5 => return filled(random, LIMIT + 1),
-        6 => return filled(random, LIMIT - 1),
-        7 => return random.bytes(LIMIT + 1),
-        8 => {}
+        2 | 3 => input.truncate(16),
+        4 | 5 => input.truncate(input.len().saturating_sub(1)),
+        6 => return filled(random, LIMIT),
+        7 => return filled(random, LIMIT + 1),
+        8 => return filled(random, LIMIT - 1),
+        9 => return random.bytes(LIMIT + 1),
+        10 | 11 => {}
         _ => {
             let image = input.clone();
             for _ in 0..random.below(4) {
@@ -73,12 +73,31 @@ fn printed(binary: &Path, file: &Path, input: &[u8]) -> Compared<Vec<u8>> {
     Ok(output.stdout)
 }
 
-/// Runs the binary on so many inputs.
+/// Runs the binary on so many inputs, two at a time.
 pub fn any(run: &mut Run, random: &mut Random, binary: &Path, inputs: u64) -> Compared<()> {
-    let file = std::env::temp_dir().join(format!("lupaniele-compare-{}", std::process::id()));
-    let result = (0..inputs).try_for_each(|_| one(run, random, binary, &file));
+    let seeds = [random.number(), random.number()];
+    let runs = std::thread::scope(|scope| {
+        let workers = seeds.map(|seed| scope.spawn(move || worker(seed, binary, inputs / 2)));
+        workers.map(|worker| {
+            worker
+                .join()
+                .unwrap_or_else(|panic| std::panic::resume_unwind(panic))
+        })
+    });
+    for result in runs {
+        run.add(&result?);
+    }
+    Ok(())
+}
+
+/// Half of the inputs, one after the other.
+fn worker(seed: u64, binary: &Path, inputs: u64) -> Compared<Run> {
+    let name = format!("lupaniele-compare-{}-{seed:x}", std::process::id());
+    let file = std::env::temp_dir().join(name);
+    let (mut run, mut random) = (Run::default(), Random::new(seed));
+    let result = (0..inputs).try_for_each(|_| one(&mut run, &mut random, binary, &file));
     let _ = fs::remove_file(&file);
-    result
+    result.map(|()| run)
 }
 
 fn one(run: &mut Run, random: &mut Random, binary: &Path, file: &Path) -> Compared<()> {

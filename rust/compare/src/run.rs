@@ -38,6 +38,16 @@ impl Run {
         }
     }
 
+    /// Adds what another run counted.
+    pub fn add(&mut self, other: &Run) {
+        self.cases += other.cases;
+        let pairs = self.numbers.iter_mut().zip(other.numbers);
+        pairs.for_each(|(times, more)| *times += more);
+        for (part, times) in &other.parts {
+            self.seen(part, *times);
+        }
+    }
+
     /// The table of what was run.
     pub fn table(&self) -> String {
         let parts = self

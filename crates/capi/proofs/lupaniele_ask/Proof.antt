@@ -1,7 +1,5 @@
 -- Loaded, asked, stored. Assumes nothing.
-use mathlib.Core.Path.{ap, _∙_}
-use Rattle.lock_queue.specs.Queue.{State}
-use Rattle.lock_queue.specs.Requests.{answer, after, asks, leaves}
+use Rattle.lock_queue.specs.Requests.{asks}
 use Rattle.capi.specs.Fields.{waiting}
 use Rattle.capi.proofs.Exits.{exits}
 use borrow.Author.Needs.{needs}
@@ -23,11 +21,11 @@ write-answer-requires c κs = search needs
 returns : tie.Need-returns
 returns c =
     let start = c .before .before .before .before .before .before .before .before .before .before .before .before .before .before .before in
-    let loaded = c .before .before .before .before .before .before .before .before .before .before .load .ensures in
-    let asked = c .before .before .before .before .before .before .before .before .before .ask .ensures in
     exits
-    (asked .0 ∙ ap (λ (q : State). answer (start .args .places) q (asks (waiting (start .args .mode) (start .args .asked-s) (start .args .asked-x)))) loaded)
-    (asked .1 ∙ ap (λ (q : State). after (start .args .places) q (asks (waiting (start .args .mode) (start .args .asked-s) (start .args .asked-x)))) loaded)
+    (start .args .places)
+    (asks (waiting (start .args .mode) (start .args .asked-s) (start .args .asked-x)))
+    (c .before .before .before .before .before .before .before .before .before .before .load .ensures)
+    (c .before .before .before .before .before .before .before .before .before .ask .ensures)
     (c .write-answer .ensures)
     (c .before .before .before .store .ensures)
 

@@ -1,8 +1,5 @@
 -- Loaded, asked, stored. Assumes nothing.
-use mathlib.Core.Path.{ap, _∙_}
-use Rattle.lock_queue.specs.Queue.{State}
-use Rattle.lock_queue.specs.Requests.{answer, after, asks, leaves}
-use Rattle.capi.specs.Fields.{waiting}
+use Rattle.lock_queue.specs.Requests.{leaves}
 use Rattle.capi.proofs.Exits.{exits}
 use borrow.Author.Needs.{needs}
 use Rattle.capi.proofs.lupaniele_leave.Statement.{statement}
@@ -23,11 +20,11 @@ write-answer-requires c κs = search needs
 returns : tie.Need-returns
 returns c =
     let start = c .before .before .before .before .before .before .before .before .before .before .before .before .before .before .before in
-    let loaded = c .before .before .before .before .before .before .before .before .before .before .load .ensures in
-    let asked = c .before .before .before .before .before .before .before .before .before .leave .ensures in
     exits
-    (asked .0 ∙ ap (λ (q : State). answer (start .args .places) q (leaves (start .args .desk))) loaded)
-    (asked .1 ∙ ap (λ (q : State). after (start .args .places) q (leaves (start .args .desk))) loaded)
+    (start .args .places)
+    (leaves (start .args .desk))
+    (c .before .before .before .before .before .before .before .before .before .before .load .ensures)
+    (c .before .before .before .before .before .before .before .before .before .leave .ensures)
     (c .write-answer .ensures)
     (c .before .before .before .store .ensures)
 
