@@ -4,11 +4,7 @@
 use compare::demand3::{self, Event, Spoken};
 use compare::proved::{self, Answer, Queue};
 use second::short::*;
-use second::stamp::stamp;
 use second::{Pair, Place};
-
-/// N and C to run a trial with, and the card it is about.
-const STORES: [(u64, u64, u16); 4] = [(1, 16, 0), (3, 48, 1), (15, 1_024, 14), (64, 224, 63)];
 
 /// A fresh image of the proved library.
 fn made(cards: u64, room: u64) -> Vec<u8> {
@@ -64,17 +60,6 @@ fn numbers(list: &[(u8, Pair)], premise: bool) -> Vec<u8> {
     numbers
 }
 
-fn trial_a() -> Vec<(u8, Pair)> {
-    vec![
-        (SHARED, a()),
-        (SHARED, a()),
-        (EXCLUSIVE, a_prime()),
-        (SHARED, b()),
-        (EXCLUSIVE, b_prime()),
-        (EXCLUSIVE, b_prime()),
-    ]
-}
-
 #[test]
 fn a_and_b() {
     let mut list = trial_a();
@@ -84,26 +69,9 @@ fn a_and_b() {
 }
 
 #[test]
-fn c() {
-    let later = Pair::new(at(2, 2), 0);
-    let list = [
-        (SHARED, a()),
-        (SHARED, later),
-        (SHARED, a()),
-        (EXCLUSIVE, a_prime()),
-    ];
-    assert_eq!(numbers(&list, true), [0, 0, 0, 3]);
-}
-
-#[test]
-fn d() {
-    let small = Pair::new(at(0, 2), at(1, 1));
-    let list = [
-        (EXCLUSIVE, a_prime()),
-        (SHARED, small),
-        (EXCLUSIVE, a_prime()),
-    ];
-    assert_eq!(numbers(&list, false), [0, 0, 0]);
+fn c_and_d() {
+    assert_eq!(numbers(&trial_c(), true), [0, 0, 0, 3]);
+    assert_eq!(numbers(&trial_d(), false), [0, 0, 0]);
 }
 
 #[test]
@@ -177,7 +145,6 @@ fn m() {
 
 #[test]
 fn n() {
-    let asker = |desk: u16| Place::new(SHARED, stamp(1, desk, 0), 0);
     let mut queue = Queue::new(&[Place::default(); 32], 0, Pair::default());
     for desk in 1..=32 {
         assert_eq!(queue.ask(asker(desk)).0, 0);

@@ -5,7 +5,7 @@
 #![allow(clippy::expect_used, clippy::panic, clippy::indexing_slicing)]
 
 use crate::stamp::stamp;
-use crate::{make_fresh, CommandFields, Entry, Language, Layout, Mark, Pair};
+use crate::{make_fresh, CommandFields, Entry, Language, Layout, Mark, Pair, Place};
 
 /// The original.
 pub const ORIGINAL: Language = Language::Original;
@@ -131,4 +131,43 @@ pub fn entry(edition: u16, translated_from: u16) -> Entry {
         translated_from,
         ..Entry::default()
     }
+}
+
+/// N and C to run a trial with, and the card it is about.
+pub const STORES: [(u64, u64, u16); 4] = [(1, 16, 0), (3, 48, 1), (15, 1_024, 14), (64, 224, 63)];
+
+/// Trial a, as modes and pairs of verify commands.
+pub fn trial_a() -> Vec<(u8, Pair)> {
+    vec![
+        (SHARED, a()),
+        (SHARED, a()),
+        (EXCLUSIVE, a_prime()),
+        (SHARED, b()),
+        (EXCLUSIVE, b_prime()),
+        (EXCLUSIVE, b_prime()),
+    ]
+}
+
+/// Trial c.
+pub fn trial_c() -> Vec<(u8, Pair)> {
+    vec![
+        (SHARED, a()),
+        (SHARED, Pair::new(at(2, 2), 0)),
+        (SHARED, a()),
+        (EXCLUSIVE, a_prime()),
+    ]
+}
+
+/// Trial d, whose shared command breaks the premise of demand 3.
+pub fn trial_d() -> Vec<(u8, Pair)> {
+    vec![
+        (EXCLUSIVE, a_prime()),
+        (SHARED, Pair::new(at(0, 2), at(1, 1))),
+        (EXCLUSIVE, a_prime()),
+    ]
+}
+
+/// Who asks in trial n: its own desk, and the same times as all others.
+pub fn asker(desk: u16) -> Place {
+    Place::new(SHARED, at(1, desk), 0)
 }
