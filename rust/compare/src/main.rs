@@ -23,12 +23,12 @@ fn main() -> ExitCode {
         ["soak", cases] => cases
             .parse()
             .ok()
-            .map(|cases| (new_seed(), cases, cases / 20)),
+            .map(|cases| (new_seed(), cases, cases / 200)),
         ["seed", seed, cases] => seed
             .parse()
             .ok()
             .zip(cases.parse().ok())
-            .map(|(seed, cases): (u64, u64)| (seed, cases, cases / 20)),
+            .map(|(seed, cases): (u64, u64)| (seed, cases, cases / 200)),
         _ => None,
     };
     let Some((seed, cases, inputs)) = wish else {
