@@ -23,12 +23,12 @@ fn main() -> ExitCode {
         ["soak", cases] => cases
             .parse()
             .ok()
-            .map(|cases| (new_seed(), cases, cases / 200)),
+            .map(|cases| (new_seed(), cases, inputs(cases))),
         ["seed", seed, cases] => seed
             .parse()
             .ok()
             .zip(cases.parse().ok())
-            .map(|(seed, cases): (u64, u64)| (seed, cases, cases / 200)),
+            .map(|(seed, cases): (u64, u64)| (seed, cases, inputs(cases))),
         _ => None,
     };
     let Some((seed, cases, inputs)) = wish else {
@@ -47,6 +47,11 @@ fn main() -> ExitCode {
             ExitCode::FAILURE
         }
     }
+}
+
+/// The inputs to the program for so many cases.
+fn inputs(cases: u64) -> u64 {
+    (cases / 1_000).max(1_000)
 }
 
 /// A seed that no earlier run had.

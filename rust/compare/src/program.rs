@@ -95,7 +95,12 @@ fn worker(seed: u64, binary: &Path, inputs: u64) -> Compared<Run> {
     let name = format!("lupaniele-compare-{}-{seed:x}", std::process::id());
     let file = std::env::temp_dir().join(name);
     let (mut run, mut random) = (Run::default(), Random::new(seed));
-    let result = (0..inputs).try_for_each(|_| one(&mut run, &mut random, binary, &file));
+    let result = (1..=inputs).try_for_each(|count| {
+        if count % 10_000 == 0 {
+            println!("compare: the program, {count} inputs of {inputs}");
+        }
+        one(&mut run, &mut random, binary, &file)
+    });
     let _ = fs::remove_file(&file);
     result.map(|()| run)
 }
