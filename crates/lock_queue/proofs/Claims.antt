@@ -342,12 +342,12 @@ no-desk-zero lent q start t h = rw (from-T (good lent q) t, absent (cases (stand
 
 -- ---- places beyond the lent ones
 
-bad-number : (lent : ℕ) (q : State) (r : Request) → good lent q ≡ false → number lent q r ≡ 10
+pub bad-number : (lent : ℕ) (q : State) (r : Request) → good lent q ≡ false → number lent q r ≡ 10
 unfolding number
 bad-number lent q (asks new) e = rw e
 bad-number lent q (leaves d) e = rw e
 
-bad-answer : (lent : ℕ) (q : State) (r : Request) → number lent q r ≡ 10 →
+pub bad-answer : (lent : ℕ) (q : State) (r : Request) → number lent q r ≡ 10 →
     answer lent q r ≡ record { number = 10; holds = false; largest = noPair; looked = 0 }
 unfolding answer answered
 bad-answer lent q r e = rw e
