@@ -18,7 +18,7 @@ use lock_queue::Waiting;
 use lock_queue::inner;
 
 // Whether place i is lent, and one of the 32.
-fn within(i: usize, lent: usize) -> bool
+pub fn within(i: usize, lent: usize) -> bool
     ensures { λ r. ⌜ r ≡ ltb i lent && ltb i mostPlaces ⌝ }
 {
     (i < lent) & (i < MOST_PLACES)

@@ -4,7 +4,7 @@ use Prim.Native.Nat.{ℕ, _+_, _-_, _≤_}
 use native.Mathlib.Omega.{arith}
 use mathlib.Core.List.{List}
 use borrow.Author.Needs.{needs}
-use lib.ListN.{length, replicate, getD, set}
+use lib.ListN.{length, replicate, set}
 use Rattle.endian.specs.Parts.{table}
 use Rattle.endian.proofs.Spread.{getD-table}
 use Rattle.lock_queue.specs.Queue.{mostPlaces}
