@@ -22,7 +22,8 @@ use Rattle.guard.proofs.Table.{unapplied, none-applies}
 use Rattle.image.specs.Image.{Card, Cards, text, noCard}
 use Rattle.store.specs.Serve.{cardOf, requestRows, stepped, cardsAfter, answerBy, replyBy}
 use Rattle.store.specs.Words.{Sent, Event, any, last, commandOf, accepted, outdated, lastText}
-use Rattle.store.proofs.Formed.{formed-well, formed-rules, formed-payload}
+use Rattle.guard.proofs.CommandBytes.{length-payload}
+use Rattle.store.proofs.Formed.{formed-well, formed-rules}
 
 -- ---- one request
 
@@ -255,7 +256,7 @@ ties-more cs s before t zero e k b = go (cases (eqb (fieldsOf (s .command) .card
         (tied-step place (eventBy 0 cs s) before stored
         (accepted-at cs s place ∙ eq-eqb place place refl)
         (formed-rules (s .command) (known .wellFormed))
-        (formed-payload (s .command) (known .wellFormed))
+        (length-payload (s .command) (known .wellFormed))
         (known .judged .named)
         (t place there)))
     go (inr h) =

@@ -20,7 +20,7 @@ use Rattle.image.proofs.Claims.{goodEncodes}
 use Rattle.store.specs.Serve.{cardOf, stepped, cardsAfter, serveBy, serve}
 use Rattle.store.specs.Words.{Sent, eventOf, imageAfter, history}
 use Rattle.store.specs.Claims.{SentBytes, AllBytes}
-use Rattle.store.proofs.Formed.{formed-payload, fields-fit}
+use Rattle.guard.proofs.CommandBytes.{length-payload, fits-fields}
 use Rattle.store.proofs.Machine.{numberOn, eventBy, cardsBy, cardsFrom, eventsFrom, Passed, passed, Sized, sized-step}
 
 -- ---- cards stay by the rules
@@ -61,9 +61,9 @@ module _ (cs : Cards) (s : Sent) (good : GoodCards cs) (bytes : SentBytes s) whe
     unfolding stepped payload
     good-after =
         let stored = good .each place there in
-        let long = sized-step (cardOf cs (fieldsOf (s .command))) (fieldsOf (s .command)) (payload (s .command)) (formed-payload (s .command) (known .wellFormed)) (sized stored) in
+        let long = sized-step (cardOf cs (fieldsOf (s .command))) (fieldsOf (s .command)) (payload (s .command)) (length-payload (s .command) (known .wellFormed)) (sized stored) in
         record {
-          fits = raise-fits (known .judged) (stored .fits) (fields-fit (s .command) (bytes .command));
+          fits = raise-fits (known .judged) (stored .fits) (fits-fields (s .command) (bytes .command));
           rules = raise-sound (known .judged) (stored .rules);
           original = long original;
           translation = long (translation 0);

@@ -5,7 +5,7 @@ use mathlib.Core.Path.{_≡_, refl, sym, ap, _∙_}
 use mathlib.Core.Bool.{true}
 use Rattle.guard.specs.Command.{fieldsOf, formed}
 use Rattle.image.specs.Image.{sound}
-use Rattle.store.proofs.Formed.{formed-payload}
+use Rattle.guard.proofs.CommandBytes.{length-payload}
 use Rattle.store.proofs.Kept.{stays-sound}
 use Rattle.store.proofs.Step.{
   exits,
@@ -81,7 +81,7 @@ carry-requires c κs =
     let whole = found (c .before .before .before .before .before .before .before) in (
       start .pre,
       rw (← c .before .before .before .before .before .count .ensures) (c .before .before .before .if1 .left),
-      rw (behind-fixed command, whole .1) (formed-payload command (whole .0)),
+      rw (behind-fixed command, whole .1) (length-payload command (whole .0)),
     )
 
 same-length-2 : tie.Need-same-length-2
