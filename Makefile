@@ -1,5 +1,6 @@
 # make run: the program's example. make test: exactly what the gate runs. make soak N=..: the comparison with a new seed, N cases.
-.PHONY: run test soak
+# make audit: the further must-fail edits.
+.PHONY: run test soak audit
 N = 20000000
 
 run:
@@ -12,3 +13,6 @@ test:
 soak:
 	tools/build
 	cd rust && cargo run --offline --release --quiet -p compare -- soak $(N)
+
+audit:
+	tools/audit
