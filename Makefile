@@ -1,5 +1,7 @@
-# make run: the program's example. make test: exactly what the gate runs.
-.PHONY: run test
+# make run: the program's example. make test: exactly what the gate runs. make soak N=..: the comparison with a new seed, N cases.
+# make audit: the further must-fail edits.
+.PHONY: run test soak audit
+N = 20000000
 
 run:
 	rt check cards
@@ -7,3 +9,10 @@ run:
 
 test:
 	.ci/run
+
+soak:
+	tools/build
+	cd rust && cargo run --offline --release --quiet -p compare -- soak $(N)
+
+audit:
+	tools/audit

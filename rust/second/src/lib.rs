@@ -14,7 +14,8 @@
 //! - [`queue`]: the lock queue of one card, numbers 10 to 13 and 15.
 //! - [`stream`], [`program`]: streams and the program's output.
 //! - [`number`]: the names of the numbers. [`endian`]: little-endian numbers.
-//!   [`random`]: random numbers for tests.
+//!   [`random`]: random numbers for tests. [`short`], [`generate`]: short names
+//!   and random inputs for tests and the comparison.
 
 #![forbid(unsafe_code)]
 #![deny(missing_docs)]
@@ -30,6 +31,7 @@ pub mod command;
 pub mod desk;
 pub mod endian;
 pub mod entry;
+pub mod generate;
 mod guard;
 pub mod image;
 pub mod language;
@@ -37,6 +39,7 @@ pub mod number;
 pub mod program;
 pub mod queue;
 pub mod random;
+pub mod short;
 pub mod stamp;
 pub mod store;
 pub mod stream;

@@ -338,25 +338,13 @@ fn texts_shown_of_anything_held() {
     numbers.assert_all_came(&[0, 6, 8]);
 }
 
-/// A stream of commands, often cut or damaged.
-fn random_stream(random: &mut Random, image: &[u8]) -> Vec<u8> {
-    let mut stream = Vec::new();
-    for _ in 0..random.below(6) {
-        stream.extend(generate::command(random, image));
-    }
-    if random.one_in(3) {
-        generate::damage(random, &mut stream);
-    }
-    stream
-}
-
 #[test]
 fn walks_of_any_stream() {
     let mut random = Random::new(11);
     let image = common::fresh(2, 16);
     let (mut ends, mut cuts) = (0, 0);
     for _ in 0..30_000 {
-        let stream = random_stream(&mut random, &image);
+        let stream = generate::stream(&mut random, &image);
         let any = random.number() as usize;
         let start = random.pick(&[0, 0, 0, 52, stream.len(), stream.len() + 1, any]);
         let walk = walk(&stream, start);
@@ -383,7 +371,7 @@ fn runs_of_any_stream_on_any_image() {
     for _ in 0..10_000 {
         let mut image = generate::image(&mut random);
         let sound = is_sound(&image);
-        let commands = random_stream(&mut random, &image);
+        let commands = generate::stream(&mut random, &image);
         let mut reply = vec![0; random.index(40)];
         let (answers, walked) = stream::run(&mut image, &commands, &mut reply);
         assert_eq!(answers.len(), walked.commands);
@@ -399,7 +387,7 @@ fn the_program_on_any_input() {
     let (mut bad, mut run) = (0, 0);
     for _ in 0..20_000 {
         let mut input = generate::image(&mut random);
-        let stream = random_stream(&mut random, &input);
+        let stream = generate::stream(&mut random, &input);
         input.extend(stream);
         if random.one_in(8) {
             generate::damage(&mut random, &mut input);

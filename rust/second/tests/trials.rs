@@ -4,11 +4,7 @@
 mod common;
 
 use common::*;
-use second::stamp::stamp;
 use second::{make_fresh, Entry, Layout, Mark, Pair, Place, Queue};
-
-/// N and C to run a trial with, and the card it is about.
-const STORES: [(u64, u64, u16); 4] = [(1, 16, 0), (3, 48, 1), (15, 1_024, 14), (64, 224, 63)];
 
 /// The numbers that a list of verify commands gets, from a fresh image.
 fn verified(list: &[(u8, Pair)]) -> Vec<u8> {
@@ -26,17 +22,6 @@ fn verified(list: &[(u8, Pair)]) -> Vec<u8> {
     numbers
 }
 
-fn trial_a() -> Vec<(u8, Pair)> {
-    vec![
-        (SHARED, a()),
-        (SHARED, a()),
-        (EXCLUSIVE, a_prime()),
-        (SHARED, b()),
-        (EXCLUSIVE, b_prime()),
-        (EXCLUSIVE, b_prime()),
-    ]
-}
-
 #[test]
 fn a_all_are_accepted() {
     assert_eq!(verified(&trial_a()), [0; 6]);
@@ -51,23 +36,12 @@ fn b_then_the_older_exclusive_is_stale() {
 
 #[test]
 fn c_a_later_shared_closes_the_older_exclusive() {
-    let list = [
-        (SHARED, a()),
-        (SHARED, Pair::new(at(2, 2), 0)),
-        (SHARED, a()),
-        (EXCLUSIVE, a_prime()),
-    ];
-    assert_eq!(verified(&list), [0, 0, 0, 3]);
+    assert_eq!(verified(&trial_c()), [0, 0, 0, 3]);
 }
 
 #[test]
 fn d_a_smaller_shared_stamp_closes_nothing() {
-    let list = [
-        (EXCLUSIVE, a_prime()),
-        (SHARED, Pair::new(at(0, 2), at(1, 1))),
-        (EXCLUSIVE, a_prime()),
-    ];
-    assert_eq!(verified(&list), [0, 0, 0]);
+    assert_eq!(verified(&trial_d()), [0, 0, 0]);
 }
 
 #[test]
@@ -180,11 +154,6 @@ fn m_the_largest_image_with_room_1024() {
     assert_eq!(make_fresh(&mut too_large, 16, 1_024), 14);
     assert_eq!(too_large, vec![0xee; 33_296]);
     assert_eq!(Layout::new(15, 1_024).map(Layout::size), Some(31_216));
-}
-
-/// An asker with its own desk and the same pair of times as all others.
-fn asker(desk: u16) -> Place {
-    Place::new(SHARED, stamp(1, desk, 0), 0)
 }
 
 #[test]

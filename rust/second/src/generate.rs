@@ -1,9 +1,11 @@
-//! Random inputs near the edges of the rules.
+//! Random inputs near the edges of the rules, for tests and the comparison.
 
-use second::random::Random;
-use second::{CommandFields, Entry, Layout, Mark, Pair, Place};
+// Nothing here is part of the store.
+#![allow(clippy::arithmetic_side_effects, clippy::indexing_slicing)]
 
-use super::{fresh, put_card};
+use crate::random::Random;
+use crate::short::{fresh, put_card};
+use crate::{CommandFields, Entry, Layout, Mark, Pair, Place};
 
 /// A few stamps that are often equal or near, some of them not valid.
 pub fn any_stamp(random: &mut Random) -> u64 {
@@ -20,7 +22,7 @@ pub fn valid_stamp(random: &mut Random) -> u64 {
     let time = random.pick(&[0, 1, 1, 2, 2, 3, u32::MAX]);
     let desk = random.pick(&[1, 1, 2, 3, 0x8000, u16::MAX]);
     let start = random.pick(&[0, 0, 0, 1, u16::MAX]);
-    second::stamp::stamp(time, desk, start)
+    crate::stamp::stamp(time, desk, start)
 }
 
 /// A stamp that is valid: none or one with a desk.
@@ -82,6 +84,11 @@ fn text(random: &mut Random, room: usize) -> Vec<u8> {
 pub fn sound_image(random: &mut Random) -> Vec<u8> {
     let cards = random.pick(&[1, 1, 2, 3]);
     let room = random.pick(&[16, 16, 32, 48]);
+    sound_image_of(random, cards, room)
+}
+
+/// A sound image of N cards with room C.
+pub fn sound_image_of(random: &mut Random, cards: u64, room: u64) -> Vec<u8> {
     let mut image = fresh(cards, room);
     for card in 0..cards as u16 {
         put_random_card(random, &mut image, card, room as usize);
@@ -249,12 +256,17 @@ pub fn place(random: &mut Random) -> Place {
 /// A queue's places, count and largest pair: good, or damaged in one way.
 pub fn queue(random: &mut Random) -> (Vec<Place>, usize, Pair) {
     let length = random.pick(&[1, 2, 3, 3, 4, 5, 8, 32]);
+    queue_of(random, length)
+}
+
+/// A queue of so many places.
+pub fn queue_of(random: &mut Random, length: usize) -> (Vec<Place>, usize, Pair) {
     let mut places: Vec<Place> = (0..length).map(|_| place(random)).collect();
     let mut count = random.pick(&[0, 1, 2, 3, 5, length]).min(length);
     let mut largest = Pair::default();
     for (at, standing) in places.iter_mut().take(count).enumerate() {
         let start = random.pick(&[0, 1]);
-        let own = second::stamp::stamp(random.below(4) as u32, at as u16 + 1, start);
+        let own = crate::stamp::stamp(random.below(4) as u32, at as u16 + 1, start);
         *standing = match random.below(3) {
             0 => Place::new(2, stored_stamp(random), own),
             _ => Place::new(1, own, stored_stamp(random)),
@@ -274,6 +286,9 @@ fn damage_queue(
     count: &mut usize,
     largest: &mut Pair,
 ) {
+    if places.is_empty() {
+        return;
+    }
     let at = random.index(places.len());
     match random.below(7) {
         0 => places.resize(33, Place::default()),
@@ -284,4 +299,16 @@ fn damage_queue(
         5 => places[at] = place(random),
         _ => places[at] = places[random.index(places.len())],
     }
+}
+
+/// A stream of commands, often cut or damaged.
+pub fn stream(random: &mut Random, image: &[u8]) -> Vec<u8> {
+    let mut stream = Vec::new();
+    for _ in 0..random.below(6) {
+        stream.extend(command(random, image));
+    }
+    if random.one_in(3) {
+        damage(random, &mut stream);
+    }
+    stream
 }

@@ -1,0 +1,125 @@
+-- Laws of an entry that judges a command. Assumes nothing.
+use Prim.Native.Nat.{ℕ, zero, suc, _≤_}
+use native.Mathlib.Omega.{arith}
+use mathlib.Core.Path.{_≡_, refl, subst}
+use mathlib.Core.Logic.{_↔_, _⊎_}
+use mathlib.Core.Bool.{Bool, true, false, not, _&&_}
+use borrow.Author.Tests.{ltb-false, eqb-true, eqb-false, not-true, not-false}
+use lib.Dec.{T, eqb}
+use Rattle.endian.proofs.Tests.{from-T, never-both, or-fails}
+use Rattle.guard.specs.Stamp.{shared, exclusive, stale}
+use Rattle.guard.specs.Command.{Language, original, translation, reads, writes, verifier, update, wellFormed}
+use Rattle.guard.specs.Table.{first, none, applies, earlier, once, settled}
+use Rattle.guard.specs.Judge.{markFits, behind, lastEdition, overruns, entryRows, rows, raise, judged, blank, readLength, replied, refused}
+use Rattle.guard.specs.declared.Command.{Command}
+use Rattle.guard.specs.declared.Entry.{Entry}
+use Rattle.guard.specs.declared.Judged.{Judged}
+use Rattle.guard.proofs.Table.{given, unapplied, none-applies, first-all, settled-new, settled-old}
+use Rattle.guard.proofs.Rules.{command-rules}
+use Rattle.guard.proofs.Stamp.{larger-old, stale-more}
+
+second-fails : (a b : Bool) → (a && b) ≡ false → a ≡ true → b ≡ false
+second-fails true b h e = h
+second-fails false b h e = absurd (never-both e refl)
+
+-- What an accepted command passed, row by row.
+pub record Accepted (e : Entry) (c : Command) (room lent : ℕ) : Type 0 where
+  pub formed : wellFormed c ≡ true
+  pub fresh : stale (c .mode) (e .pair) (verifier c) ≡ false
+  pub mark : markFits (e .mark) (c .expected) ≡ true
+  pub length : c .length ≤ room
+  pub current : reads (translation 0) c ≡ true → behind (e .edition) (e .from) ≡ false
+  pub named : writes (translation 0) c ≡ true → c .edition ≡ e .edition
+  pub unspent : writes original c ≡ true → e .edition ≡ lastEdition → ⊥
+  pub lends : (l : Language) → overruns l e c lent ≡ false
+
+module _ (e : Entry) (c : Command) (room lent : ℕ) where
+  -- Each number stands on one row.
+  pub once-entry : T (once (entryRows e c room lent))
+  once-entry = tt
+
+  pub once-rows : T (once (rows e c room lent))
+  once-rows = tt
+
+  -- A number and an entry that go by the table are the judgement.
+  pub judged-by : {n : ℕ} {after : Entry} → n ≡ first (rows e c room lent) → after ≡ settled n (raise e c) e →
+      _≡_ {A = Judged} (record { number = n; entry = after }) (judged e c room lent)
+  unfolding judged
+  judged-by p q = rw (q, p)
+
+  -- Where a command is accepted, no row applies.
+  pub accepted-none : first (rows e c room lent) ≡ 0 → (n : ℕ) → applies n (rows e c room lent) ≡ false
+  accepted-none h n = none-applies (rows e c room lent) (unapplied (rows e c room lent) once-rows .0 h) n
+
+  -- "A number is given exactly when its row applies and no earlier row does."
+  pub exactly : (n : ℕ) → (judged e c room lent .number ≡ suc n) ↔ (T (applies (suc n) (rows e c room lent)) × T (none (earlier (suc n) (rows e c room lent))))
+  unfolding judged
+  exactly n = given (rows e c room lent) once-rows n
+
+  -- Accepted, 0, exactly when no row applies.
+  pub accepted-exactly : (judged e c room lent .number ≡ 0) ↔ T (none (rows e c room lent))
+  unfolding judged
+  accepted-exactly = unapplied (rows e c room lent) once-rows
+
+  pub accepted : judged e c room lent .number ≡ 0 → Accepted e c room lent
+  unfolding judged
+  accepted h =
+      record {
+        formed = not-false (wellFormed c) (row-fails 1);
+        fresh = row-fails 3;
+        mark = not-false (markFits (e .mark) (c .expected)) (row-fails 4);
+        length = ltb-false room (c .length) (row-fails 5);
+        current = λ w. second-fails (reads (translation 0) c) (behind (e .edition) (e .from)) (row-6 .0) w;
+        named =
+            λ w. eqb-true (c .edition) (e .edition) (not-false (eqb (c .edition) (e .edition)) (second-fails (writes (translation 0) c) (not (eqb (c .edition) (e .edition))) (row-6 .1) w));
+        unspent = λ w. eqb-false (e .edition) lastEdition (second-fails (writes original c) (eqb (e .edition) lastEdition) (row-fails 7) w);
+        lends = lends;
+      }
+    where
+      row-fails : (n : ℕ) → applies n (rows e c room lent) ≡ false
+      row-fails n = accepted-none h n
+
+      row-6 : ((reads (translation 0) c && behind (e .edition) (e .from)) ≡ false) × ((writes (translation 0) c && not (eqb (c .edition) (e .edition))) ≡ false)
+      row-6 =
+          or-fails (reads (translation 0) c && behind (e .edition) (e .from)) (writes (translation 0) c && not (eqb (c .edition) (e .edition)))
+          (row-fails 6)
+
+      lends : (l : Language) → overruns l e c lent ≡ false
+      lends original = or-fails (overruns original e c lent) (overruns (translation 0) e c lent) (row-fails 8) .0
+      lends (translation zero) = or-fails (overruns original e c lent) (overruns (translation 0) e c lent) (row-fails 8) .1
+      lends (translation (suc t)) = refl
+
+-- The reply fields of the numbers that show none of the entry.
+pub replied-blank : (n : ℕ) (e : Entry) (c : Command) → blank n ≡ true → replied n e c ≡ refused n
+unfolding replied
+replied-blank n e c b = rw (b, settled-old {n = n} (readLength e c) 0 (λ z. never-both (subst (λ (k : ℕ). blank k ≡ true) z b) refl))
+
+module _ (e : Entry) (c : Command) (room lent : ℕ) where
+  -- A refusal leaves the entry.
+  pub refusal-leaves : (n : ℕ) → judged e c room lent .number ≡ suc n → judged e c room lent .entry ≡ e
+  unfolding judged
+  refusal-leaves n h = settled-old {n = judged e c room lent .number} (raise e c) e (λ z. omega arith)
+
+  pub accepted-raises : judged e c room lent .number ≡ 0 → judged e c room lent .entry ≡ raise e c
+  unfolding judged
+  accepted-raises h = settled-new (raise e c) e h
+
+  -- An accepted command is shared or exclusive.
+  pub accepted-mode : Accepted e c room lent → (c .mode ≡ shared) ⊎ (c .mode ≡ exclusive)
+  accepted-mode a = command-rules c (a .formed) .session .mode
+
+  -- Rows 3 to 8 decide on a well-formed command, and no number of theirs has zero reply fields.
+  pub rows-formed : wellFormed c ≡ true → first (rows e c room lent) ≡ first (entryRows e c room lent)
+  rows-formed h = rw h
+
+  pub entry-shown : blank (first (entryRows e c room lent)) ≡ false
+  entry-shown = not-true (blank (first (entryRows e c room lent))) (from-T (not (blank (first (entryRows e c room lent)))) (first-all (λ n. not (blank n)) (entryRows e c room lent) tt tt))
+
+-- The stored stamps grow.
+pub raise-more : (e : Entry) (c : Command) → (e .pair .s ≤ raise e c .pair .s) × (e .pair .x ≤ raise e c .pair .x)
+unfolding raise
+raise-more e c = larger-old (e .pair) (update c)
+
+-- What was stale stays stale when the entry is raised.
+pub stale-raised : (e : Entry) (c d : Command) → T (stale (d .mode) (e .pair) (verifier d)) → T (stale (d .mode) (raise e c .pair) (verifier d))
+stale-raised e c d t = stale-more (d .mode) (verifier d) (raise-more e c .0) (raise-more e c .1) t

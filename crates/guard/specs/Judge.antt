@@ -1,0 +1,114 @@
+-- How an entry judges a command: the table's rows, the raised entry and the reply fields (the sheet, "How the guard judges" and "When the
+-- store says no").
+-- Assumes nothing.
+use Prim.Native.Nat.{ℕ, zero, suc, _+_}
+use mathlib.Core.List.{List, [], _∷_}
+use mathlib.Core.Bool.{Bool, cond, not, _&&_, _||_}
+use lib.Dec.{ltb, eqb}
+use Rattle.guard.specs.Stamp.{stale, largerOfEach}
+use Rattle.guard.specs.Command.{Language, original, translation, reads, writes, verifier, update, wellFormed, noPair, noMark}
+use Rattle.guard.specs.Table.{Row, row, first, settled}
+use Rattle.guard.specs.declared.Answer.{Answer}
+use Rattle.guard.specs.declared.Command.{Command}
+use Rattle.guard.specs.declared.Entry.{Entry}
+use Rattle.guard.specs.declared.Judged.{Judged}
+use Rattle.guard.specs.declared.Mark.{Mark}
+
+-- "The commit mark must equal the stored mark in desk and in transaction."
+abbrev pub markFits : Mark → Mark → Bool
+markFits stored expected = eqb (expected .desk) (stored .desk) && eqb (expected .transaction) (stored .transaction)
+
+-- "A translation is behind if translated-from is 0 or is not the edition."
+abbrev pub behind : ℕ → ℕ → Bool
+behind edition from = eqb from 0 || not (eqb from edition)
+
+-- The edition that no write can raise.
+abbrev pub lastEdition : ℕ
+lastEdition = 65535
+
+-- The length of a text that an entry keeps.
+abbrev pub textLength : Language → Entry → ℕ
+textLength original e = e .original
+textLength (translation zero) e = e .translation
+textLength (translation (suc t)) e = 0
+
+-- The command reads a text of that language that is longer than the lent reply buffer.
+abbrev pub overruns : Language → Entry → Command → ℕ → Bool
+overruns l e c lent = reads l c && ltb lent (textLength l e)
+
+-- 6: "act 2: behind; act 4: named edition is not the stored one".
+abbrev pub wrongEdition : Entry → Command → Bool
+wrongEdition e c =
+    reads (translation 0) c && behind (e .edition) (e .from) || writes (translation 0) c && not (eqb (c .edition) (e .edition))
+
+-- 7: "act 3 at edition 65,535".
+abbrev pub editionsSpent : Entry → Command → Bool
+editionsSpent e c = writes original c && eqb (e .edition) lastEdition
+
+-- 8: "text longer than the lent reply buffer", for reads.
+abbrev pub replyShort : Entry → Command → ℕ → Bool
+replyShort e c lent = overruns original e c lent || overruns (translation 0) e c lent
+
+-- Rows 3 to 8 of the table, for the card's entry, a command, the room C and the length of the lent reply buffer.
+abbrev pub entryRows : Entry → Command → ℕ → ℕ → List Row
+entryRows e c room lent =
+    -- 3: stale
+    row (stale (c .mode) (e .pair) (verifier c)) 3
+    -- 4: commit mark differs
+    ∷ row (not (markFits (e .mark) (c .expected))) 4
+    -- 5: payload longer than C
+    ∷ row (ltb room (c .length)) 5
+    ∷ row (wrongEdition e c) 6
+    ∷ row (editionsSpent e c) 7
+    ∷ row (replyShort e c lent) 8
+    ∷ []
+
+-- The rows of an entry that judges a command, whoever made it: row 1, command malformed, on its numbers, then rows 3 to 8.
+abbrev pub rows : Entry → Command → ℕ → ℕ → List Row
+rows e c room lent = row (not (wellFormed c)) 1 ∷ entryRows e c room lent
+
+-- The entry after an accepted command: "sets stored s and x each to the larger of old and new, and the stored mark to the next mark";
+-- "writing an original raises the edition by 1"; a translation's named edition "becomes translated-from".
+unfoldable pub raise : Entry → Command → Entry
+raise e c =
+    record {
+      pair = largerOfEach (e .pair) (update c);
+      mark = c .next;
+      edition = cond (writes original c) (e .edition + 1) (e .edition);
+      from = cond (writes (translation 0) c) (c .edition) (e .from);
+      original = cond (writes original c) (c .length) (e .original);
+      translation = cond (writes (translation 0) c) (c .length) (e .translation);
+    }
+
+-- "In the library a card's entry takes a command and comes back as the new entry": the number, and the entry as it now is.
+unfoldable pub judged : Entry → Command → ℕ → ℕ → Judged
+judged e c room lent =
+    record {
+      number = first (rows e c room lent);
+      entry = settled (first (rows e c room lent)) (raise e c) e;
+    }
+
+-- Answers whose reply fields are zeros: 9, 1 and 2.
+abbrev pub blank : ℕ → Bool
+blank number = eqb number 9 || eqb number 1 || eqb number 2
+
+-- The length of the text that a command reads, 0 if it reads none.
+abbrev pub readLength : Entry → Command → ℕ
+readLength e c = cond (reads original c) (e .original) (cond (reads (translation 0) c) (e .translation) 0)
+
+-- "Reply fields: s, x, commit desk, transaction, edition, translated-from, length (of the text read if a read is accepted, else 0)", for a
+-- number and the entry as it is after it.
+unfoldable pub replied : ℕ → Entry → Command → Answer
+replied number e c =
+    record {
+      number = number;
+      pair = cond (blank number) noPair (e .pair);
+      mark = cond (blank number) noMark (e .mark);
+      edition = cond (blank number) 0 (e .edition);
+      from = cond (blank number) 0 (e .from);
+      length = settled number (readLength e c) 0;
+    }
+
+-- The answer of a number whose reply fields are zeros.
+abbrev pub refused : ℕ → Answer
+refused number = record { number = number; pair = noPair; mark = noMark; edition = 0; from = 0; length = 0 }

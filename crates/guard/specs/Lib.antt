@@ -1,0 +1,6 @@
+pub mod Stamp
+pub mod Command
+pub mod Table
+pub mod Judge
+pub mod Entry
+pub mod Claims

@@ -1,0 +1,49 @@
+-- A table of numbered refusals, as data: rows in the order in which they are checked (the sheet, "When the store says no": "a number is
+-- given exactly when its row applies and no earlier row does").
+-- Assumes nothing.
+use Prim.Native.Nat.{ℕ, zero, suc}
+use mathlib.Core.List.{List, [], _∷_}
+use mathlib.Core.Bool.{Bool, true, false, cond, not, _&&_, _||_}
+use lib.Dec.{eqb}
+
+pub record Row : Type 0 where
+  pub applies : Bool
+  pub gives : ℕ
+
+abbrev pub row : Bool → ℕ → Row
+row b n = record { applies = b; gives = n }
+
+-- The number of the first row that applies, or 0, accepted, where none does.
+abbrev pub first : List Row → ℕ
+first [] = 0
+first (r ∷ rows) = cond (r .applies) (r .gives) (first rows)
+
+-- No row of the list applies.
+abbrev pub none : List Row → Bool
+none [] = true
+none (r ∷ rows) = not (r .applies) && none rows
+
+-- The row with this number applies.
+abbrev pub applies : ℕ → List Row → Bool
+applies n [] = false
+applies n (r ∷ rows) = cond (eqb (r .gives) n) (r .applies) (applies n rows)
+
+-- The rows that stand before the row with this number.
+abbrev pub earlier : ℕ → List Row → List Row
+earlier n [] = []
+earlier n (r ∷ rows) = cond (eqb (r .gives) n) [] (r ∷ earlier n rows)
+
+-- The row with this number stands in the list.
+abbrev pub numbered : ℕ → List Row → Bool
+numbered n [] = false
+numbered n (r ∷ rows) = eqb (r .gives) n || numbered n rows
+
+-- Each number stands on one row, and 0 on none.
+abbrev pub once : List Row → Bool
+once [] = true
+once (r ∷ rows) = not (eqb (r .gives) 0) && not (numbered (r .gives) rows) && once rows
+
+-- What goes by the number: the new value where it is 0, the old one after a refusal.
+abbrev pub settled : {A : Type 0} → ℕ → A → A → A
+settled zero new old = new
+settled (suc n) new old = old

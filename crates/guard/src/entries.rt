@@ -1,0 +1,228 @@
+ghost use mathlib.Core.Path.{_≡_};
+ghost use mathlib.Core.Bool.{false, cond};
+ghost use Rattle.guard.specs.Judge.{markFits, behind, wrongEdition, editionsSpent, replyShort, rows, raise, judged, blank, readLength, replied, refused};
+ghost use Rattle.guard.specs.Table.{first, settled};
+use crate::Answer;
+use crate::Command;
+use crate::Entry;
+use crate::Judged;
+use crate::Mark;
+use crate::Pair;
+use crate::stamps::larger_of_each;
+use crate::stamps::stale;
+
+// The numbers of the table.
+pub const ACCEPTED: u8 = 0;
+
+pub const MALFORMED: u8 = 1;
+
+pub const NO_CARD: u8 = 2;
+
+pub const STALE: u8 = 3;
+
+pub const MARK_DIFFERS: u8 = 4;
+
+pub const PAYLOAD_LONG: u8 = 5;
+
+pub const EDITION_WRONG: u8 = 6;
+
+pub const EDITIONS_SPENT: u8 = 7;
+
+pub const REPLY_SHORT: u8 = 8;
+
+pub const UNSOUND: u8 = 9;
+
+// The edition that no write can raise.
+const LAST_EDITION: u16 = 65535;
+
+impl Mark {
+    // Whether the expected mark equals the stored one, in desk and in transaction.
+    fn fits(self, expected: Mark) -> bool
+        ensures { λ r. ⌜ r ≡ markFits self expected ⌝ }
+    {
+        (expected.desk == self.desk) & (expected.transaction == self.transaction)
+    }
+}
+
+impl Entry {
+    // A translation is behind if translated-from is 0 or is not the edition.
+    fn is_behind(self) -> bool
+        ensures { λ r. ⌜ r ≡ behind (self .edition) (self .from) ⌝ }
+    {
+        (self.from == 0) | !(self.from == self.edition)
+    }
+
+    // Row 6: act 2: behind; act 4: the named edition is not the stored one.
+    fn wrong_edition(self, c: Command) -> bool
+        ensures { λ r. ⌜ r ≡ wrongEdition self c ⌝ }
+    {
+        (c.reads_translation() & self.is_behind())
+            | (c.writes_translation() & !(c.edition == self.edition))
+    }
+
+    // Row 7: act 3 at edition 65,535.
+    fn editions_spent(self, c: Command) -> bool
+        ensures { λ r. ⌜ r ≡ editionsSpent self c ⌝ }
+    {
+        c.writes_original() & (self.edition == LAST_EDITION)
+    }
+
+    // Row 8: the text that the command reads is longer than the lent reply buffer.
+    fn reply_short(self, c: Command, lent: usize) -> bool
+        ensures { λ r. ⌜ r ≡ replyShort self c lent ⌝ }
+    {
+        (c.reads_original() & (lent < self.original as usize))
+            | (c.reads_translation() & (lent < self.translation as usize))
+    }
+
+    // The number of the first row that applies.
+    fn number(self, c: Command, room: u16, lent: usize) -> u8
+        ensures { λ r. ⌜ r ≡ first (rows self c room lent) ⌝ }
+    {
+        if !c.well_formed() {
+            return MALFORMED;
+        }
+        if stale(c.mode, self.pair, c.pair) {
+            return STALE;
+        }
+        if !self.mark.fits(c.expected) {
+            return MARK_DIFFERS;
+        }
+        if room < c.length {
+            return PAYLOAD_LONG;
+        }
+        if self.wrong_edition(c) {
+            return EDITION_WRONG;
+        }
+        if self.editions_spent(c) {
+            return EDITIONS_SPENT;
+        }
+        if self.reply_short(c, lent) {
+            return REPLY_SHORT;
+        }
+        ACCEPTED
+    }
+
+    // The edition after an accepted command: writing an original raises it by 1.
+    fn next_edition(self, c: Command) -> u16
+        requires { ⌜ editionsSpent self c ≡ false ⌝ }
+        ensures { λ r. ⌜ r ≡ raise self c .edition ⌝ }
+    {
+        if c.writes_original() {
+            return self.edition + 1;
+        }
+        self.edition
+    }
+
+    // The entry after an accepted command.
+    fn raised(self, c: Command) -> Entry
+        requires { ⌜ editionsSpent self c ≡ false ⌝ }
+        ensures { λ r. ⌜ r ≡ raise self c ⌝ }
+    {
+        let next = c.next;
+        Entry {
+            pair: larger_of_each(self.pair, c.pair),
+            mark: next,
+            edition: self.next_edition(c),
+            from: chosen(c.writes_translation(), c.edition, self.from),
+            original: chosen(c.writes_original(), c.length, self.original),
+            translation: chosen(c.writes_translation(), c.length, self.translation),
+        }
+    }
+
+    // A card's entry takes a command and comes back as the new entry, for the room C and the length of the lent reply buffer.
+    pub fn judge(self, c: Command, room: u16, lent: usize) -> Judged
+        ensures { λ r. ⌜ r ≡ judged self c room lent ⌝ }
+    {
+        let number = self.number(c, room, lent);
+        if number != ACCEPTED {
+            return Judged {
+                number,
+                entry: self,
+            };
+        }
+        Judged {
+            number,
+            entry: self.raised(c),
+        }
+    }
+
+    // The length of the text that the command reads, 0 if it reads none.
+    fn read_length(self, c: Command) -> u16
+        ensures { λ r. ⌜ r ≡ readLength self c ⌝ }
+    {
+        if c.reads_original() {
+            return self.original;
+        }
+        if c.reads_translation() {
+            return self.translation;
+        }
+        0
+    }
+}
+
+impl Judged {
+    // The length field: of the text read if a read is accepted, else 0.
+    fn length(self, c: Command) -> u16
+        ensures { λ r. ⌜ r ≡ settled (self .number) (readLength (self .entry) c) 0 ⌝ }
+    {
+        if self.number == ACCEPTED {
+            return self.entry.read_length(c);
+        }
+        0
+    }
+
+    // The number with the seven reply fields: zeros for 9, 1 and 2, else the entry as it now is.
+    pub fn reply(self, c: Command) -> Answer
+        ensures { λ r. ⌜ r ≡ replied (self .number) (self .entry) c ⌝ }
+    {
+        if is_blank(self.number) {
+            return refusal(self.number);
+        }
+        let entry = self.entry;
+        let pair = entry.pair;
+        let mark = entry.mark;
+        Answer {
+            number: self.number,
+            pair,
+            mark,
+            edition: entry.edition,
+            from: entry.from,
+            length: self.length(c),
+        }
+    }
+}
+
+// Whether the number's reply fields are zeros.
+fn is_blank(number: u8) -> bool
+    ensures { λ r. ⌜ r ≡ blank number ⌝ }
+{
+    (number == UNSOUND) | (number == MALFORMED) | (number == NO_CARD)
+}
+
+// The answer of a number whose reply fields are zeros.
+pub fn refusal(number: u8) -> Answer
+    ensures { λ r. ⌜ r ≡ refused number ⌝ }
+{
+    Answer {
+        number,
+        pair: Pair { s: 0, x: 0 },
+        mark: Mark {
+            desk: 0,
+            transaction: 0,
+        },
+        edition: 0,
+        from: 0,
+        length: 0,
+    }
+}
+
+// The first where the test holds, else the second.
+fn chosen(test: bool, first: u16, second: u16) -> u16
+    ensures { λ r. ⌜ r ≡ cond test first second ⌝ }
+{
+    if test {
+        return first;
+    }
+    second
+}

@@ -1,0 +1,8 @@
+pub mod Shape
+pub mod Bytes
+pub mod Encode
+pub mod Entry
+pub mod Cards
+pub mod Decode
+pub mod Claims
+pub mod Cases

@@ -1,0 +1,5 @@
+pub mod Written
+pub mod Loaded
+pub mod Pass
+pub mod Shared
+pub mod Served

@@ -1,0 +1,186 @@
+-- Laws of a good queue and of the numbers: what the judging functions cite. Assumes nothing.
+use Prim.Native.Nat.{ℕ, _-_, _≤_, _<_}
+use native.Mathlib.Omega.{arith}
+use mathlib.Core.Path.{_≡_, refl, sym, ap, _∙_}
+use mathlib.Core.List.{List, _∷_, map}
+use mathlib.Core.Bool.{Bool, true, false, not, _&&_}
+use borrow.Author.Tests.{leb-true, le-leb, eqb-false, not-false}
+use lib.Dec.{T, leb, eqb}
+use lib.ListN.{drop}
+use Rattle.endian.proofs.Tests.{all-out, and-in, and-left, and-right, or-fails}
+use Rattle.endian.specs.Tests.{all, allFrom}
+use Rattle.guard.proofs.Table.{unapplied, none-applies, settled-old}
+use Rattle.guard.specs.Stamp.{stampValid}
+use Rattle.guard.specs.declared.Pair.{Pair}
+use Rattle.guard.specs.Table.{Row, row, first, applies, once}
+use Rattle.lock_queue.proofs.Standing.{stands-below}
+use Rattle.lock_queue.specs.Queue.{State, mostPlaces, standing, desks, firstPlace, stands, distinct, formed, within, queueChecks, good, joined, without}
+use Rattle.lock_queue.specs.Entries.{entriesGood}
+use Rattle.lock_queue.specs.Requests.{asking, leaving, answered, blank, Request, asks, leaves, rows, sender, accepted, number, after, answer}
+use Rattle.lock_queue.specs.declared.Answer.{Answer}
+use Rattle.lock_queue.specs.declared.Waiting.{Waiting}
+
+-- ---- a good queue
+
+-- The length and the count.
+abbrev pub sized : ℕ → ℕ → Bool
+sized lent count = leb 1 lent && leb lent mostPlaces && leb count lent
+
+pub sized-count : (lent count : ℕ) → sized lent count ≡ true → count ≤ mostPlaces
+sized-count lent count e =
+    let length = and-right (leb 1 lent) (leb lent mostPlaces) (and-left (leb 1 lent && leb lent mostPlaces) (leb count lent) e) in
+    let counted = and-right (leb 1 lent && leb lent mostPlaces) (leb count lent) e in
+    omega (arith, leb-true lent mostPlaces length, leb-true count lent counted)
+
+pub good-unsized : (lent : ℕ) (q : State) → sized lent (q .count) ≡ false → false ≡ good lent q
+unfolding good all allFrom
+good-unsized lent q e = rw e
+
+regrouped : (p a b c : Bool) → (p && (a && b && c)) ≡ (p && a && b && c)
+regrouped true a b c = refl
+regrouped false a b c = refl
+
+pub good-rest : (lent : ℕ) (q : State) → sized lent (q .count) ≡ true →
+    (stampValid (q .largest .s) && stampValid (q .largest .x) && entriesGood (q .largest) (standing q)) ≡ good lent q
+unfolding good all allFrom entriesGood
+good-rest lent q e = rw e (regrouped (stampValid (q .largest .s) && stampValid (q .largest .x)) _ _ _)
+
+-- A good queue, test by test.
+pub record Good (lent : ℕ) (q : State) : Type 0 where
+  pub some : 1 ≤ lent
+  pub short : lent ≤ mostPlaces
+  pub counted : q .count ≤ lent
+  pub s-valid : stampValid (q .largest .s) ≡ true
+  pub x-valid : stampValid (q .largest .x) ≡ true
+  pub all-formed : all (map formed (standing q)) ≡ true
+  pub all-distinct : distinct (desks (standing q)) ≡ true
+  pub all-within : all (map (within (q .largest)) (standing q)) ≡ true
+
+pub good-out : (lent : ℕ) (q : State) → good lent q ≡ true → Good lent q
+unfolding good
+good-out lent q e =
+    let test = all-out (queueChecks lent q) e in
+    record {
+      some = leb-true 1 lent (and-left (leb 1 lent) (leb lent mostPlaces) (test 0));
+      short = leb-true lent mostPlaces (and-right (leb 1 lent) (leb lent mostPlaces) (test 0));
+      counted = leb-true (q .count) lent (test 1);
+      s-valid = test 2;
+      x-valid = test 3;
+      all-formed = test 4;
+      all-distinct = test 5;
+      all-within = test 6;
+    }
+
+pub good-in : (lent : ℕ) (q : State) → Good lent q → good lent q ≡ true
+unfolding entriesGood
+good-in lent q g =
+    let sizes : sized lent (q .count) ≡ true =
+    and-in (and-in (le-leb 1 lent (g .some)) (le-leb lent mostPlaces (g .short))) (le-leb (q .count) lent (g .counted)) in
+    sym (good-rest lent q sizes)
+    ∙ and-in (and-in (g .s-valid) (g .x-valid)) (entries-in (q .largest) (standing q) (g .all-formed) (g .all-distinct) (g .all-within))
+  where
+    entries-in : (largest : Pair) (ws : List Waiting) → all (map formed ws) ≡ true → distinct (desks ws) ≡ true → all (map (within largest) ws) ≡ true →
+        entriesGood largest ws ≡ true
+    entries-in largest ws a b c = and-in (and-in a b) c
+
+-- The same, of a queue whose standing entries are known as a list.
+pub good-by : {lent : ℕ} (q : State) {ws : List Waiting} → standing q ≡ ws → 1 ≤ lent → lent ≤ mostPlaces → q .count ≤ lent →
+    stampValid (q .largest .s) ≡ true → stampValid (q .largest .x) ≡ true → all (map formed ws) ≡ true → distinct (desks ws) ≡ true →
+    all (map (within (q .largest)) ws) ≡ true → good lent q ≡ true
+good-by {lent} q e a b c s x f d w =
+    good-in lent q
+    (record {
+      some = a;
+      short = b;
+      counted = c;
+      s-valid = s;
+      x-valid = x;
+      all-formed = rw e f;
+      all-distinct = rw e d;
+      all-within = rw e w;
+    })
+
+pub good-count : (lent : ℕ) (q : State) → good lent q ≡ true → q .count ≤ mostPlaces
+good-count lent q e = let g = good-out lent q e in omega (arith, g .counted, g .short)
+
+-- ---- the numbers
+
+-- A number that is not that of the first row is given only where that row does not apply.
+pub first-passed : (a : Bool) (n : ℕ) (rs : List Row) → (first (row a n ∷ rs) ≡ n → ⊥) → a ≡ false
+first-passed true n rs h = absurd (h refl)
+first-passed false n rs h = refl
+
+-- An answer that is not blank is not 10, so that the queue is good.
+pub shown-not-bad : (n : ℕ) → blank n ≡ false → n ≡ 10 → ⊥
+shown-not-bad n e = eqb-false n 10 (or-fails (eqb n 10) (eqb n 1) e .0)
+
+module _ (lent : ℕ) (q : State) where
+  pub not-bad : (r : Request) → (number lent q r ≡ 10 → ⊥) → good lent q ≡ true
+  unfolding number
+  not-bad (asks new) h = not-false (good lent q) (first-passed (not (good lent q)) 10 (drop 1 (asking lent q new)) h)
+  not-bad (leaves d) h = not-false (good lent q) (first-passed (not (good lent q)) 10 (drop 1 (leaving lent q d)) h)
+
+  pub each-once : (r : Request) → T (once (rows lent q r))
+  each-once (asks new) = tt
+  each-once (leaves d) = tt
+
+  -- Accepted: no row applies.
+  pub no-row : (r : Request) → number lent q r ≡ 0 → (n : ℕ) → applies n (rows lent q r) ≡ false
+  unfolding number
+  no-row r e = none-applies (rows lent q r) (unapplied (rows lent q r) (each-once r) .0 e)
+
+  pub accepted-good : (r : Request) → number lent q r ≡ 0 → Good lent q
+  accepted-good r e = good-out lent q (not-bad r (λ bad. absurd (omega arith)))
+
+  -- A queue whose answer is not blank has at most 32 entries.
+  pub shown-fits : (r : Request) {n : ℕ} → n ≡ number lent q r → blank n ≡ false → q .count ≤ mostPlaces
+  shown-fits r e shown = good-count lent q (not-bad r (λ bad. shown-not-bad _ shown (e ∙ bad)))
+
+  -- An accepted asker has a place, and one that leaves has had one.
+  pub ask-room : (new : Waiting) → number lent q (asks new) ≡ 0 → q .count < lent
+  ask-room new e =
+      let room = eqb-false (q .count) lent (no-row (asks new) e 13) in
+      below (q .count) lent (accepted-good (asks new) e .counted) room
+    where
+      below : (a b : ℕ) → a ≤ b → (a ≡ b → ⊥) → a < b
+      below a b h k = omega arith
+
+  pub ask-place : (new : Waiting) → number lent q (asks new) ≡ 0 → q .count < mostPlaces
+  ask-place new e = omega (arith, ask-room new e, accepted-good (asks new) e .short)
+
+  pub leave-stands : (d : ℕ) → number lent q (leaves d) ≡ 0 → stands d (desks (standing q)) ≡ true
+  leave-stands d e = not-false (stands d (desks (standing q))) (no-row (leaves d) e 15)
+
+  pub leave-place : (d : ℕ) → number lent q (leaves d) ≡ 0 → (q .count ≤ mostPlaces) × (firstPlace d (desks (standing q)) < q .count)
+  leave-place d e = (
+    good-count lent q (not-bad (leaves d) (λ bad. absurd (omega arith))),
+    stands-below d (q .count) (q .places) (leave-stands d e),
+  )
+
+  pub accepted-fits : (r : Request) → number lent q r ≡ 0 → accepted r q .count ≤ mostPlaces
+  unfolding joined without
+  accepted-fits (asks new) e = omega (arith, ask-place new e)
+  accepted-fits (leaves d) e = omega (arith, leave-place d e .0)
+
+  -- ---- the queue after a request, and the whole outcome
+
+  pub accepted-after : (r : Request) → number lent q r ≡ 0 → after lent q r ≡ accepted r q
+  unfolding after
+  accepted-after r e = rw e
+
+  pub refused-after : (r : Request) → (number lent q r ≡ 0 → ⊥) → after lent q r ≡ q
+  unfolding after
+  refused-after r h = settled-old (accepted r q) q h
+
+  module _ (r : Request) {n d : ℕ} {ans : Answer} (number-is : n ≡ number lent q r) (sender-is : d ≡ sender r) where
+    pub accepted-outcome : {s : State} → n ≡ 0 → s ≡ accepted r q → ans ≡ answered n d q s → (ans ≡ answer lent q r) × (s ≡ after lent q r)
+    unfolding answer
+    accepted-outcome {s} e f a =
+        let now : s ≡ after lent q r = f ∙ sym (accepted-after r (sym number-is ∙ e)) in
+        (a ∙ rw (number-is, sender-is, now), now)
+
+    pub refused-outcome : (n ≡ 0 → ⊥) → ans ≡ answered n d q q → (ans ≡ answer lent q r) × (q ≡ after lent q r)
+    unfolding answer
+    refused-outcome e a =
+        let now : q ≡ after lent q r = sym (refused-after r (λ z. e (number-is ∙ z))) in
+        (a ∙ rw (number-is, sender-is) (ap (answered (number lent q r) (sender r) q) now), now)

@@ -1,0 +1,5 @@
+pub mod Array
+pub mod Standing
+pub mod Judged
+pub mod Removed
+pub mod Claims

@@ -1,0 +1,14 @@
+-- The three tests on the standing entries, and the same for one entry behind those before it: what a pass over the places computes.
+-- Assumes nothing.
+use mathlib.Core.List.{List, map}
+use mathlib.Core.Bool.{Bool, not, _&&_}
+use Rattle.endian.specs.Tests.{all}
+use Rattle.guard.specs.declared.Pair.{Pair}
+use Rattle.lock_queue.specs.Queue.{desk, desks, stands, distinct, formed, within}
+use Rattle.lock_queue.specs.declared.Waiting.{Waiting}
+
+unfoldable pub entriesGood : Pair → List Waiting → Bool
+entriesGood largest ws = all (map formed ws) && distinct (desks ws) && all (map (within largest) ws)
+
+abbrev pub fitsBehind : Pair → List Waiting → Waiting → Bool
+fitsBehind largest ws w = formed w && not (stands (desk w) (desks ws)) && within largest w

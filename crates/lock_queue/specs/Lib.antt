@@ -1,0 +1,5 @@
+pub mod Queue
+pub mod Entries
+pub mod Requests
+pub mod Claims
+pub mod Trials

@@ -1,0 +1,75 @@
+-- Asking and leaving: the numbers as tables of rows, the queue as it is afterwards, and the answer (the sheet, "The lock queue of one card").
+-- Minuet: UpgradeLock, and DowngradeLock to no lock.
+-- Assumes nothing.
+use Prim.Native.Nat.{ℕ}
+use mathlib.Core.List.{List, [], _∷_}
+use mathlib.Core.Bool.{Bool, cond, not, _&&_, _||_}
+use lib.Dec.{eqb}
+use Rattle.guard.specs.Command.{noPair}
+use Rattle.guard.specs.Table.{Row, row, first, settled}
+use Rattle.lock_queue.specs.Queue.{State, standing, desk, desks, stands, already, looked, holds, formed, good, denied, full, joined, without}
+use Rattle.lock_queue.specs.declared.Answer.{Answer}
+use Rattle.lock_queue.specs.declared.Waiting.{Waiting}
+
+-- The order for asking.
+abbrev pub asking : ℕ → State → Waiting → List Row
+asking lent q new =
+    -- 10: bad queue
+    row (not (good lent q)) 10
+    -- 1: malformed
+    ∷ row (not (formed new)) 1
+    -- 12: this desk and start already stands
+    ∷ row (already (new .mode) (desk new) (desks (standing q))) 12
+    -- 11: denied
+    ∷ row (denied (q .largest) new) 11
+    -- 13: full
+    ∷ row (full lent (q .count)) 13
+    ∷ []
+
+-- "Leaving: 10, then 15 if not standing."
+abbrev pub leaving : ℕ → State → ℕ → List Row
+leaving lent q d = row (not (good lent q)) 10 ∷ row (not (stands d (desks (standing q)))) 15 ∷ []
+
+-- Answers that name no holder and give zeros: 10 and 1.
+abbrev pub blank : ℕ → Bool
+blank number = eqb number 10 || eqb number 1
+
+-- "Each answer gives number, whether that desk holds the lock in the queue as it now is (not, for 10 and 1), largest pair as it now is (zeros
+-- for 10 and 1), and how many entries were looked at, in the queue at entry (zero for 10 and 1)".
+unfoldable pub answered : ℕ → ℕ → State → State → Answer
+answered number d entry exit =
+    record {
+      number = number;
+      holds = not (blank number) && holds d (standing exit);
+      largest = cond (blank number) noPair (exit .largest);
+      looked = cond (blank number) 0 (looked d (desks (standing entry)));
+    }
+
+-- What a desk can send: it asks, with its entry, or it leaves, naming its desk and start.
+pub data Request : Type 0 where
+  asks : Waiting → Request
+  leaves : ℕ → Request
+
+abbrev pub rows : ℕ → State → Request → List Row
+rows lent q (asks new) = asking lent q new
+rows lent q (leaves d) = leaving lent q d
+
+-- The desk and start that the request is from.
+abbrev pub sender : Request → ℕ
+sender (asks new) = desk new
+sender (leaves d) = d
+
+-- The queue after an accepted request.
+abbrev pub accepted : Request → State → State
+accepted (asks new) q = joined new q
+accepted (leaves d) q = without d q
+
+-- A request on a queue of `lent` places: the number, the queue as it then is, and the answer.
+unfoldable pub number : ℕ → State → Request → ℕ
+number lent q r = first (rows lent q r)
+
+unfoldable pub after : ℕ → State → Request → State
+after lent q r = settled (number lent q r) (accepted r q) q
+
+unfoldable pub answer : ℕ → State → Request → Answer
+answer lent q r = answered (number lent q r) (sender r) q (after lent q r)

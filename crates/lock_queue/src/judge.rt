@@ -1,0 +1,79 @@
+ghost use mathlib.Core.Path.{_≡_};
+ghost use Prim.Native.Nat.{_≤_};
+ghost use lib.ListN.{take};
+ghost use Rattle.lock_queue.specs.Queue.{state, mostPlaces, desks, already, good, full};
+ghost use Rattle.lock_queue.specs.Requests.{asks, leaves, number};
+use crate::MOST_PLACES;
+use crate::Places;
+use crate::Queue;
+use crate::Waiting;
+use crate::inner;
+
+// Whether the queue is not bad.
+fn good(queue: Queue, lent: usize) -> bool
+    ensures { λ r. ⌜ r ≡ good lent (state queue) ⌝ }
+{
+    let count = queue.count;
+    if !((1 <= lent) & (lent <= MOST_PLACES) & (count <= lent)) {
+        return false;
+    }
+    let largest = queue.largest;
+    let stood = queue.places;
+    guard::stamp_valid(largest.s)
+        & guard::stamp_valid(largest.x)
+        & inner::entries_good(stood, count, largest)
+}
+
+// Number 12's test. The mode makes no difference.
+fn already(mode: u8, places: Places, count: usize, desk: u32) -> bool
+    requires { ⌜ count ≤ mostPlaces ⌝ }
+    ensures { λ r. ⌜ r ≡ already mode desk (desks (take count (places .at))) ⌝ }
+{
+    inner::stands(places, count, desk)
+}
+
+// Number 13's test.
+fn full(lent: usize, count: usize) -> bool
+    ensures { λ r. ⌜ r ≡ full lent count ⌝ }
+{
+    count == lent
+}
+
+// The number for asking.
+pub fn ask_number(queue: Queue, lent: usize, new: Waiting) -> u8
+    ensures { λ r. ⌜ r ≡ number lent (state queue) (asks new) ⌝ }
+{
+    if !good(queue, lent) {
+        return 10;
+    }
+    let pair = new.pair;
+    if !guard::session_ok(new.mode, pair) {
+        return 1;
+    }
+    let stood = queue.places;
+    if already(new.mode, stood, queue.count, guard::desk_of(new.mode, pair)) {
+        return 12;
+    }
+    let largest = queue.largest;
+    if guard::stale(new.mode, largest, pair) {
+        return 11;
+    }
+    if full(lent, queue.count) {
+        return 13;
+    }
+    0
+}
+
+// The number for leaving.
+pub fn leave_number(queue: Queue, lent: usize, desk: u32) -> u8
+    ensures { λ r. ⌜ r ≡ number lent (state queue) (leaves desk) ⌝ }
+{
+    if !good(queue, lent) {
+        return 10;
+    }
+    let stood = queue.places;
+    if !inner::stands(stood, queue.count, desk) {
+        return 15;
+    }
+    0
+}

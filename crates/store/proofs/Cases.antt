@@ -1,0 +1,61 @@
+-- The starred trials, by computation on bytes. Assumes nothing.
+use Prim.Native.Nat.{ℕ}
+use mathlib.Core.Path.{_≡_, refl, ap}
+use mathlib.Core.List.{List, [], _∷_, _++_, reverse, reverse-cons, reverse-append}
+use Rattle.endian.specs.Parts.{part, splice, table, spread, every, zeros}
+use Rattle.endian.specs.Le.{le, toLe}
+use Rattle.endian.specs.Tests.{all, allFrom}
+use Rattle.guard.specs.Command.{wellFormed, fieldsOf, payload, formed, commandBytes}
+use Rattle.guard.specs.Entry.{entrySound}
+use Rattle.guard.specs.Judge.{raise, replied}
+use Rattle.image.specs.Image.{
+  shapeOk,
+  header,
+  entryBytes,
+  pad,
+  bodies,
+  encode,
+  readEntry,
+  entryAt,
+  cardAt,
+  decode,
+  tailZero,
+  cardSound,
+  headerSound,
+  sound,
+  fresh,
+}
+use Rattle.store.specs.Serve.{stepped, serveBy, serve}
+use Rattle.store.specs.Cases.{run, RunLogged, Trials}
+use Rattle.store.specs.Words.{Sent, eventOf, imageAfter, history}
+
+pub trials-hold : Trials
+unfolding run serve serveBy stepped sound headerSound cardSound tailZero decode cardAt entryAt readEntry encode bodies pad entryBytes header shapeOk fresh replied raise entrySound commandBytes formed payload fieldsOf wellFormed all allFrom le toLe part splice table spread every zeros
+trials-hold = refl
+
+-- ---- a run and the log of the same requests
+
+module _ (start : List ℕ) (s : Sent) where
+  abbrev next : List ℕ
+  next = serve start (s .command) (s .lent) .image
+
+  image-first : (l : List Sent) → imageAfter start (l ++ (s ∷ [])) ≡ imageAfter next l
+  unfolding imageAfter
+  image-first [] = refl
+  image-first (a ∷ l) = ap (λ (i : List ℕ). serve i (a .command) (a .lent) .image) (image-first l)
+
+  history-first : (l : List Sent) → history start (l ++ (s ∷ [])) ≡ history next l ++ (eventOf s (serve start (s .command) (s .lent)) ∷ [])
+  unfolding history imageAfter
+  history-first [] = refl
+  history-first (a ∷ l) = rw (image-first l, history-first l)
+
+pub run-logged : RunLogged
+unfolding run history
+run-logged start [] = refl
+run-logged start (s ∷ later) =
+    rw (
+      reverse-cons s later,
+      history-first start s (reverse later),
+      reverse-append (history (next start s) (reverse later)) (eventOf s (serve start (s .command) (s .lent)) ∷ []),
+      run-logged (next start s) later,
+    )

@@ -1,0 +1,112 @@
+-- Demand 3, whole. Assumes nothing.
+use Prim.Native.Nat.{ℕ, _<_}
+use native.Mathlib.Omega.{arith}
+use mathlib.Core.Path.{_≡_, refl, sym, ap, subst, _∙_}
+use mathlib.Core.Logic.{_⊎_, inl, inr}
+use mathlib.Core.List.{List, [], _∷_, _++_, map, reverse, reverseAux}
+use mathlib.Core.Bool.{true, false}
+use lib.Dec.{T}
+use lib.ListN.{length, length-replicate, getD-replicate}
+use Rattle.endian.proofs.Tests.{cases}
+use Rattle.image.specs.Image.{Cards, noCard, fresh, freshCards, shapeOk}
+use Rattle.image.proofs.Claims.{freshSound}
+use Rattle.store.specs.Words.{Sent, Event, history, logOf, commandOf, late}
+use Rattle.store.specs.Claims.{AllBytes, Claim, Demand3}
+use Rattle.store.proofs.Isolation.{Timely, isolated}
+use Rattle.store.proofs.Machine.{numberOn, eventBy, cardsFrom, eventsFrom, tied-fresh, Ties, ties-more, count-kept}
+use Rattle.store.proofs.Sentences.{Told, told}
+use Rattle.store.proofs.Simulation.{same-events}
+
+-- What holds of each event and the events before it, along a list of events.
+abbrev Along : (Event → List Event → Type 0) → List Event → Type 0
+Along P [] = Unit {0}
+Along P (e ∷ before) = P e before × Along P before
+
+module _ (P : Event → List Event → Type 0) where
+  along-at : (later : List Event) (e : Event) (before : List Event) → Along P (later ++ e ∷ before) → P e before
+  along-at [] e before a = a .0
+  along-at (d ∷ later) e before a = along-at later e before (a .1)
+
+  along-split : (log later : List Event) (e : Event) (before : List Event) → Along P log → log ≡ later ++ e ∷ before → P e before
+  along-split log later e before a split = along-at later e before (subst (Along P) split a)
+
+-- ---- the run on cards
+
+ties-fresh : (n c : ℕ) → Ties (freshCards n c) []
+unfolding freshCards
+ties-fresh n c k b =
+    rw (getD-replicate n k noCard noCard (subst (λ (m : ℕ). k < m) (length-replicate n noCard) b)) (tied-fresh k)
+
+module _ (start : Cards) (first : Ties start []) where
+  ties-all : (sent : List Sent) → Ties (cardsFrom start sent) (eventsFrom start sent)
+  unfolding cardsFrom eventsFrom
+  ties-all [] = first
+  ties-all (s ∷ earlier) =
+      ties-more (cardsFrom start earlier) s (eventsFrom start earlier) (ties-all earlier) (numberOn (cardsFrom start earlier) s) refl
+
+  count-all : (sent : List Sent) → length (cardsFrom start sent .cards) ≡ length (start .cards)
+  unfolding cardsFrom
+  count-all [] = refl
+  count-all (s ∷ earlier) =
+      count-kept (numberOn (cardsFrom start earlier) s) (cardsFrom start earlier) s ∙ count-all earlier
+
+  told-all : (sent : List Sent) → Along (Told (length (start .cards))) (eventsFrom start sent)
+  unfolding eventsFrom
+  told-all [] = tt
+  told-all (s ∷ earlier) = (
+    subst (λ (n : ℕ). Told n (eventBy (numberOn (cardsFrom start earlier) s) (cardsFrom start earlier) s) (eventsFrom start earlier)) (count-all earlier)
+        (told (cardsFrom start earlier) s (eventsFrom start earlier) (ties-all earlier)),
+    told-all earlier,
+  )
+
+-- ---- the log
+
+-- Each event of the log has what was sent.
+whole-history : (start : List ℕ) (sent : List Sent) → map (λ (e : Event). e .sent) (history start sent) ≡ sent
+unfolding history
+whole-history start [] = refl
+whole-history start (s ∷ earlier) = ap (λ (l : List Sent). s ∷ l) (whole-history start earlier)
+
+bytes-reverse : (sent more : List Sent) → AllBytes sent → AllBytes more → AllBytes (reverseAux sent more)
+bytes-reverse [] more b m = m
+bytes-reverse (s ∷ sent) more b m = bytes-reverse sent (s ∷ more) (b .1) (b .0, m)
+
+-- An accepted event is proper, and not late: a late one is refused as stale.
+timely : (n : ℕ) (e : Event) (before : List Event) → Told n e before → e .answer .number ≡ 0 → Timely n e before
+timely n e before t z = record { proper = t .proper z; prompt = go (cases (late before (commandOf e))) }
+  where
+    go : (late before (commandOf e) ≡ true) ⊎ (late before (commandOf e) ≡ false) → late before (commandOf e) ≡ false
+    go (inl h) = let stale : e .answer .number ≡ 3 = t .staleness (t .proper z) .1 h in absurd (omega arith)
+    go (inr h) = h
+
+claim : (n : ℕ) (sent : List Sent) (log : List Event) → map (λ (e : Event). e .sent) log ≡ reverse sent → Along (Told n) log → Claim n sent log
+claim n sent log whole a =
+    record {
+      whole = whole;
+      staleness = λ later e before split p. at later e before split .staleness p;
+      behindness = λ later e before t split p r h m. at later e before split .behindness t p r h m;
+      showing = λ later e before l split z r. at later e before split .showing l z r;
+      showing-length = λ later e before l split z r. at later e before split .showing-length l z r;
+      isolation = isolated n sent log whole (λ later e before split z. timely n e before (at later e before split) z);
+    }
+  where
+    at : (later : List Event) (e : Event) (before : List Event) → log ≡ later ++ e ∷ before → Told n e before
+    at later e before split = along-split (Told n) log later e before a split
+
+same-log : (n c : ℕ) → T (shapeOk n c) → (sent : List Sent) → AllBytes sent → logOf n c sent ≡ eventsFrom (freshCards n c) (reverse sent)
+unfolding logOf
+same-log n c shape sent b =
+    ap (λ (image : List ℕ). history image (reverse sent)) (sym (freshSound n c shape .cards))
+    ∙ same-events (freshCards n c) (reverse sent) (freshSound n c shape .good) (bytes-reverse sent [] b tt)
+
+count-fresh : (n c : ℕ) → length (freshCards n c .cards) ≡ n
+unfolding freshCards
+count-fresh n c = length-replicate n noCard
+
+pub demand3 : Demand3
+unfolding logOf
+demand3 n c shape sent b =
+    claim n sent (logOf n c sent) (whole-history (fresh n c) (reverse sent))
+    (subst (Along (Told n)) (sym (same-log n c shape sent b))
+    (subst (λ (m : ℕ). Along (Told m) (eventsFrom (freshCards n c) (reverse sent))) (count-fresh n c)
+    (told-all (freshCards n c) (ties-fresh n c) (reverse sent))))

@@ -1,0 +1,42 @@
+-- Each number exactly when its row applies and no earlier row does; every number is from the list, and a refusal changes nothing.
+-- Assumes nothing.
+use Prim.Native.Nat.{ℕ, suc}
+use mathlib.Core.Path.{_≡_, refl, sym, subst, _∙_}
+use mathlib.Core.Logic.{_↔_}
+use mathlib.Core.List.{List}
+use lib.Dec.{T, leb, leb→le}
+use lib.ListN.{length}
+use Rattle.guard.specs.Judge.{replied}
+use Rattle.guard.specs.Table.{first, applies, earlier, none}
+use Rattle.guard.proofs.Table.{given, unapplied, first-all}
+use Rattle.store.specs.Serve.{serveBy, serve, storeRows}
+use Rattle.store.specs.Claims.{Exactly, Refusals}
+
+-- The answer's number is the table's.
+number-is : (image command reply : List ℕ) → serve image command reply .answer .number ≡ first (storeRows image command (length reply))
+unfolding serve serveBy replied
+number-is image command reply = refl
+
+pub exactly : Exactly
+exactly image command reply =
+    record {
+      refused = λ n.
+          subst
+          (λ (m : ℕ). (m ≡ suc n) ↔ (T (applies (suc n) (storeRows image command (length reply))) × T (none (earlier (suc n) (storeRows image command (length reply))))))
+          (sym (number-is image command reply))
+          (given (storeRows image command (length reply)) tt n);
+      accepts =
+          subst (λ (m : ℕ). (m ≡ 0) ↔ T (none (storeRows image command (length reply)))) (sym (number-is image command reply))
+          (unapplied (storeRows image command (length reply)) tt);
+    }
+
+pub refusals : Refusals
+unfolding serve serveBy
+refusals image command reply =
+    record {
+      listed =
+          leb→le (serve image command reply .answer .number) 9
+          (subst (λ (m : ℕ). T (leb m 9)) (sym (number-is image command reply))
+          (first-all (λ n. leb n 9) (storeRows image command (length reply)) tt tt));
+      kept = λ n e. let given-number = sym (number-is image command reply) ∙ e in (rw given-number, rw given-number);
+    }

@@ -1,0 +1,123 @@
+-- What the writes of an accepted command make of the bytes of cards. Assumes nothing.
+use Prim.Native.Nat.{ℕ, _<_}
+use lib.Dec.{lit≤}
+use mathlib.Core.Path.{_≡_, refl, sym, ap, subst, _∙_}
+use mathlib.Core.List.{List}
+use mathlib.Core.Bool.{Bool, true, false}
+use borrow.Author.Tests.{eqb-true}
+use lib.ListN.{length, getD, set, length-set}
+use lib.Seq.{getD-set-same, set-set}
+use Rattle.endian.specs.Parts.{splice, Bytes}
+use Rattle.endian.proofs.Tests.{to-T, from-T}
+use Rattle.guard.specs.Command.{original, translation, writes}
+use Rattle.guard.specs.Judge.{raise}
+use Rattle.guard.specs.declared.Command.{Command}
+use Rattle.guard.specs.declared.Entry.{Entry}
+use Rattle.image.specs.Image.{Card, Cards, withCard, withEntry, withText, noCard, entryPlace, bodyPlace, entryBytes, pad, countOf, entryAt, cardAt, encode, decode, sound}
+use Rattle.image.proofs.Claims.{soundReadsBack, goodEncodes}
+use Rattle.image.proofs.Encode.{put-entry, put-text}
+use Rattle.store.specs.Effects.{bodyWritten, textWritten}
+use Rattle.store.specs.Serve.{stepped, serve}
+use Rattle.store.specs.Words.{Sent}
+use Rattle.store.proofs.Machine.{numberOn, cardsBy}
+use Rattle.store.proofs.Simulation.{good-more, same-image}
+use Rattle.image.proofs.Decode.{count-decode, card-decode}
+
+-- ---- a text, then an entry, at card k
+
+module _ (cs : Cards) (k : ℕ) (h : k < length (cs .cards)) (e : Entry) where
+  -- An entry over a card that was put there.
+  entry-over : (card : Card) → splice (entryPlace k) (entryBytes e) (encode (withCard k card cs)) ≡ encode (withCard k (withEntry e card) cs)
+  entry-over card =
+      put-entry (withCard k card cs) k e (rw length-set h)
+      ∙ ap
+      (λ (l : List Card). encode (record { room = cs .room; cards = l }))
+      (ap (λ (a : Card). set (set (cs .cards) k card) k (withEntry e a)) (getD-set-same (cs .cards) k card noCard h)
+      ∙ set-set (cs .cards) k card (withEntry e card))
+
+  pub text-then-entry : (side : ℕ) (t : List ℕ) → side < 2 →
+      splice (entryPlace k) (entryBytes e)
+      (splice (bodyPlace (length (cs .cards)) (cs .room) k side) (pad (cs .room) t) (encode cs))
+      ≡ encode (withCard k (withEntry e (withText side t (getD (cs .cards) k noCard))) cs)
+  text-then-entry side t g =
+      ap (splice (entryPlace k) (entryBytes e)) (put-text cs k side t h g) ∙ entry-over (withText side t (getD (cs .cards) k noCard))
+
+-- ---- the card after an accepted command, by what it writes
+
+-- A command writes one text at most.
+one-write : (c : Command) → writes original c ≡ true → writes (translation 0) c ≡ false
+one-write c h = rw (eqb-true (c .act) 3 h)
+
+module _ (card : Card) (c : Command) (t : List ℕ) where
+  stepped-original : writes original c ≡ true → stepped card c t ≡ withEntry (raise (card .entry) c) (withText 0 t card)
+  unfolding stepped
+  stepped-original h = rw (h, one-write c h)
+
+  stepped-translation :
+      writes original c ≡ false → writes (translation 0) c ≡ true
+      → stepped card c t ≡ withEntry (raise (card .entry) c) (withText 1 t card)
+  unfolding stepped
+  stepped-translation h g = rw (h, g)
+
+  stepped-none :
+      writes original c ≡ false → writes (translation 0) c ≡ false
+      → stepped card c t ≡ withEntry (raise (card .entry) c) card
+  unfolding stepped
+  stepped-none h g = rw (h, g)
+
+-- ---- on an image that is the bytes of its cards
+
+card-entry : (image : List ℕ) (k : ℕ) → cardAt image k .entry ≡ entryAt image k
+unfolding cardAt
+card-entry image k = refl
+
+module _ (image : List ℕ) (same : encode (decode image) ≡ image) (k : ℕ) (h : k < countOf image) (e : Entry) where
+  exists : k < length (decode image .cards)
+  exists = rw (count-decode image) h
+
+  side-kept : (side : ℕ) (t : List ℕ) → side < 2 →
+      splice (entryPlace k) (entryBytes e) (bodyWritten image k side t)
+      ≡ encode (withCard k (withEntry e (withText side t (cardAt image k))) (decode image))
+  unfolding decode
+  side-kept side t g =
+      rw (same, count-decode image, card-decode image k h) at (text-then-entry (decode image) k exists e side t g)
+
+  entry-kept :
+      splice (entryPlace k) (entryBytes e) image ≡ encode (withCard k (withEntry e (cardAt image k)) (decode image))
+  entry-kept = rw (same, card-decode image k h) at (put-entry (decode image) k e exists)
+
+-- The text that a command writes, then the raised entry: the image of the cards after it.
+pub keeps : (image : List ℕ) (same : encode (decode image) ≡ image) (c : Command) (t : List ℕ) {e : Entry} →
+    c .card < countOf image
+    → e ≡ raise (entryAt image (c .card)) c
+    → splice (entryPlace (c .card)) (entryBytes e) (textWritten image c t)
+    ≡ encode (withCard (c .card) (stepped (cardAt image (c .card)) c t) (decode image))
+unfolding textWritten
+keeps image same c t {e} h p = go (writes original c) (writes (translation 0) c) refl refl
+  where
+    raised : raise (cardAt image (c .card) .entry) c ≡ e
+    raised = ap (λ (x : Entry). raise x c) (card-entry image (c .card)) ∙ sym p
+
+    go : (a b : Bool) → writes original c ≡ a → writes (translation 0) c ≡ b →
+        splice (entryPlace (c .card)) (entryBytes e) (textWritten image c t)
+        ≡ encode (withCard (c .card) (stepped (cardAt image (c .card)) c t) (decode image))
+    go true b q r =
+        rw (stepped-original (cardAt image (c .card)) c t q, raised, q) (side-kept image same (c .card) h e 0 t (lit≤ tt))
+    go false true q r =
+        rw (stepped-translation (cardAt image (c .card)) c t q r, raised, q, r) (side-kept image same (c .card) h e 1 t (lit≤ tt))
+    go false false q r =
+        rw (stepped-none (cardAt image (c .card)) c t q r, raised, q, r) (entry-kept image same (c .card) h e)
+
+-- ---- a request keeps a sound image sound
+
+pub stays-sound : (image command reply : List ℕ) → Bytes image → Bytes command → Bytes reply → sound image ≡ true →
+    sound (serve image command reply .image) ≡ true
+stays-sound image command reply b bc br e =
+    let back = soundReadsBack image b (to-T e) in
+    let s : Sent = record { command = command; lent = reply } in
+    let cards : Cards = cardsBy (numberOn (decode image) s) (decode image) s in
+    let after : serve image command reply .image ≡ encode cards =
+    subst (λ (i : List ℕ). serve i command reply .image ≡ encode cards) (back .same) (same-image (decode image) s (back .good)) in
+    ap sound after
+    ∙ from-T (sound (encode cards))
+    (goodEncodes cards (good-more (decode image) s (back .good) (record { command = bc; lent = br }) (numberOn (decode image) s) refl) .sounds)

@@ -1,0 +1,272 @@
+-- A store as cards, without bytes: the same table and the same effects, and what its cards have to do with the events before.
+-- Assumes nothing.
+use Prim.Native.Nat.{ℕ, zero, suc, _+_, _≤_, _<_, max}
+use native.Mathlib.Omega.{arith}
+use mathlib.Core.Path.{_≡_, refl, sym, subst, _∙_}
+use mathlib.Core.Logic.{_⊎_, inl, inr}
+use mathlib.Core.List.{List, [], _∷_}
+use mathlib.Core.Bool.{Bool, true, false, cond, _&&_, or-comm}
+use borrow.Author.Tests.{eqb-true, eqb-false, eq-eqb, ne-eqb, le-ltb, ltb-true, not-true, not-false}
+use lib.Dec.{eqb, ltb, eqb·suc-zero}
+use lib.ListN.{length, getD, set, length-set}
+use lib.Seq.{getD-set-same, getD-set-other}
+use Rattle.endian.proofs.Tests.{cases, or-right, not-in, ltb-max}
+use Rattle.guard.specs.Command.{Language, original, translation, writes, update, fieldsOf, formed, payload, noMark}
+use Rattle.guard.specs.Judge.{behind, textLength, rows, raise, judged, replied}
+use Rattle.guard.specs.Table.{first, settled, applies}
+use Rattle.guard.specs.declared.Command.{Command}
+use Rattle.guard.specs.declared.Pair.{Pair}
+use Rattle.guard.proofs.Judge.{Accepted, accepted as passes}
+use Rattle.guard.proofs.Rules.{CommandRules}
+use Rattle.guard.proofs.Table.{unapplied, none-applies}
+use Rattle.image.specs.Image.{Card, Cards, text, noCard}
+use Rattle.store.specs.Serve.{cardOf, requestRows, stepped, cardsAfter, answerBy, replyBy}
+use Rattle.store.specs.Words.{Sent, Event, any, last, commandOf, accepted, outdated, lastText}
+use Rattle.guard.proofs.CommandBytes.{length-payload}
+use Rattle.store.proofs.Formed.{formed-well, formed-rules}
+
+-- ---- one request
+
+abbrev pub numberOn : Cards → Sent → ℕ
+numberOn cs s = first (requestRows cs (s .command) (length (s .lent)))
+
+-- The event and the cards, by the number.
+abbrev pub eventBy : ℕ → Cards → Sent → Event
+eventBy number cs s =
+    record { sent = s; answer = answerBy number cs (s .command); reply = replyBy number cs (s .command) (s .lent) }
+
+abbrev pub cardsBy : ℕ → Cards → Sent → Cards
+cardsBy number cs s = settled number (cardsAfter cs (s .command)) cs
+
+-- ---- requests, latest first
+
+unfoldable pub cardsFrom : Cards → List Sent → Cards
+cardsFrom start [] = start
+cardsFrom start (s ∷ earlier) = cardsBy (numberOn (cardsFrom start earlier) s) (cardsFrom start earlier) s
+
+unfoldable pub eventsFrom : Cards → List Sent → List Event
+eventsFrom start [] = []
+eventsFrom start (s ∷ earlier) =
+    eventBy (numberOn (cardsFrom start earlier) s) (cardsFrom start earlier) s ∷ eventsFrom start earlier
+
+-- ---- what is known of an accepted request
+
+pub record Passed (cs : Cards) (s : Sent) : Type 0 where
+  pub wellFormed : formed (s .command) ≡ true
+  pub exists : ltb (fieldsOf (s .command) .card) (length (cs .cards)) ≡ true
+  pub judged : Accepted (cardOf cs (fieldsOf (s .command)) .entry) (fieldsOf (s .command)) (cs .room) (length (s .lent))
+
+pub passed : (cs : Cards) (s : Sent) → numberOn cs s ≡ 0 → Passed cs s
+unfolding judged
+passed cs s e =
+    record {
+      wellFormed = is-formed;
+      exists = there;
+      judged = passes (cardOf cs (fieldsOf (s .command)) .entry) (fieldsOf (s .command)) (cs .room) (length (s .lent)) (sym same ∙ e);
+    }
+  where
+    unapplied-row : (n : ℕ) → applies n (requestRows cs (s .command) (length (s .lent))) ≡ false
+    unapplied-row =
+        none-applies (requestRows cs (s .command) (length (s .lent))) (unapplied (requestRows cs (s .command) (length (s .lent))) tt .0 e)
+
+    is-formed : formed (s .command) ≡ true
+    is-formed = not-false (formed (s .command)) (unapplied-row 1)
+
+    there : ltb (fieldsOf (s .command) .card) (length (cs .cards)) ≡ true
+    there = not-false (ltb (fieldsOf (s .command) .card) (length (cs .cards))) (unapplied-row 2)
+
+    -- Past rows 1 and 2 the entry's own table decides.
+    same : numberOn cs s ≡ first (rows (cardOf cs (fieldsOf (s .command)) .entry) (fieldsOf (s .command)) (cs .room) (length (s .lent)))
+    same = rw (is-formed, there, formed-well (s .command) is-formed)
+
+-- ---- texts and their lengths
+
+length-cond : (b : Bool) (u v : List ℕ) {m n : ℕ} → length u ≡ m → length v ≡ n → length (cond b u v) ≡ cond b m n
+length-cond true u v e f = e
+length-cond false u v e f = f
+
+-- Texts are as long as the entry says, also after a step whose payload is as long as the command says.
+abbrev pub Sized : Card → Type 0
+Sized card = (l : Language) → length (text l card) ≡ textLength l (card .entry)
+
+pub sized-step : (card : Card) (c : Command) (written : List ℕ) → length written ≡ c .length → Sized card → Sized (stepped card c written)
+unfolding stepped raise
+sized-step card c written e h original = length-cond (writes original c) written (card .original) e (h original)
+sized-step card c written e h (translation zero) =
+    length-cond (writes (translation 0) c) written (card .translation) e (h (translation zero))
+sized-step card c written e h (translation (suc t)) = refl
+
+-- ---- a card and the events before
+
+-- An accepted command for card k whose pair has, on one side, a stamp above n.
+abbrev above : (Pair → ℕ) → ℕ → ℕ → Event → Bool
+above side k n e = accepted k e && ltb n (side (update (commandOf e)))
+
+-- A stored card k, by the events before: which stamps its own are above, its mark, its texts and their lengths, and whether its translation is
+-- behind. No maximum and no count is needed.
+pub record Tied (before : List Event) (k : ℕ) (card : Card) : Type 0 where
+  pub s : (n : ℕ) → ltb n (card .entry .pair .s) ≡ any (above (λ (p : Pair). p .s) k n) before
+  pub x : (n : ℕ) → ltb n (card .entry .pair .x) ≡ any (above (λ (p : Pair). p .x) k n) before
+  pub mark : card .entry .mark ≡ last (accepted k) (λ (e : Event). commandOf e .next) noMark before
+  pub texts : (l : Language) → text l card ≡ lastText l before k
+  pub lengths : Sized card
+  pub behindness : behind (card .entry .edition) (card .entry .from) ≡ outdated 0 before k
+  pub source : card .entry .from ≤ card .entry .edition
+
+pub tied-fresh : (k : ℕ) → Tied [] k noCard
+tied-fresh k =
+    record {
+      s = λ n. le-ltb n 0 (omega arith);
+      x = λ n. le-ltb n 0 (omega arith);
+      mark = refl;
+      texts = no-text;
+      lengths = no-length;
+      behindness = refl;
+      source = omega arith;
+    }
+  where
+    no-text : (l : Language) → text l noCard ≡ []
+    no-text original = refl
+    no-text (translation zero) = refl
+    no-text (translation (suc t)) = refl
+
+    no-length : (l : Language) → length (text l noCard) ≡ textLength l (noCard .entry)
+    no-length original = refl
+    no-length (translation zero) = refl
+    no-length (translation (suc t)) = refl
+
+-- An event that is no accepted command for card k leaves the card tied as it was.
+pub tied-other : (k : ℕ) (e : Event) (before : List Event) (card : Card) → accepted k e ≡ false → Tied before k card → Tied (e ∷ before) k card
+tied-other k e before card h t =
+    record {
+      s = λ n. rw h (t .s n);
+      x = λ n. rw h (t .x n);
+      mark = rw h (t .mark);
+      texts = λ l. rw h (t .texts l);
+      lengths = t .lengths;
+      behindness = rw h (rw h (t .behindness));
+      source = t .source;
+    }
+
+-- A write is of one language.
+one-language : (c : Command) → writes original c ≡ true → writes (translation 0) c ≡ true → ⊥
+one-language c e f =
+    let three = eqb-true (c .act) 3 e in
+    let four = eqb-true (c .act) 4 f in
+    omega arith
+
+-- An accepted command for card k: the card that it steps to is tied to the events with it.
+module _ (k : ℕ) (e : Event) (before : List Event) (card : Card) (h : accepted k e ≡ true) (r : CommandRules (commandOf e))
+    (long : length (payload (e .sent .command)) ≡ commandOf e .length)
+    (named : writes (translation 0) (commandOf e) ≡ true → commandOf e .edition ≡ card .entry .edition) (t : Tied before k card) where
+  abbrev now : Card
+  now = stepped card (commandOf e) (payload (e .sent .command))
+
+  -- The larger of an old stamp and the command's is above n exactly when one of the two is.
+  raised : (side : Pair → ℕ) (old n : ℕ) → ltb n old ≡ any (above side k n) before
+      → ltb n (max old (side (update (commandOf e)))) ≡ any (above side k n) (e ∷ before)
+  raised side old n tie =
+      ltb-max n old (side (update (commandOf e))) ∙ or-comm (ltb n old) (ltb n (side (update (commandOf e)))) ∙ rw (h, tie)
+
+  step-mark : now .entry .mark ≡ last (accepted k) (λ (d : Event). commandOf d .next) noMark (e ∷ before)
+  unfolding stepped raise
+  step-mark = rw h
+
+  step-texts : (l : Language) → text l now ≡ lastText l (e ∷ before) k
+  unfolding stepped
+  step-texts original = rw (h, t .texts original)
+  step-texts (translation zero) = rw (h, t .texts (translation zero))
+  step-texts (translation (suc j)) = rw h (t .texts (translation (suc j)))
+
+  -- The edition and the edition translated from, after a write of the original, of the translation, and of neither.
+  step-editions : (behind (now .entry .edition) (now .entry .from) ≡ outdated 0 (e ∷ before) k) × (now .entry .from ≤ now .entry .edition)
+  unfolding stepped raise
+  step-editions = go (cases (writes original (commandOf e))) (cases (writes (translation 0) (commandOf e)))
+    where
+      go : (writes original (commandOf e) ≡ true) ⊎ (writes original (commandOf e) ≡ false)
+          → (writes (translation 0) (commandOf e) ≡ true) ⊎ (writes (translation 0) (commandOf e) ≡ false)
+          → (behind (now .entry .edition) (now .entry .from) ≡ outdated 0 (e ∷ before) k) × (now .entry .from ≤ now .entry .edition)
+      go (inl p) (inl q) = absurd (one-language (commandOf e) p q)
+      go (inl p) (inr q) =
+          let source = t .source in
+          let newer : eqb (card .entry .from) (card .entry .edition + 1) ≡ false =
+          ne-eqb (card .entry .from) (card .entry .edition + 1) (λ z. omega arith) in
+          (rw (p, q, h) (or-right (eqb (card .entry .from) 0) (not-in newer)), rw (p, q) (omega arith))
+      go (inr p) (inl q) =
+          let same = named q in
+          let some : eqb (commandOf e .edition) 0 ≡ false = not-true (eqb (commandOf e .edition) 0) (sym (r .edition) ∙ q) in
+          (rw (p, q, h) (rw (eq-eqb (commandOf e .edition) (card .entry .edition) same, some, h, q)), rw (p, q) (omega arith))
+      go (inr p) (inr q) = (rw (p, q, h) (rw (h, q) (t .behindness)), rw (p, q) (t .source))
+
+  pub tied-step : Tied (e ∷ before) k now
+  unfolding stepped raise
+  tied-step =
+      record {
+        s = λ n. raised (λ (p : Pair). p .s) (card .entry .pair .s) n (t .s n);
+        x = λ n. raised (λ (p : Pair). p .x) (card .entry .pair .x) n (t .x n);
+        mark = step-mark;
+        texts = step-texts;
+        lengths = sized-step card (commandOf e) (payload (e .sent .command)) long (t .lengths);
+        behindness = step-editions .0;
+        source = step-editions .1;
+      }
+
+-- ---- all cards and the events before
+
+abbrev pub Ties : Cards → List Event → Type 0
+Ties cs before = (k : ℕ) → k < length (cs .cards) → Tied before k (getD (cs .cards) k noCard)
+
+-- A refused request is no accepted command; an accepted one is for its own card.
+refused-other : (j : ℕ) (cs : Cards) (s : Sent) (k : ℕ) → accepted k (eventBy (suc j) cs s) ≡ false
+unfolding replied
+refused-other j cs s k = rw (eqb·suc-zero j)
+
+accepted-at : (cs : Cards) (s : Sent) (k : ℕ) → accepted k (eventBy 0 cs s) ≡ eqb (fieldsOf (s .command) .card) k
+unfolding replied
+accepted-at cs s k = refl
+
+pub ties-more : (cs : Cards) (s : Sent) (before : List Event) → Ties cs before → (number : ℕ) → numberOn cs s ≡ number
+    → Ties (cardsBy number cs s) (eventBy number cs s ∷ before)
+ties-more cs s before t (suc j) e k b = tied-other k (eventBy (suc j) cs s) before (getD (cs .cards) k noCard) (refused-other j cs s k) (t k b)
+ties-more cs s before t zero e k b = go (cases (eqb (fieldsOf (s .command) .card) k))
+  where
+    place : ℕ
+    place = fieldsOf (s .command) .card
+
+    stored : Card
+    stored = getD (cs .cards) place noCard
+
+    after : Card
+    after = stepped stored (fieldsOf (s .command)) (payload (s .command))
+
+    known : Passed cs s
+    known = passed cs s e
+
+    within : k < length (cs .cards)
+    within = subst (λ (n : ℕ). k < n) (length-set (cs .cards) place after) b
+
+    there : place < length (cs .cards)
+    there = ltb-true place (length (cs .cards)) (known .exists)
+
+    go : (eqb place k ≡ true) ⊎ (eqb place k ≡ false) → Tied (eventBy 0 cs s ∷ before) k (getD (set (cs .cards) place after) k noCard)
+    go (inl h) =
+        let here : place ≡ k = eqb-true place k h in
+        subst (λ (j : ℕ). Tied (eventBy 0 cs s ∷ before) j (getD (set (cs .cards) place after) j noCard)) here
+        (subst (Tied (eventBy 0 cs s ∷ before) place) (sym (getD-set-same (cs .cards) place after noCard there))
+        (tied-step place (eventBy 0 cs s) before stored
+        (accepted-at cs s place ∙ eq-eqb place place refl)
+        (formed-rules (s .command) (known .wellFormed))
+        (length-payload (s .command) (known .wellFormed))
+        (known .judged .named)
+        (t place there)))
+    go (inr h) =
+        subst (Tied (eventBy 0 cs s ∷ before) k)
+        (sym (getD-set-other (cs .cards) place k after noCard (λ z. eqb-false place k h (sym z))))
+        (tied-other k (eventBy 0 cs s) before (getD (cs .cards) k noCard) (accepted-at cs s k ∙ h) (t k within))
+
+-- N stays.
+pub count-kept : (number : ℕ) (cs : Cards) (s : Sent) → length (cardsBy number cs s .cards) ≡ length (cs .cards)
+count-kept zero cs s =
+    length-set (cs .cards) (fieldsOf (s .command) .card)
+    (stepped (cardOf cs (fieldsOf (s .command))) (fieldsOf (s .command)) (payload (s .command)))
+count-kept (suc j) cs s = refl

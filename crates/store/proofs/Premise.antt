@@ -1,0 +1,53 @@
+-- The premise on the lists of trials a and d, by computation on bytes. Assumes nothing.
+use mathlib.Core.Path.{refl}
+use mathlib.Core.List.{[]}
+use Rattle.endian.specs.Parts.{part, splice, table, spread, every, zeros}
+use Rattle.endian.specs.Le.{le, toLe}
+use Rattle.endian.specs.Tests.{all, allFrom}
+use Rattle.guard.specs.Command.{wellFormed, fieldsOf, payload, formed, commandBytes}
+use Rattle.guard.specs.Entry.{entrySound}
+use Rattle.guard.specs.Judge.{raise, replied}
+use Rattle.guard.specs.Stamp.{stamp, shared, exclusive}
+use Rattle.image.specs.Image.{
+  shapeOk,
+  header,
+  entryBytes,
+  pad,
+  bodies,
+  encode,
+  readEntry,
+  entryAt,
+  cardAt,
+  decode,
+  tailZero,
+  cardSound,
+  headerSound,
+  sound,
+  fresh,
+}
+use Rattle.store.specs.Serve.{stepped, serveBy, serve}
+use Rattle.store.specs.Words.{Sent, Event, imageAfter, history, logOf}
+use Rattle.store.specs.Cases.{got, verify, first, sentD}
+use Rattle.store.specs.Claims.{Intruded, PremiseTells}
+
+-- An accepted event of trial d.
+abbrev event : Sent → Event
+event s = record { sent = s; answer = got 0 first first 0 0 0 0 0 [] .answer; reply = [] }
+
+intruded : Intruded (logOf 1 16 sentD)
+unfolding logOf history imageAfter serve serveBy stepped sound headerSound cardSound tailZero decode cardAt entryAt readEntry encode bodies pad entryBytes header shapeOk fresh replied raise entrySound commandBytes formed payload fieldsOf wellFormed all allFrom le toLe part splice table spread every zeros
+intruded =
+    record {
+      a = event (verify exclusive first first);
+      e = event (verify shared (stamp 0 2 0) first);
+      b = event (verify exclusive first first);
+      split = refl;
+      first = refl;
+      second = refl;
+      same = refl;
+      intruder = refl;
+    }
+
+pub premise-tells : PremiseTells
+unfolding commandBytes formed fieldsOf wellFormed all allFrom le toLe part zeros
+premise-tells = record { holds = refl; fails = refl; without = intruded }

@@ -1,0 +1,150 @@
+-- The sentences of demand 3 of one request on cards, from what ties the cards to the events before. Assumes nothing.
+use Prim.Native.Nat.{ℕ, zero, suc, _+_}
+use native.Mathlib.Omega.{arith}
+use mathlib.Core.Path.{_≡_, refl, sym, ap, subst, _∙_}
+use mathlib.Core.Logic.{_↔_}
+use mathlib.Core.List.{List}
+use mathlib.Core.Bool.{true, false, or-false}
+use borrow.Author.Tests.{eqb-true, le-ltb, ltb-true}
+use lib.Dec.{ltb}
+use lib.ListN.{length, take, drop}
+use lib.Seq.{take-append-seam}
+use Rattle.endian.specs.Parts.{splice}
+use Rattle.endian.proofs.Tests.{to-T, from-T, never-both}
+use Rattle.guard.specs.Stamp.{stale}
+use Rattle.guard.specs.Command.{Language, original, translation, reads, writes, verifier, fieldsOf}
+use Rattle.guard.specs.Judge.{markFits, behind, textLength, raise, readLength, replied}
+use Rattle.guard.specs.Table.{Row, applies}
+use Rattle.guard.specs.declared.Command.{Command}
+use Rattle.guard.specs.declared.Entry.{Entry}
+use Rattle.guard.proofs.Table.{given}
+use Rattle.image.specs.Image.{Card, Cards, text}
+use Rattle.store.specs.Serve.{cardOf, requestRows, textRead}
+use Rattle.store.specs.Words.{Sent, Event, commandOf, Proper, late, rightMark, outdated, lastText}
+use Rattle.store.proofs.Formed.{formed-rules, no-payload}
+use Rattle.store.proofs.Machine.{numberOn, eventBy, passed, Tied, Ties}
+
+-- What is claimed of an event and the events before it.
+pub record Told (n : ℕ) (e : Event) (before : List Event) : Type 0 where
+  pub proper : e .answer .number ≡ 0 → Proper n e
+  pub staleness : Proper n e → (e .answer .number ≡ 3) ↔ (late before (commandOf e) ≡ true)
+  pub behindness :
+      (t : ℕ) → Proper n e → reads (translation t) (commandOf e) ≡ true → late before (commandOf e) ≡ false
+      → rightMark before (commandOf e) ≡ true
+      → (e .answer .number ≡ 6) ↔ (outdated t before (commandOf e .card) ≡ true)
+  pub showing :
+      (l : Language) → e .answer .number ≡ 0 → reads l (commandOf e) ≡ true
+      → take (e .answer .length) (e .reply) ≡ lastText l before (commandOf e .card)
+  pub showing-length :
+      (l : Language) → e .answer .number ≡ 0 → reads l (commandOf e) ≡ true
+      → e .answer .length ≡ length (lastText l before (commandOf e .card))
+
+-- ---- reads
+
+-- A read is no write.
+read-only : (l : Language) (c : Command) → reads l c ≡ true → (writes original c ≡ false) × (writes (translation 0) c ≡ false)
+read-only original c e = let act = eqb-true (c .act) 1 e in (rw act, rw act)
+read-only (translation zero) c e = let act = eqb-true (c .act) 2 e in (rw act, rw act)
+read-only (translation (suc t)) c e = absurd (never-both e refl)
+
+-- The text that is read, and its length, which the command leaves as it is.
+read-text : (l : Language) (card : Card) (c : Command) → reads l c ≡ true → textRead card c ≡ text l card
+read-text original card c e = rw e
+read-text (translation zero) card c e = let act = eqb-true (c .act) 2 e in rw act
+read-text (translation (suc t)) card c e = absurd (never-both e refl)
+
+read-length : (l : Language) (e : Entry) (c : Command) → reads l c ≡ true → readLength (raise e c) c ≡ textLength l e
+unfolding raise
+read-length original e c h = let act = eqb-true (c .act) 1 h in rw act
+read-length (translation zero) e c h = let act = eqb-true (c .act) 2 h in rw act
+read-length (translation (suc t)) e c h = absurd (never-both h refl)
+
+take-splice : (v l : List ℕ) → take (length v) (splice 0 v l) ≡ v
+unfolding splice
+take-splice v l = take-append-seam v (drop (0 + length v) l)
+
+-- ---- one request
+
+module _ (cs : Cards) (s : Sent) (before : List Event) (ties : Ties cs before) where
+  abbrev c : Command
+  c = fieldsOf (s .command)
+
+  abbrev stored : Card
+  stored = cardOf cs c
+
+  abbrev rows : List Row
+  rows = requestRows cs (s .command) (length (s .lent))
+
+  abbrev event : Event
+  event = eventBy (numberOn cs s) cs s
+
+  -- The event's number is the table's.
+  number-is : event .answer .number ≡ numberOn cs s
+  unfolding replied
+  number-is = refl
+
+  tied : Proper (length (cs .cards)) event → Tied before (c .card) stored
+  tied p = ties (c .card) (ltb-true (c .card) (length (cs .cards)) (p .exists))
+
+  late-is : Proper (length (cs .cards)) event → stale (c .mode) (stored .entry .pair) (verifier c) ≡ late before c
+  late-is p = rw (tied p .x (verifier c .x), tied p .s (verifier c .s))
+
+  is-proper : numberOn cs s ≡ 0 → Proper (length (cs .cards)) event
+  is-proper e = record { wellFormed = passed cs s e .wellFormed; exists = passed cs s e .exists }
+
+  stale-when : Proper (length (cs .cards)) event → (numberOn cs s ≡ 3) ↔ (late before c ≡ true)
+  stale-when p = (
+    λ e. sym (late-is p) ∙ from-T (applies 3 rows) (given rows tt 2 .0 e .0),
+    λ h. given rows tt 2 .1 (to-T (late-is p ∙ h), rw (p .wellFormed, p .exists) tt),
+  )
+
+  behind-when : (t : ℕ) → Proper (length (cs .cards)) event → reads (translation t) c ≡ true → late before c ≡ false → rightMark before c ≡ true
+      → (numberOn cs s ≡ 6) ↔ (outdated t before (c .card) ≡ true)
+  behind-when (suc t) p r h m = absurd (never-both r refl)
+  behind-when zero p r h m = (
+    λ e. sym row-is ∙ from-T (applies 6 rows) (given rows tt 5 .0 e .0),
+    λ o. given rows tt 5 .1 (to-T (row-is ∙ o), rw (p .wellFormed, p .exists, late-is p ∙ h, mark-fits, fits) tt),
+  )
+    where
+      no-write : (writes original c ≡ false) × (writes (translation 0) c ≡ false)
+      no-write = read-only (translation 0) c r
+
+      row-is : applies 6 rows ≡ outdated 0 before (c .card)
+      row-is = rw (r, no-write .1, or-false (behind (stored .entry .edition) (stored .entry .from))) (tied p .behindness)
+
+      mark-fits : markFits (stored .entry .mark) (c .expected) ≡ true
+      mark-fits = rw (tied p .mark) m
+
+      fits : ltb (cs .room) (c .length) ≡ false
+      fits =
+          let none = no-payload c (formed-rules (s .command) (p .wellFormed)) (rw (no-write .0, no-write .1)) in
+          le-ltb (cs .room) (c .length) (omega arith)
+
+  -- An accepted read.
+  at-zero : eventBy 0 cs s .answer .length ≡ readLength (raise (stored .entry) c) c
+  unfolding replied
+  at-zero = refl
+
+  shown-length : (l : Language) → numberOn cs s ≡ 0 → reads l c ≡ true → event .answer .length ≡ length (text l stored)
+  shown-length l e r =
+      subst (λ (n : ℕ). eventBy n cs s .answer .length ≡ length (text l stored)) (sym e)
+      (at-zero ∙ read-length l (stored .entry) c r ∙ sym (tied (is-proper e) .lengths l))
+
+  shown-text : (l : Language) → numberOn cs s ≡ 0 → reads l c ≡ true → take (length (text l stored)) (event .reply) ≡ text l stored
+  shown-text l e r =
+      subst (λ (n : ℕ). take (length (text l stored)) (eventBy n cs s .reply) ≡ text l stored) (sym e)
+      (rw (read-text l stored c r) (take-splice (text l stored) (s .lent)))
+
+  pub told : Told (length (cs .cards)) event before
+  told =
+      record {
+        proper = λ e. is-proper (sym number-is ∙ e);
+        staleness = subst (λ (n : ℕ). Proper (length (cs .cards)) event → (n ≡ 3) ↔ (late before c ≡ true)) (sym number-is) stale-when;
+        behindness = λ t p r h m. subst (λ (n : ℕ). (n ≡ 6) ↔ (outdated t before (c .card) ≡ true)) (sym number-is) (behind-when t p r h m);
+        showing = λ l e r.
+            let zero-is = sym number-is ∙ e in
+            ap (λ (n : ℕ). take n (event .reply)) (shown-length l zero-is r) ∙ shown-text l zero-is r ∙ tied (is-proper zero-is) .texts l;
+        showing-length = λ l e r.
+            let zero-is = sym number-is ∙ e in
+            shown-length l zero-is r ∙ ap length (tied (is-proper zero-is) .texts l);
+      }

@@ -1,0 +1,365 @@
+-- The starred trials of the sheet ("Trials at the desk"), the four commands of case P and the three slips, as one table: a start, requests in the
+-- order in which they are sent, and what each must get. Where no act is named it is verify; commit marks are zero throughout.
+-- Assumes nothing.
+use Prim.Native.Nat.{ℕ}
+use mathlib.Core.Path.{_≡_}
+use mathlib.Core.List.{List, [], _∷_, _++_, map, reverse}
+use lib.ListN.{length, replicate}
+use Rattle.guard.specs.Command.{commandBytes, noMark, noPair}
+use Rattle.guard.specs.Stamp.{stamp, shared, exclusive}
+use Rattle.guard.specs.declared.Answer.{Answer}
+use Rattle.guard.specs.declared.Pair.{Pair}
+use Rattle.image.specs.Image.{encode, fresh}
+use Rattle.store.specs.Serve.{serve}
+use Rattle.store.specs.Words.{Sent, Event, history}
+
+-- What a request gets: its answer and the reply buffer afterwards.
+pub record Got : Type 0 where
+  pub answer : Answer
+  pub reply : List ℕ
+
+-- What requests get, one for each, in the order in which they are sent, from a start image.
+unfoldable pub run : List ℕ → List Sent → List Got
+run image [] = []
+run image (s ∷ later) =
+    record { answer = serve image (s .command) (s .lent) .answer; reply = serve image (s .command) (s .lent) .reply }
+    ∷ run (serve image (s .command) (s .lent) .image) later
+
+-- What a run gets is what the log of demand 3 shows for the same requests.
+abbrev pub shown : Event → Got
+shown e = record { answer = e .answer; reply = e .reply }
+
+abbrev pub RunLogged : Type 0
+RunLogged = (start : List ℕ) (sent : List Sent) → run start sent ≡ map shown (reverse (history start (reverse sent)))
+
+-- One row of the table.
+pub record Trial : Type 0 where
+  pub start : List ℕ
+  pub sent : List Sent
+  pub expected : List Got
+
+-- ---- requests
+
+-- "A = (1.1.0, 0), A' = (1.1.0, 1.1.0), B = (2.2.0, 1.1.0), B' = (2.2.0, 2.2.0)", by the stamps 1.1.0 and 2.2.0.
+abbrev pub first : ℕ
+first = stamp 1 1 0
+
+abbrev pub second : ℕ
+second = stamp 2 2 0
+
+abbrev pub pair : ℕ → ℕ → Pair
+pair s x = record { s = s; x = x }
+
+-- A command for card 0 with a lent reply buffer.
+abbrev pub request : ℕ → ℕ → Pair → ℕ → List ℕ → List ℕ → Sent
+request act mode p edition text lent =
+    record {
+      command =
+          commandBytes
+          (record {
+            act = act;
+            mode = mode;
+            card = 0;
+            pair = p;
+            expected = noMark;
+            next = noMark;
+            edition = edition;
+            length = length text;
+          })
+          text;
+      lent = lent;
+    }
+
+abbrev pub verify : ℕ → ℕ → ℕ → Sent
+verify mode s x = request 5 mode (pair s x) 0 [] []
+
+abbrev pub readOriginal : List ℕ → Sent
+readOriginal lent = request 1 shared (pair second first) 0 [] lent
+
+abbrev pub readTranslation : List ℕ → Sent
+readTranslation lent = request 2 shared (pair second first) 0 [] lent
+
+abbrev pub writeOriginal : ℕ → ℕ → List ℕ → Sent
+writeOriginal s x text = request 3 exclusive (pair s x) 0 text []
+
+abbrev pub writeTranslation : ℕ → ℕ → ℕ → List ℕ → Sent
+writeTranslation s x edition text = request 4 exclusive (pair s x) edition text []
+
+-- ---- what they get
+
+-- The number, then the reply fields in the sheet's order (s, x, commit desk, transaction, edition, translated-from, length), and the reply buffer.
+abbrev pub got : ℕ → ℕ → ℕ → ℕ → ℕ → ℕ → ℕ → ℕ → List ℕ → Got
+got number s x desk transaction edition from length reply =
+    record {
+      answer =
+          record {
+            number = number;
+            pair = pair s x;
+            mark = record { desk = desk; transaction = transaction };
+            edition = edition;
+            from = from;
+            length = length;
+          };
+      reply = reply;
+    }
+
+-- ---- starts and texts
+
+-- N 1, C 16.
+abbrev pub empty : List ℕ
+empty = fresh 1 16
+
+-- One card at edition 65,534, with no text.
+abbrev pub nearlyLast : List ℕ
+nearlyLast =
+    encode
+    (record {
+      room = 16;
+      cards =
+          record {
+            entry = record { pair = noPair; mark = noMark; edition = 65534; from = 0; original = 0; translation = 0 };
+            original = [];
+            translation = [];
+          }
+          ∷ [];
+    })
+
+-- The bytes of `205` and of `401`.
+abbrev pub text205 : List ℕ
+text205 = 50 ∷ 48 ∷ 53 ∷ []
+
+abbrev pub text401 : List ℕ
+text401 = 52 ∷ 48 ∷ 49 ∷ []
+
+-- A text of so many bytes.
+abbrev pub long : ℕ → List ℕ
+long n = replicate n 97
+
+-- Both texts written by A'.
+abbrev pub bothWritten : List Sent
+bothWritten = writeOriginal first first text205 ∷ writeTranslation first first 1 text401 ∷ []
+
+abbrev pub bothGot : List Got
+bothGot = got 0 first first 0 0 1 0 0 [] ∷ got 0 first first 0 0 1 1 0 [] ∷ []
+
+-- ---- the table
+
+-- "a: shared A twice, exclusive A', shared B, exclusive B' twice: all 0."
+abbrev pub sentA : List Sent
+sentA =
+    verify shared first 0
+    ∷ verify shared first 0
+    ∷ verify exclusive first first
+    ∷ verify shared second first
+    ∷ verify exclusive second second
+    ∷ verify exclusive second second
+    ∷ []
+
+abbrev pub gotA : List Got
+gotA =
+    got 0 first 0 0 0 0 0 0 []
+    ∷ got 0 first 0 0 0 0 0 0 []
+    ∷ got 0 first first 0 0 0 0 0 []
+    ∷ got 0 second first 0 0 0 0 0 []
+    ∷ got 0 second second 0 0 0 0 0 []
+    ∷ got 0 second second 0 0 0 0 0 []
+    ∷ []
+
+abbrev pub trialA : Trial
+trialA = record { start = empty; sent = sentA; expected = gotA }
+
+-- "b: then exclusive A': 3."
+abbrev pub trialB : Trial
+trialB =
+    record {
+      start = empty;
+      sent = sentA ++ (verify exclusive first first ∷ []);
+      expected = gotA ++ (got 3 second second 0 0 0 0 0 [] ∷ []);
+    }
+
+-- "c: shared A, shared (2.2.0, 0), shared A: 0; exclusive A': 3."
+abbrev pub trialC : Trial
+trialC =
+    record {
+      start = empty;
+      sent = verify shared first 0 ∷ verify shared second 0 ∷ verify shared first 0 ∷ verify exclusive first first ∷ [];
+      expected =
+          got 0 first 0 0 0 0 0 0 []
+          ∷ got 0 second 0 0 0 0 0 0 []
+          ∷ got 0 second 0 0 0 0 0 0 []
+          ∷ got 3 second 0 0 0 0 0 0 []
+          ∷ [];
+    }
+
+-- "d: exclusive A', shared (0.2.0, 1.1.0), exclusive A': all 0."
+abbrev pub sentD : List Sent
+sentD = verify exclusive first first ∷ verify shared (stamp 0 2 0) first ∷ verify exclusive first first ∷ []
+
+abbrev pub trialD : Trial
+trialD =
+    record {
+      start = empty;
+      sent = sentD;
+      expected =
+          got 0 first first 0 0 0 0 0 []
+          ∷ got 0 first first 0 0 0 0 0 []
+          ∷ got 0 first first 0 0 0 0 0 []
+          ∷ [];
+    }
+
+-- "e: read original at edition 0: 0, length 0."
+abbrev pub trialE : Trial
+trialE =
+    record { start = empty; sent = readOriginal (long 2) ∷ []; expected = got 0 second first 0 0 0 0 0 (long 2) ∷ [] }
+
+-- "f: read translation there: 6."
+abbrev pub trialF : Trial
+trialF =
+    record { start = empty; sent = readTranslation (long 2) ∷ []; expected = got 6 0 0 0 0 0 0 0 (long 2) ∷ [] }
+
+-- "g: payload C: 0."
+abbrev pub trialG : Trial
+trialG =
+    record { start = empty; sent = writeOriginal first first (long 16) ∷ []; expected = got 0 first first 0 0 1 0 0 [] ∷ [] }
+
+-- "h: C + 1: 5,
+abbrev pub trialH : Trial
+trialH =
+    record { start = empty; sent = writeOriginal first first (long 17) ∷ []; expected = got 5 0 0 0 0 0 0 0 [] ∷ [] }
+
+-- or 3 if stale as well."
+abbrev pub trialHStale : Trial
+trialHStale =
+    record {
+      start = empty;
+      sent = verify exclusive second second ∷ writeOriginal first first (long 17) ∷ [];
+      expected = got 0 second second 0 0 0 0 0 [] ∷ got 3 second second 0 0 0 0 0 [] ∷ [];
+    }
+
+-- "i: edition 65,534 written: 0, now 65,535;
+abbrev pub trialI : Trial
+trialI =
+    record { start = nearlyLast; sent = writeOriginal first first text205 ∷ []; expected = got 0 first first 0 0 65535 0 0 [] ∷ [] }
+
+-- j: written again: 7."
+abbrev pub trialJ : Trial
+trialJ =
+    record {
+      start = nearlyLast;
+      sent = writeOriginal first first text205 ∷ writeOriginal first first text205 ∷ [];
+      expected = got 0 first first 0 0 65535 0 0 [] ∷ got 7 first first 0 0 65535 0 0 [] ∷ [];
+    }
+
+-- "k: reply buffer as long as the text: 0;" for each language,
+abbrev pub trialKOriginal : Trial
+trialKOriginal =
+    record {
+      start = empty;
+      sent = bothWritten ++ (readOriginal (long 3) ∷ []);
+      expected = bothGot ++ (got 0 second first 0 0 1 1 3 text205 ∷ []);
+    }
+
+abbrev pub trialKTranslation : Trial
+trialKTranslation =
+    record {
+      start = empty;
+      sent = bothWritten ++ (readTranslation (long 3) ∷ []);
+      expected = bothGot ++ (got 0 second first 0 0 1 1 3 text401 ∷ []);
+    }
+
+-- "l: one byte less: 8." for each language.
+abbrev pub trialLOriginal : Trial
+trialLOriginal =
+    record {
+      start = empty;
+      sent = bothWritten ++ (readOriginal (long 2) ∷ []);
+      expected = bothGot ++ (got 8 first first 0 0 1 1 0 (long 2) ∷ []);
+    }
+
+abbrev pub trialLTranslation : Trial
+trialLTranslation =
+    record {
+      start = empty;
+      sent = bothWritten ++ (readTranslation (long 2) ∷ []);
+      expected = bothGot ++ (got 8 first first 0 0 1 1 0 (long 2) ∷ []);
+    }
+
+-- Case P: "exclusive write of original `205` by (1.1.0, 1.1.0); shared read of translation by (2.2.0, 1.1.0); exclusive write of translation
+-- `401`, edition 1, by (2.2.0, 2.2.0); the first command again", with a reply buffer of C bytes.
+abbrev pub caseP : Trial
+caseP =
+    record {
+      start = empty;
+      sent =
+          writeOriginal first first text205
+          ∷ readTranslation (long 16)
+          ∷ writeTranslation second second 1 text401
+          ∷ writeOriginal first first text205
+          ∷ [];
+      expected =
+          got 0 4295032832 4295032832 0 0 1 0 0 []
+          ∷ got 6 4295032832 4295032832 0 0 1 0 0 (long 16)
+          ∷ got 0 8590065664 8590065664 0 0 1 1 0 []
+          ∷ got 3 8590065664 8590065664 0 0 1 1 0 []
+          ∷ [];
+    }
+
+-- The three slips of the sheet ("Three slips we have seen"). "Serving a translation because its length is nonzero. The edition decides.":
+-- a translation of three bytes, behind since the original was written again.
+abbrev pub slipByLength : Trial
+slipByLength =
+    record {
+      start = empty;
+      sent = bothWritten ++ (writeOriginal first first text205 ∷ readTranslation (long 3) ∷ []);
+      expected = bothGot ++ (got 0 first first 0 0 2 1 0 [] ∷ got 6 first first 0 0 2 1 0 (long 3) ∷ []);
+    }
+
+-- "Storing the command's pair in place of the larger of each: a shared command with a small s would then reopen the card to an older exclusive
+-- one."
+abbrev pub slipCommandPair : Trial
+slipCommandPair =
+    record {
+      start = empty;
+      sent = verify exclusive second first ∷ verify shared (stamp 0 2 0) first ∷ verify exclusive first first ∷ [];
+      expected =
+          got 0 second first 0 0 0 0 0 []
+          ∷ got 0 second first 0 0 0 0 0 []
+          ∷ got 3 second first 0 0 0 0 0 []
+          ∷ [];
+    }
+
+-- "Raising the stored pair, then finding the reply buffer short (8).": A' still passes after a read by B that got 8.
+abbrev pub slipRaised : Trial
+slipRaised =
+    record {
+      start = empty;
+      sent = bothWritten ++ (readOriginal (long 2) ∷ verify exclusive first first ∷ []);
+      expected = bothGot ++ (got 8 first first 0 0 1 1 0 (long 2) ∷ got 0 first first 0 0 1 1 0 [] ∷ []);
+    }
+
+abbrev pub trials : List Trial
+trials =
+    trialA
+    ∷ trialB
+    ∷ trialC
+    ∷ trialD
+    ∷ trialE
+    ∷ trialF
+    ∷ trialG
+    ∷ trialH
+    ∷ trialHStale
+    ∷ trialI
+    ∷ trialJ
+    ∷ trialKOriginal
+    ∷ trialKTranslation
+    ∷ trialLOriginal
+    ∷ trialLTranslation
+    ∷ caseP
+    ∷ slipByLength
+    ∷ slipCommandPair
+    ∷ slipRaised
+    ∷ []
+
+-- The claim: each row gets exactly what it must, whole lists of answers, fields and reply buffers.
+abbrev pub Trials : Type 0
+Trials = map (λ (t : Trial). run (t .start) (t .sent)) trials ≡ map (λ (t : Trial). t .expected) trials

@@ -1,0 +1,119 @@
+-- The claims of the store: demand 3, whole, and what demands 1 and 2 ask of one request. The theorems stand in proofs/.
+-- Assumes nothing.
+use Prim.Native.Nat.{ℕ, suc, _≤_}
+use mathlib.Core.Logic.{_↔_}
+use mathlib.Core.Path.{_≡_}
+use mathlib.Core.List.{List, [], _∷_, _++_, map, reverse}
+use mathlib.Core.Bool.{true, false}
+use lib.ListN.{length, take}
+use lib.Dec.{T}
+use Rattle.endian.specs.Parts.{Bytes}
+use Rattle.guard.specs.Command.{Language, translation, reads}
+use Rattle.guard.specs.Table.{applies, earlier, none as noRow}
+use Rattle.image.specs.Image.{shapeOk}
+use Rattle.store.specs.Serve.{serve, storeRows}
+use Rattle.store.specs.Words.{
+  Sent,
+  Event,
+  logOf,
+  none,
+  accepted,
+  Proper,
+  late,
+  rightMark,
+  outdated,
+  lastText,
+  commandOf,
+  premise,
+  OneSession,
+  intrudes,
+}
+use Rattle.store.specs.Cases.{sentA, sentD}
+
+-- What is sent is bytes: each element is below 256, and nothing else.
+pub record SentBytes (s : Sent) : Type 0 where
+  pub command : Bytes (s .command)
+  pub lent : Bytes (s .lent)
+
+abbrev pub AllBytes : List Sent → Type 0
+AllBytes [] = Unit {0}
+AllBytes (s ∷ sent) = SentBytes s × AllBytes sent
+
+-- The sentences of demand 3, of the list of what was sent and its log (latest first). `later` and `before` are the events after and before one.
+pub record Claim (n : ℕ) (sent : List Sent) (log : List Event) : Type 0 where
+  -- the log is whole: one event for each request sent, in order, with its bytes and the buffer lent for it
+  pub whole : map (λ e. e .sent) log ≡ reverse sent
+  -- a well-formed command for a card that exists is refused as stale exactly when it comes late
+  pub staleness :
+      (later : List Event) (e : Event) (before : List Event) → log ≡ later ++ e ∷ before → Proper n e
+      → (e .answer .number ≡ 3) ↔ (late before (commandOf e) ≡ true)
+  -- a read of a translation that is not late and has the right mark is refused as behind exactly when the translation is
+  pub behindness :
+      (later : List Event) (e : Event) (before : List Event) (t : ℕ) → log ≡ later ++ e ∷ before → Proper n e
+      → reads (translation t) (commandOf e) ≡ true
+      → late before (commandOf e) ≡ false
+      → rightMark before (commandOf e) ≡ true
+      → (e .answer .number ≡ 6) ↔ (outdated t before (commandOf e .card) ≡ true)
+  -- "An accepted read shows as many first bytes of its reply buffer as its length field says; they are the whole payload of the last earlier
+  -- accepted write of that card and language, or none if there is no such write."
+  pub showing :
+      (later : List Event) (e : Event) (before : List Event) (l : Language) → log ≡ later ++ e ∷ before
+      → e .answer .number ≡ 0
+      → reads l (commandOf e) ≡ true
+      → take (e .answer .length) (e .reply) ≡ lastText l before (commandOf e .card)
+  pub showing-length :
+      (later : List Event) (e : Event) (before : List Event) (l : Language) → log ≡ later ++ e ∷ before
+      → e .answer .number ≡ 0
+      → reads l (commandOf e) ≡ true
+      → e .answer .length ≡ length (lastText l before (commandOf e .card))
+  -- under the premise, between two accepted commands of one session no command of another desk is accepted for that card, unless both are shared
+  pub isolation :
+      (k : ℕ) (later : List Event) (b : Event) (between : List Event) (a : Event) (before : List Event)
+      → premise k sent ≡ true
+      → log ≡ later ++ b ∷ (between ++ a ∷ before)
+      → accepted k a ≡ true
+      → accepted k b ≡ true
+      → OneSession a b
+      → none (intrudes k b) between ≡ true
+
+-- Demand 3: from a fresh image of any N and C that the rules allow, for every list of lent bytes and reply buffers.
+abbrev pub Demand3 : Type 0
+Demand3 = (n c : ℕ) → T (shapeOk n c) → (sent : List Sent) → AllBytes sent → Claim n sent (logOf n c sent)
+
+-- A log in which an accepted command of another desk stands between two accepted commands of one session for card 0.
+pub record Intruded (log : List Event) : Type 0 where
+  pub a : Event
+  pub e : Event
+  pub b : Event
+  pub split : log ≡ b ∷ e ∷ a ∷ []
+  pub first : accepted 0 a ≡ true
+  pub second : accepted 0 b ≡ true
+  pub same : OneSession a b
+  pub intruder : intrudes 0 b e ≡ true
+
+-- The premise is neither empty nor idle: it holds of trial a's list and fails of trial d's ("the premise on shared stamps is broken here"), in
+-- whose log sessions are not isolated.
+pub record PremiseTells : Type 0 where
+  pub holds : premise 0 sentA ≡ true
+  pub fails : premise 0 sentD ≡ false
+  pub without : Intruded (logOf 1 16 sentD)
+
+-- Demand 2: "a number is given exactly when its row applies and no earlier row does", and 0 exactly when none applies.
+pub record Given (image command reply : List ℕ) : Type 0 where
+  pub refused :
+      (n : ℕ) → (serve image command reply .answer .number ≡ suc n)
+      ↔ (T (applies (suc n) (storeRows image command (length reply))) × T (noRow (earlier (suc n) (storeRows image command (length reply)))))
+  pub accepts : (serve image command reply .answer .number ≡ 0) ↔ T (noRow (storeRows image command (length reply)))
+
+abbrev pub Exactly : Type 0
+Exactly = (image command reply : List ℕ) → Given image command reply
+
+-- Demand 1: every number is from the list, and a refusal changes nothing.
+pub record Safe (image command reply : List ℕ) : Type 0 where
+  pub listed : serve image command reply .answer .number ≤ 9
+  pub kept :
+      (n : ℕ) → serve image command reply .answer .number ≡ suc n
+      → (serve image command reply .image ≡ image) × (serve image command reply .reply ≡ reply)
+
+abbrev pub Refusals : Type 0
+Refusals = (image command reply : List ℕ) → Safe image command reply

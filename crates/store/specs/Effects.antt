@@ -1,0 +1,43 @@
+-- One well-formed command for a card that exists, on a sound image, in the terms of the step's own functions: the judging entry, the bytes while
+-- an accepted command is carried out, and what is left. A request as a whole is `serve`.
+-- Assumes nothing.
+use Prim.Native.Nat.{ℕ}
+use mathlib.Core.List.{List}
+use mathlib.Core.Bool.{cond}
+use lib.ListN.{length}
+use Rattle.endian.specs.Parts.{splice}
+use Rattle.guard.specs.Command.{original, translation, writes}
+use Rattle.guard.specs.Judge.{judged, replied}
+use Rattle.guard.specs.Table.{settled}
+use Rattle.guard.specs.declared.Command.{Command}
+use Rattle.guard.specs.declared.Judged.{Judged}
+use Rattle.image.specs.Image.{bodyPlace, countOf, roomOf, pad, entryAt, cardAt, withCard, encode, decode}
+use Rattle.store.specs.Serve.{Outcome, textRead, stepped}
+
+-- An image with a text in a body of card k, "writing zeroes the rest of that body": side 0 is the original, side 1 the translation.
+abbrev pub bodyWritten : List ℕ → ℕ → ℕ → List ℕ → List ℕ
+bodyWritten image k side text = splice (bodyPlace (countOf image) (roomOf image) k side) (pad (roomOf image) text) image
+
+-- An image with a command's payload in place of the text that it writes, if it writes one.
+unfoldable pub textWritten : List ℕ → Command → List ℕ → List ℕ
+textWritten image c text =
+    cond
+    (writes original c)
+    (bodyWritten image (c .card) 0 text)
+    (cond (writes (translation 0) c) (bodyWritten image (c .card) 1 text) image)
+
+-- The entry of the card that a command names judges it.
+abbrev pub judgedAt : List ℕ → Command → ℕ → Judged
+judgedAt image c lent = judged (entryAt image (c .card)) c (roomOf image) lent
+
+-- What a command with its payload leaves.
+unfoldable pub carried : List ℕ → Command → List ℕ → List ℕ → Outcome
+carried image c text reply =
+    record {
+      answer = replied (judgedAt image c (length reply) .number) (judgedAt image c (length reply) .entry) c;
+      image =
+          settled (judgedAt image c (length reply) .number)
+          (encode (withCard (c .card) (stepped (cardAt image (c .card)) c text) (decode image)))
+          image;
+      reply = settled (judgedAt image c (length reply) .number) (splice 0 (textRead (cardAt image (c .card)) c) reply) reply;
+    }

@@ -1,0 +1,5 @@
+pub mod Serve
+pub mod Effects
+pub mod Words
+pub mod Claims
+pub mod Cases

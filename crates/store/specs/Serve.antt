@@ -1,0 +1,82 @@
+-- One request on an image: the table, the reply fields, the image after and the reply buffer after (the sheet, "When the store says no").
+-- Assumes nothing.
+use Prim.Native.Nat.{ℕ}
+use mathlib.Core.List.{List, [], _∷_}
+use mathlib.Core.Bool.{Bool, cond, not}
+use lib.ListN.{length, getD}
+use lib.Dec.{ltb}
+use Rattle.endian.specs.Parts.{splice}
+use Rattle.guard.specs.Command.{original, translation, reads, writes, fieldsOf, payload, formed}
+use Rattle.guard.specs.Table.{Row, row, first, settled}
+use Rattle.guard.specs.Judge.{entryRows, raise, replied}
+use Rattle.guard.specs.declared.Answer.{Answer}
+use Rattle.guard.specs.declared.Command.{Command}
+use Rattle.image.specs.Image.{Card, Cards, text, withCard, noCard, encode, decode, sound}
+
+-- The card that a command names; an empty one where there is none.
+abbrev pub cardOf : Cards → Command → Card
+cardOf cs c = getD (cs .cards) (c .card) noCard
+
+-- Rows 1 to 8 of the table, on a store's cards, a command's lent bytes and the length of the lent reply buffer.
+abbrev pub requestRows : Cards → List ℕ → ℕ → List Row
+requestRows cs command lent =
+    -- 1: command malformed
+    row (not (formed command)) 1
+    -- 2: card is N or more
+    ∷ row (not (ltb (fieldsOf command .card) (length (cs .cards)))) 2
+    -- 3 to 8
+    ∷ entryRows (cardOf cs (fieldsOf command) .entry) (fieldsOf command) (cs .room) lent
+
+-- The whole table.
+abbrev pub storeRows : List ℕ → List ℕ → ℕ → List Row
+storeRows image command lent =
+    -- 9: image not sound
+    row (not (sound image)) 9
+    ∷ requestRows (decode image) command lent
+
+-- The text that a command reads.
+abbrev pub textRead : Card → Command → List ℕ
+textRead card c = cond (reads original c) (text original card) (cond (reads (translation 0) c) (text (translation 0) card) [])
+
+-- The card after an accepted command: the raised entry, and the payload in place of the text that it writes.
+unfoldable pub stepped : Card → Command → List ℕ → Card
+stepped card c written =
+    record {
+      entry = raise (card .entry) c;
+      original = cond (writes original c) written (card .original);
+      translation = cond (writes (translation 0) c) written (card .translation);
+    }
+
+-- The cards after an accepted command: its card alone changes.
+abbrev pub cardsAfter : Cards → List ℕ → Cards
+cardsAfter cs command =
+    withCard (fieldsOf command .card) (stepped (cardOf cs (fieldsOf command)) (fieldsOf command) (payload command)) cs
+
+-- What a request leaves: its answer, the image and the reply buffer.
+pub record Outcome : Type 0 where
+  pub answer : Answer
+  pub image : List ℕ
+  pub reply : List ℕ
+
+-- What a number makes of a request on a store's cards: the reply fields are the entry's as it now is; "an accepted read fills the first bytes of
+-- the reply buffer; the rest keeps its bytes, and every other answer writes nothing there. Refusals change no byte of the image."
+abbrev pub answerBy : ℕ → Cards → List ℕ → Answer
+answerBy number cs command =
+    replied number
+    (settled number (raise (cardOf cs (fieldsOf command) .entry) (fieldsOf command)) (cardOf cs (fieldsOf command) .entry))
+    (fieldsOf command)
+
+abbrev pub replyBy : ℕ → Cards → List ℕ → List ℕ → List ℕ
+replyBy number cs command reply = settled number (splice 0 (textRead (cardOf cs (fieldsOf command)) (fieldsOf command)) reply) reply
+
+unfoldable pub serveBy : ℕ → List ℕ → List ℕ → List ℕ → Outcome
+serveBy number image command reply =
+    record {
+      answer = answerBy number (decode image) command;
+      image = settled number (encode (cardsAfter (decode image) command)) image;
+      reply = replyBy number (decode image) command reply;
+    }
+
+-- One request: the first row that applies gives its number.
+unfoldable pub serve : List ℕ → List ℕ → List ℕ → Outcome
+serve image command reply = serveBy (first (storeRows image command (length reply))) image command reply

@@ -1,0 +1,145 @@
+-- The words of demand 3 (the sheet, "The words of demand 3"), on the events of a list of requests, latest first.
+-- Assumes nothing.
+use Prim.Native.Nat.{ℕ}
+use mathlib.Core.Path.{_≡_}
+use mathlib.Core.List.{List, [], _∷_, reverse}
+use mathlib.Core.Bool.{Bool, true, false, cond, not, _&&_, _||_}
+use lib.Dec.{ltb, eqb}
+use Rattle.guard.specs.Stamp.{shared, exclusive, deskStart}
+use Rattle.guard.specs.Command.{Language, original, translation, writes, verifier, update, fieldsOf, payload, formed, session, noMark}
+use Rattle.guard.specs.Judge.{markFits}
+use Rattle.guard.specs.declared.Answer.{Answer}
+use Rattle.guard.specs.declared.Command.{Command}
+use Rattle.image.specs.Image.{fresh}
+use Rattle.store.specs.Serve.{Outcome, serve}
+
+-- A request as it is sent: "any lent bytes .., with a reply buffer of any length and content".
+pub record Sent : Type 0 where
+  pub command : List ℕ
+  pub lent : List ℕ
+
+-- What its sender sees of it: what was sent, the answer, and the reply buffer afterwards.
+pub record Event : Type 0 where
+  pub sent : Sent
+  pub answer : Answer
+  pub reply : List ℕ
+
+abbrev pub eventOf : Sent → Outcome → Event
+eventOf s o = record { sent = s; answer = o .answer; reply = o .reply }
+
+-- The image after requests, latest first: "each is judged .. on the image as the one before left it; nothing else writes the image meanwhile".
+unfoldable pub imageAfter : List ℕ → List Sent → List ℕ
+imageAfter start [] = start
+imageAfter start (s ∷ earlier) = serve (imageAfter start earlier) (s .command) (s .lent) .image
+
+-- Their events, latest first.
+unfoldable pub history : List ℕ → List Sent → List Event
+history start [] = []
+history start (s ∷ earlier) =
+    eventOf s (serve (imageAfter start earlier) (s .command) (s .lent)) ∷ history start earlier
+
+-- The log of requests in the order in which they are sent, from a fresh image: "its list starts from a fresh image".
+unfoldable pub logOf : ℕ → ℕ → List Sent → List Event
+logOf n c sent = history (fresh n c) (reverse sent)
+
+module _ {A : Type 0} where
+  -- Some element of the list is so.
+  abbrev pub any : (A → Bool) → List A → Bool
+  any p [] = false
+  any p (a ∷ l) = p a || any p l
+
+  -- No element of the list is so.
+  abbrev pub none : (A → Bool) → List A → Bool
+  none p l = not (any p l)
+
+  -- The elements since the last that is so, that one left out; all where none is so. (The latest stands first.)
+  abbrev pub since : (A → Bool) → List A → List A
+  since p [] = []
+  since p (a ∷ l) = cond (p a) [] (a ∷ since p l)
+
+  -- What `f` says of the last element that is so, and `d` where none is so. (The latest stands first.)
+  abbrev pub last : {B : Type 0} → (A → Bool) → (A → B) → B → List A → B
+  last p f d [] = d
+  last p f d (a ∷ l) = cond (p a) (f a) (last p f d l)
+
+-- The numbers of an event's command.
+abbrev pub commandOf : Event → Command
+commandOf e = fieldsOf (e .sent .command)
+
+-- "Accepted is answer 0, refused as stale 3, as behind 6." An accepted command for card k.
+abbrev pub accepted : ℕ → Event → Bool
+accepted k e = eqb (e .answer .number) 0 && eqb (commandOf e .card) k
+
+-- An accepted write of card k in a language.
+abbrev pub wrote : Language → ℕ → Event → Bool
+wrote l k e = accepted k e && writes l (commandOf e)
+
+-- "A command is well formed if row 1 does not apply; a card exists if it is below N."
+pub record Proper (n : ℕ) (e : Event) : Type 0 where
+  pub wellFormed : formed (e .sent .command) ≡ true
+  pub exists : ltb (commandOf e .card) n ≡ true
+
+-- An accepted command for card k whose pair has a larger s, or a larger x.
+abbrev pub largerS : ℕ → Command → Event → Bool
+largerS k c e = accepted k e && ltb (verifier c .s) (update (commandOf e) .s)
+
+abbrev pub largerX : ℕ → Command → Event → Bool
+largerX k c e = accepted k e && ltb (verifier c .x) (update (commandOf e) .x)
+
+-- A command comes late: shared, if an earlier accepted command for its card has a larger x; exclusive, if one has a larger s or a larger x.
+abbrev pub late : List Event → Command → Bool
+late before c = any (largerX (c .card) c) before || eqb (c .mode) exclusive && any (largerS (c .card) c) before
+
+-- "A commit mark is right if it passes number 4's comparison with the next mark of the last earlier accepted command for that card, or with
+-- zeros if there is none."
+abbrev pub rightMark : List Event → Command → Bool
+rightMark before c = markFits (last (accepted (c .card)) (λ e. commandOf e .next) noMark before) (c .expected)
+
+-- Translation t of card k is behind: none was accepted since the last accepted write of the original.
+abbrev pub outdated : ℕ → List Event → ℕ → Bool
+outdated t before k = none (wrote (translation t) k) (since (wrote original k) before)
+
+-- "The whole payload of the last earlier accepted write of that card and language, or none if there is no such write."
+abbrev pub lastText : Language → List Event → ℕ → List ℕ
+lastText l before k = last (wrote l k) (λ e. payload (e .sent .command)) [] before
+
+-- "A shared command carries another desk's exclusive stamp if its x is nonzero and differs from its s in desk or start".
+abbrev pub carries : Command → Bool
+carries c =
+    eqb (c .mode) shared
+    && not (eqb (update c .x) 0)
+    && not (eqb (deskStart (update c .x)) (deskStart (update c .s)))
+
+-- "Exclusive commands under a stamp have it as their x."
+abbrev pub under : ℕ → Command → Bool
+under stamp c = eqb (c .mode) exclusive && eqb (update c .x) stamp
+
+-- A well-formed command for card k, of the list of what was sent.
+abbrev pub sentFor : ℕ → Sent → Bool
+sentFor k s = formed (s .command) && eqb (fieldsOf (s .command) .card) k
+
+-- One command breaks the premise with another: it carries another desk's exclusive stamp, the other is exclusive under that stamp, and its s is
+-- not above the other's.
+abbrev pub breaks : Command → Command → Bool
+breaks c d = carries c && under (update c .x) d && not (ltb (update d .s) (update c .s))
+
+-- The premise for card k: a shared command that carries another desk's exclusive stamp has its s above that of every exclusive command under that
+-- stamp. "The premise counts every well-formed command of the list for that card, refused ones too, in any order."
+abbrev pub premise : ℕ → List Sent → Bool
+premise k sent =
+    none (λ a. sentFor k a && any (λ b. sentFor k b && breaks (fieldsOf (a .command)) (fieldsOf (b .command))) sent) sent
+
+-- "Two commands are of one session if card, desk, mode and pair are equal."
+abbrev pub OneSession : Event → Event → Type 0
+OneSession a b = session (commandOf a) ≡ session (commandOf b)
+
+-- The desk of an event's command: its session's.
+abbrev pub deskIn : Event → ℕ
+deskIn e = session (commandOf e) .desk
+
+-- An accepted command for card k of another desk than b's that does not go together with b: one of the two is exclusive.
+abbrev pub intrudes : ℕ → Event → Event → Bool
+intrudes k b e =
+    accepted k e
+    && not (eqb (deskIn e) (deskIn b))
+    && (eqb (commandOf b .mode) exclusive || eqb (commandOf e .mode) exclusive)

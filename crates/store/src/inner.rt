@@ -1,0 +1,115 @@
+ghost use mathlib.Core.Path.{_≡_};
+ghost use mathlib.Core.Bool.{true};
+ghost use Prim.Native.Nat.{_<_, _≤_};
+ghost use lib.ListN.{length};
+ghost use Rattle.endian.specs.Parts.{splice};
+ghost use Rattle.guard.specs.Judge.{raise, readLength};
+ghost use Rattle.image.specs.Image.{bodyPlace, countOf, roomOf, entryAt, cardAt, withCard, encode, decode, sound};
+ghost use Rattle.store.specs.Effects.{textWritten, carried};
+ghost use Rattle.store.specs.Serve.{textRead, stepped, serve};
+use guard::Answer;
+use guard::Command;
+use guard::Entry;
+use guard::Parsed;
+use guard::entries::ACCEPTED;
+use guard::entries::MALFORMED;
+use guard::entries::NO_CARD;
+use image::layout;
+
+// The sides of a card's bodies.
+const ORIGINAL: u8 = 0;
+
+const TRANSLATION: u8 = 1;
+
+// Where a body of card k stands in a sound image.
+fn body_at(image: &[u8], k: u16, side: u8) -> usize
+    requires { ⌜ sound (now image) ≡ true ⌝ }
+    ensures { λ r. ⌜ r ≡ bodyPlace (countOf (now (image .entry))) (roomOf (now (image .entry))) k side ⌝ }
+{
+    layout::body_place(
+        image::inner::count(image),
+        image::inner::room(image),
+        k,
+        side,
+    )
+}
+
+// Copies the text that an accepted command reads, if any, into the first bytes of the reply buffer.
+fn show(image: &[u8], c: Command, e: Entry, reply: &mut [u8])
+    requires { ⌜ (sound (now image) ≡ true) × (c .card < countOf (now image)) × (e ≡ entryAt (now image) (c .card)) × (readLength e c ≤ length (now reply)) ⌝ }
+    ensures { λ _. ⌜ now (reply .exit) ≡ splice 0 (textRead (cardAt (now (image .entry)) (c .card)) c) (now (reply .entry)) ⌝ }
+{
+    if c.reads_original() {
+        image::inner::read_text(image, body_at(image, c.card, ORIGINAL), e.original, reply);
+        return;
+    }
+    if c.reads_translation() {
+        image::inner::read_text(
+            image,
+            body_at(image, c.card, TRANSLATION),
+            e.translation,
+            reply,
+        );
+    }
+}
+
+// Writes the payload of an accepted command in place of the text that it writes, if it writes one.
+fn write(image: &mut [u8], c: Command, text: &[u8])
+    requires { ⌜ (sound (now image) ≡ true) × (c .card < countOf (now image)) × (length (now text) ≤ roomOf (now image)) ⌝ }
+    ensures { λ _. ⌜ now (image .exit) ≡ textWritten (now (image .entry)) c (now (text .entry)) ⌝ }
+{
+    let room = image::inner::room(image);
+    if c.writes_original() {
+        let at = body_at(image, c.card, ORIGINAL);
+        image::inner::write_text(image, at, room, text);
+        return;
+    }
+    if c.writes_translation() {
+        let at = body_at(image, c.card, TRANSLATION);
+        image::inner::write_text(image, at, room, text);
+    }
+}
+
+// Carries out an accepted command on the image: its payload in place of the text that it writes, and the raised entry.
+fn keep(image: &mut [u8], c: Command, e: Entry, text: &[u8])
+    requires { ⌜ (sound (now image) ≡ true) × (c .card < countOf (now image)) × (length (now text) ≤ roomOf (now image)) × (e ≡ raise (entryAt (now image) (c .card)) c) ⌝ }
+    ensures { λ _. ⌜ now (image .exit)
+        ≡ encode (withCard (c .card) (stepped (cardAt (now (image .entry)) (c .card)) c (now (text .entry))) (decode (now (image .entry)))) ⌝ }
+{
+    write(image, c, text);
+    image::inner::write_entry(image, c.card, e);
+}
+
+// A command for a card that exists, on a sound image: its entry judges, and an accepted command is carried out.
+fn carry(image: &mut [u8], c: Command, text: &[u8], reply: &mut [u8]) -> Answer
+    requires { ⌜ (sound (now image) ≡ true) × (c .card < countOf (now image)) × (length (now text) ≡ c .length) ⌝ }
+    ensures answer { λ r. ⌜ r ≡ carried (now (image .entry)) c (now (text .entry)) (now (reply .entry)) .answer ⌝ }
+    ensures image { λ _. ⌜ now (image .exit) ≡ carried (now (image .entry)) c (now (text .entry)) (now (reply .entry)) .image ⌝ }
+    ensures reply { λ _. ⌜ now (reply .exit) ≡ carried (now (image .entry)) c (now (text .entry)) (now (reply .entry)) .reply ⌝ }
+{
+    let e = image::inner::read_entry(image, c.card);
+    let judged = e.judge(c, image::inner::room(image), reply.len());
+    if judged.number != ACCEPTED {
+        return judged.reply(c);
+    }
+    show(image, c, e, reply);
+    keep(image, c, judged.entry, text);
+    judged.reply(c)
+}
+
+// One request on a sound image, which it keeps sound.
+pub fn step(image: &mut [u8], command: &[u8], reply: &mut [u8]) -> Answer
+    requires { ⌜ sound (now image) ≡ true ⌝ }
+    ensures answer { λ r. ⌜ r ≡ serve (now (image .entry)) (now (command .entry)) (now (reply .entry)) .answer ⌝ }
+    ensures image { λ _. ⌜ now (image .exit) ≡ serve (now (image .entry)) (now (command .entry)) (now (reply .entry)) .image ⌝ }
+    ensures reply { λ _. ⌜ now (reply .exit) ≡ serve (now (image .entry)) (now (command .entry)) (now (reply .entry)) .reply ⌝ }
+    ensures kept { λ _. ⌜ sound (now (image .exit)) ≡ true ⌝ }
+{
+    let Parsed::Formed(c) = guard::parse(command) else {
+        return guard::refusal(MALFORMED);
+    };
+    if image::inner::count(image) <= c.card {
+        return guard::refusal(NO_CARD);
+    }
+    carry(image, c, &command[guard::FIXED..], reply)
+}

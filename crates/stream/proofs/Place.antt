@@ -1,0 +1,97 @@
+-- What stands at a place of a stream. Assumes nothing.
+use Prim.Native.Nat.{ℕ, _+_, _≤_, _<_}
+use native.Mathlib.Omega.{arith}
+use native.Mathlib.Nat.{add-assoc}
+use mathlib.Core.Path.{_≡_, refl, sym, ap, _∙_}
+use mathlib.Core.List.{List, _++_}
+use mathlib.Core.Bool.{Bool, true, false}
+use borrow.Author.Tests.{leb-true, le-leb}
+use lib.Dec.{leb}
+use lib.ListN.{length, take, drop, length-drop}
+use Rattle.endian.specs.Parts.{part}
+use Rattle.endian.specs.Le.{le}
+use Rattle.endian.proofs.Parts.{part-drop, part-take, part-append-left}
+use Rattle.endian.proofs.Tests.{and-in, and-right}
+use Rattle.guard.specs.Command.{fixed}
+use Rattle.stream.specs.Stream.{extent, whole, nextAt}
+use Rattle.stream.specs.declared.Next.the-variants.{Whole, Cut}
+
+-- ---- the command that begins some bytes
+
+pub extent-fixed : (s : List ℕ) → fixed ≤ extent s
+unfolding extent
+extent-fixed s = omega arith
+
+-- Its length stands in its fixed part.
+pub extent-take : (n : ℕ) (s : List ℕ) → fixed ≤ n → extent (take n s) ≡ extent s
+unfolding extent
+extent-take n s h = ap (λ (l : List ℕ). fixed + le l) (part-take _ 2 n s (omega arith))
+
+pub extent-append : (c s : List ℕ) → fixed ≤ length c → extent (c ++ s) ≡ extent c
+unfolding extent
+extent-append c s h = ap (λ (l : List ℕ). fixed + le l) (part-append-left _ 2 c s (omega arith))
+
+pub extent-at : (at : ℕ) (s : List ℕ) → extent (drop at s) ≡ fixed + le (part (at + 50) 2 s)
+unfolding extent
+extent-at at s = ap (λ (l : List ℕ). fixed + le l) (part-drop _ 2 at s)
+
+pub whole-in : (s : List ℕ) → extent s ≤ length s → whole s ≡ true
+unfolding whole
+whole-in s h = and-in (le-leb fixed (length s) (omega (arith, extent-fixed s))) (le-leb (extent s) (length s) h)
+
+pub whole-out : (s : List ℕ) → whole s ≡ true → extent s ≤ length s
+unfolding whole
+whole-out s e = leb-true (extent s) (length s) (and-right (leb fixed (length s)) (leb (extent s) (length s)) e)
+
+pub cut-in : (s : List ℕ) → length s < extent s → whole s ≡ false
+cut-in s h = go (whole s) refl
+  where
+    go : (b : Bool) → whole s ≡ b → b ≡ false
+    go true e = absurd (omega (arith, whole-out s e))
+    go false e = refl
+
+pub cut-short : (s : List ℕ) → length s < fixed → whole s ≡ false
+cut-short s h = cut-in s (omega (arith, extent-fixed s))
+
+-- ---- what stands at a place
+
+module _ (stream : List ℕ) (at : ℕ) where
+  pub next-whole : whole (drop at stream) ≡ true → nextAt stream at ≡ Whole (at + extent (drop at stream))
+  unfolding nextAt
+  next-whole e = rw e
+
+  pub next-cut : whole (drop at stream) ≡ false → nextAt stream at ≡ Cut
+  unfolding nextAt
+  next-cut e = rw e
+
+  -- From the tests of the code, with the payload's length p.
+  pub shows-short : length stream < at + fixed → Cut ≡ nextAt stream at
+  shows-short h = sym (next-cut (cut-short (drop at stream) (simp length-drop (omega arith))))
+
+  pub shows-cut : (p : ℕ) → p ≡ le (part (at + 50) 2 stream) → length stream < at + fixed + p → Cut ≡ nextAt stream at
+  shows-cut p e h = sym (next-cut (cut-in (drop at stream) (rw (extent-at at stream, ← e) (simp length-drop (omega arith)))))
+
+  pub shows-whole : (p : ℕ) → p ≡ le (part (at + 50) 2 stream) → at + fixed + p ≤ length stream → Whole (at + fixed + p) ≡ nextAt stream at
+  shows-whole p e h =
+      let long : extent (drop at stream) ≡ fixed + p = extent-at at stream ∙ ap (λ (n : ℕ). fixed + n) (sym e) in
+      let place : at + extent (drop at stream) ≡ at + fixed + p = rw long (sym (add-assoc at fixed p)) in
+      sym (next-whole (whole-in (drop at stream) (rw long (simp length-drop (omega arith)))) ∙ ap Whole place)
+
+  -- What an answer says.
+  pub record Stands (end : ℕ) : Type 0 where
+    pub begins : whole (drop at stream) ≡ true
+    pub ends : end ≡ at + extent (drop at stream)
+
+  pub says-whole : (end : ℕ) → nextAt stream at ≡ Whole end → Stands end
+  says-whole end e = go (whole (drop at stream)) refl
+    where
+      go : (b : Bool) → whole (drop at stream) ≡ b → Stands end
+      go true q = record { begins = q; ends = let same : Whole end ≡ Whole (at + extent (drop at stream)) = sym e ∙ next-whole q in cc }
+      go false q = let never : Whole end ≡ Cut = sym e ∙ next-cut q in let z : _≡_ {A = ℕ} 0 1 = cc in absurd (omega arith)
+
+  pub says-cut : nextAt stream at ≡ Cut → whole (drop at stream) ≡ false
+  says-cut e = go (whole (drop at stream)) refl
+    where
+      go : (b : Bool) → whole (drop at stream) ≡ b → whole (drop at stream) ≡ false
+      go true q = let never : Whole (at + extent (drop at stream)) ≡ Cut = sym (next-whole q) ∙ e in let z : _≡_ {A = ℕ} 0 1 = cc in absurd (omega arith)
+      go false q = q

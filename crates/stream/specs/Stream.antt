@@ -1,0 +1,55 @@
+-- A stream: commands end to end (the sheet, "Streams and the program").
+-- Assumes nothing.
+use Prim.Native.Nat.{ℕ, zero, suc, _+_}
+use mathlib.Core.List.{List, [], _∷_}
+use mathlib.Core.Bool.{Bool, cond, _&&_}
+use lib.Dec.{leb}
+use lib.ListN.{length, take, drop}
+use Rattle.endian.specs.Parts.{spread}
+use Rattle.guard.specs.Command.{fixed, field}
+use Rattle.stream.specs.declared.Next.{Next}
+use Rattle.stream.specs.declared.Next.the-variants.{Whole, Cut}
+
+-- How long the command is that begins these bytes. "Offset 50 is always taken as the payload's length, so a malformed command is answered
+-- and passed over."
+unfoldable pub extent : List ℕ → ℕ
+extent bytes = fixed + field 50 2 bytes
+
+-- The bytes begin with a whole command: all of its fixed part, and all of its payload.
+unfoldable pub whole : List ℕ → Bool
+whole bytes = leb fixed (length bytes) && leb (extent bytes) (length bytes)
+
+-- What stands at a place of a stream. From a place beyond the end on nothing is left, which is no whole command.
+unfoldable pub nextAt : List ℕ → ℕ → Next
+nextAt stream at = cond (whole (drop at stream)) (Whole (at + extent (drop at stream))) Cut
+
+-- What the two cases say: the place to go on from, which is the place itself where no whole command stands.
+abbrev pub onward : ℕ → Next → ℕ
+onward at (Whole end) = end
+onward at Cut = at
+
+-- The whole commands of a stream, in order, up to the first that is not whole. Each takes at least one byte, so that as many steps as there
+-- are bytes are enough.
+unfoldable pub commandsWithin : ℕ → List ℕ → List (List ℕ)
+commandsWithin zero bytes = []
+commandsWithin (suc steps) bytes =
+    cond (whole bytes) (take (extent bytes) bytes ∷ commandsWithin steps (drop (extent bytes) bytes)) []
+
+unfoldable pub commands : List ℕ → List (List ℕ)
+commands stream = commandsWithin (length stream) stream
+
+-- "The reader ends the walk at the first command that is not whole and gives the byte where it begins."
+unfoldable pub endWithin : ℕ → List ℕ → ℕ
+endWithin zero bytes = 0
+endWithin (suc steps) bytes = cond (whole bytes) (extent bytes + endWithin steps (drop (extent bytes) bytes)) 0
+
+unfoldable pub endOf : List ℕ → ℕ
+endOf stream = endWithin (length stream) stream
+
+-- Commands end to end.
+abbrev pub endToEnd : List (List ℕ) → List ℕ
+endToEnd cs = spread (λ (c : List ℕ). c) cs
+
+-- The byte where the command with this number, counted from 0, begins.
+unfoldable pub placeOf : List ℕ → ℕ → ℕ
+placeOf stream i = length (endToEnd (take i (commands stream)))

@@ -1,0 +1,39 @@
+/* The card store, proved: the functions of libcapi.a (x86-64). */
+#ifndef LUPANIELE_H
+#define LUPANIELE_H
+
+#include <stdbool.h>
+#include <stddef.h>
+#include <stdint.h>
+
+/* Makes a fresh image: 0, or 14 and nothing written. */
+uint8_t lupaniele_make(uint8_t *image, size_t image_length, uint64_t cards, uint64_t room);
+
+/* Whether the bytes are a sound image. */
+bool lupaniele_sound(const uint8_t *image, size_t image_length);
+
+/* One request: the number, 0 to 9. fields: s, x, commit desk, transaction, edition, translated-from, length.
+   The text of an accepted read stands in the first `length` bytes of reply. */
+uint8_t lupaniele_answer(uint8_t *image, size_t image_length, const uint8_t *command, size_t command_length,
+                         uint8_t *reply, size_t reply_length, uint64_t fields[7]);
+
+/* The lock queue of one card: the mode, the s and the x of each place, of which the first `places` are lent;
+   kept: count, largest s, largest x. fields: holds (1 or 0), largest s, largest x, entries looked at. */
+uint8_t lupaniele_ask(uint8_t modes[32], uint64_t s[32], uint64_t x[32], uint64_t kept[3], uint64_t places,
+                      uint8_t mode, uint64_t asked_s, uint64_t asked_x, uint64_t fields[4]);
+uint8_t lupaniele_leave(uint8_t modes[32], uint64_t s[32], uint64_t x[32], uint64_t kept[3], uint64_t places,
+                        uint32_t desk, uint64_t fields[4]);
+
+/* The text that a desk shows: 0 and in count how many first bytes of the buffer asked for are the text, or 8 or 6
+   and none. asked: 0 the original, 1 the translation; any other gets 1. */
+uint8_t lupaniele_shown(const uint8_t *original, size_t original_size, const uint8_t *translation,
+                        size_t translation_size, uint64_t original_length, uint64_t translation_length,
+                        uint16_t edition, uint16_t from, uint8_t asked, uint64_t *count);
+
+/* Whether a whole command stands at a place of a stream; end: the place behind it, or the place itself. */
+bool lupaniele_next(const uint8_t *stream, size_t stream_length, uint64_t at, uint64_t *end);
+
+/* The byte where the first command of a stream that is not whole begins, or the stream's end. */
+uint64_t lupaniele_end(const uint8_t *stream, size_t stream_length);
+
+#endif

@@ -1,0 +1,22 @@
+//! The proved library and the second program side by side: both get the same
+//! input, and the first difference stops the run and prints the input.
+//!
+//! - [`proved`]: the proved library by its exported functions.
+//! - [`run`]: what a run counts, and how a difference is told.
+//! - [`answers`], [`lists`], [`queues`], [`desks`], [`streams`], [`program`]:
+//!   what is compared, part by part.
+//! - [`sessions`]: lists of commands as desks send them, sessions interleaved.
+//! - [`demand3`]: the sentences of demand 3, over a list of events.
+
+#![deny(missing_docs)]
+
+pub mod answers;
+pub mod demand3;
+pub mod desks;
+pub mod lists;
+pub mod program;
+pub mod proved;
+pub mod queues;
+pub mod run;
+pub mod sessions;
+pub mod streams;

@@ -1,0 +1,112 @@
+//! Lists of commands as desks send them: each desk opens sessions with a new
+//! stamp, and several open sessions send in turn. Now and then one breaks the
+//! way that pairs are proposed.
+
+use second::generate;
+use second::random::Random;
+use second::stamp::stamp;
+use second::{CommandFields, Entry, Layout, Mark, Pair};
+
+/// A session: a card, a mode and a pair.
+#[derive(Clone, Copy, Debug, Default)]
+struct Open {
+    card: u16,
+    mode: u8,
+    pair: Pair,
+}
+
+/// The desks of a store, their clock and the sessions that they opened.
+pub struct Desks {
+    time: u32,
+    open: Vec<Open>,
+    strict: bool,
+}
+
+impl Desks {
+    /// Desks that have sent nothing. Strict ones propose pairs only as the
+    /// papers have it, so that the premise of demand 3 holds.
+    pub fn new(strict: bool) -> Desks {
+        Desks {
+            time: 1,
+            open: Vec::new(),
+            strict,
+        }
+    }
+
+    /// The next command, for a card of this image.
+    pub fn command(&mut self, random: &mut Random, image: &[u8]) -> Vec<u8> {
+        if !self.strict && random.one_in(12) {
+            return generate::command(random, image);
+        }
+        if self.open.is_empty() || random.one_in(5) {
+            self.begin(random, image);
+        }
+        let recent = self.open.len().saturating_sub(4);
+        let session = match random.one_in(8) {
+            true => random.pick(&self.open),
+            false => random.pick(&self.open[recent..]),
+        };
+        sent(random, image, session)
+    }
+
+    /// A desk opens a session under a new stamp: shared with the largest
+    /// exclusive stamp, exclusive with the largest shared one or its own.
+    fn begin(&mut self, random: &mut Random, image: &[u8]) {
+        let cards = Layout::of_header(image).map_or(1, Layout::cards);
+        let card = random.index(cards) as u16;
+        let stored = stored(image, card).pair;
+        self.time += 1;
+        let own = stamp(self.time, random.between(1, 3) as u16, 0);
+        let mode = random.pick(&[1, 1, 2]);
+        let mut pair = match mode {
+            1 => Pair::new(own, stored.x),
+            _ => Pair::new(random.pick(&[own, stored.s.min(own)]), own),
+        };
+        if !self.strict && random.one_in(6) {
+            pair.s = stamp(random.below(self.time.into()) as u32, 2, 0);
+        }
+        self.open.push(Open { card, mode, pair });
+    }
+}
+
+fn stored(image: &[u8], card: u16) -> Entry {
+    let entry = Layout::of_header(image).and_then(|layout| layout.entry(image, card));
+    entry.unwrap_or_default()
+}
+
+/// A command of a session.
+fn sent(random: &mut Random, image: &[u8], session: Open) -> Vec<u8> {
+    let stored = stored(image, session.card);
+    let act = match session.mode {
+        1 => random.pick(&[1, 2, 2, 5]),
+        _ => random.pick(&[1, 2, 3, 3, 4, 4, 5]),
+    };
+    let marks = [
+        Mark::default(),
+        Mark::new(1, 7),
+        Mark::new(0x8001, 0x8000_0007),
+    ];
+    let fields = CommandFields {
+        act,
+        mode: session.mode,
+        card: session.card,
+        pair: session.pair,
+        expected: match random.one_in(10) {
+            true => random.pick(&marks),
+            false => stored.mark,
+        },
+        next: random.pick(&marks),
+        edition: match act {
+            4 => stored.edition.max(1),
+            _ => 0,
+        },
+        ..CommandFields::default()
+    };
+    match act {
+        3 | 4 => {
+            let length = random.pick(&[0, 1, 3, 16, 17]);
+            fields.with_payload(&random.bytes(length))
+        }
+        _ => fields.with_payload(&[]),
+    }
+}

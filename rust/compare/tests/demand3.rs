@@ -1,0 +1,118 @@
+//! The sentences of demand 3 speak: a list that a store could have answered
+//! passes, and the same list with one answer or one shown byte changed does
+//! not.
+
+use compare::demand3::{holds, Event, Spoken};
+use compare::proved;
+use second::short::*;
+use second::Pair;
+
+/// What the proved library answers to a list, each with a reply buffer of 16
+/// bytes.
+fn events(list: &[Vec<u8>]) -> Vec<Event> {
+    let mut image = vec![0; 80];
+    assert_eq!(proved::make(&mut image, 1, 16), 0);
+    let event = |command: &Vec<u8>| {
+        let lent = vec![0xaa; 16];
+        let mut reply = lent.clone();
+        let answer = proved::answer(&mut image, command, &mut reply);
+        Event {
+            command: command.clone(),
+            lent,
+            number: answer.number,
+            length: answer.fields[6] as usize,
+            reply,
+        }
+    };
+    list.iter().map(event).collect()
+}
+
+/// Writes, reads of both languages, a late command, one that is behind.
+fn list() -> Vec<Vec<u8>> {
+    vec![
+        write_original(a_prime(), b"first"),
+        command(READ_ORIGINAL, EXCLUSIVE, a_prime()),
+        command(READ_TRANSLATION, EXCLUSIVE, a_prime()),
+        write_translation(a_prime(), 1, b"premier"),
+        command(READ_TRANSLATION, SHARED, b()),
+        command(VERIFY, EXCLUSIVE, b_prime()),
+        command(VERIFY, EXCLUSIVE, a_prime()),
+        command(READ_TRANSLATION, SHARED, b_prime()),
+    ]
+}
+
+fn says(events: &[Event]) -> Result<(), String> {
+    holds(1, events, &mut Spoken::default())
+}
+
+#[test]
+fn what_the_store_answers_passes() {
+    let events = events(&list());
+    let numbers: Vec<u8> = events.iter().map(|event| event.number).collect();
+    assert_eq!(numbers, [0, 0, 6, 0, 0, 0, 3, 0]);
+    assert_eq!(says(&events), Ok(()));
+}
+
+/// Another number at one place of the list.
+fn with_number(at: usize, number: u8) -> Result<(), String> {
+    let mut events = events(&list());
+    events[at].number = number;
+    says(&events)
+}
+
+#[test]
+fn a_late_command_that_is_not_refused_as_stale() {
+    assert!(with_number(6, 0).is_err());
+    assert!(with_number(6, 4).is_err());
+}
+
+#[test]
+fn a_command_in_time_that_is_refused_as_stale() {
+    assert!(with_number(5, 3).is_err());
+}
+
+#[test]
+fn a_translation_behind_that_is_read() {
+    assert!(with_number(2, 0).is_err());
+}
+
+#[test]
+fn a_translation_not_behind_that_is_refused() {
+    assert!(with_number(4, 6).is_err());
+}
+
+#[test]
+fn another_text_shown() {
+    for (at, length) in [(1, 5), (4, 7), (7, 7)] {
+        let mut events = events(&list());
+        assert_eq!(events[at].length, length);
+        events[at].reply[0] ^= 1;
+        assert!(says(&events).is_err());
+        events[at].reply[0] ^= 1;
+        events[at].length -= 1;
+        assert!(says(&events).is_err());
+        events[at].length = 0;
+        assert!(says(&events).is_err());
+    }
+}
+
+/// Trial d: with the premise broken an exclusive session is not isolated, and
+/// the list passes; the same answers with the premise do not.
+#[test]
+fn an_intruder_between_two_commands_of_one_session() {
+    let small = |s| command(VERIFY, SHARED, Pair::new(s, at(1, 1)));
+    let own = command(VERIFY, EXCLUSIVE, a_prime());
+    let mut events = events(&[own.clone(), small(at(0, 2)), own]);
+    assert!(events.iter().all(|event| event.number == 0));
+    assert_eq!(says(&events), Ok(()));
+    events[1].command = small(at(2, 2));
+    assert!(says(&events).is_err());
+}
+
+/// A list in which the same desk sends between is not an intrusion.
+#[test]
+fn the_same_desk_between() {
+    let own = command(VERIFY, EXCLUSIVE, a_prime());
+    let shared = command(VERIFY, SHARED, a_prime());
+    assert_eq!(says(&events(&[own.clone(), shared, own])), Ok(()));
+}
