@@ -45,7 +45,7 @@ const NEXT: usize = 42;
 
 const EDITION: usize = 48;
 
-const LENGTH: usize = 50;
+pub const LENGTH: usize = 50;
 
 impl Command {
     // Act 1 reads the original.

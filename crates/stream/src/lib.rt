@@ -4,9 +4,7 @@ ghost use Rattle.stream.specs.Stream.{nextAt, endOf};
 ghost use Rattle.stream.specs.Reader.{begun, movedTo};
 use endian::inner::read_u16;
 use guard::FIXED;
-
-// Where in a command the payload's length stands.
-const LENGTH: usize = 50;
+use guard::commands::LENGTH;
 
 // What stands at a place of a stream: a whole command, and the place behind it; or none that is whole.
 pub enum Next {
