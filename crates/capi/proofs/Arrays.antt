@@ -5,7 +5,7 @@ use native.Mathlib.Nat.{zero-add, not-suc-le-zero, le-of-suc-le-suc}
 use mathlib.Core.Path.{_≡_, refl, sym, ap, _∙_}
 use mathlib.Core.List.{List, [], _∷_, map}
 use lib.ListN.{length, drop, getD, set, drop-of-length-le, length-map}
-use Rattle.endian.proofs.Parts.{drop-left, splice-whole}
+use Rattle.lists.proofs.Parts.{drop-left, splice-whole}
 use Rattle.endian.proofs.Loops.{Writing, writing-none, writing-more, writing-done}
 
 module _ {A : Type 0} where

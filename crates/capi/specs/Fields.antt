@@ -3,7 +3,7 @@ use Prim.Native.Nat.{ℕ}
 use mathlib.Core.List.{List, [], _∷_, map}
 use mathlib.Core.Bool.{cond}
 use lib.ListN.{getD}
-use Rattle.endian.specs.Parts.{table}
+use Rattle.lists.specs.Parts.{table}
 use Rattle.guard.specs.declared.Answer.{Answer}
 use Rattle.lock_queue.specs.Queue.{State, mostPlaces}
 use Rattle.lock_queue.specs.declared.Answer.{Answer as QueueAnswer}

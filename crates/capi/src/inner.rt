@@ -4,10 +4,10 @@ ghost use Rattle.desk.specs.Show.{text, shownNumber, shownPart};
 ghost use Rattle.lock_queue.specs.Queue.{state};
 ghost use Rattle.capi.specs.Fields.{fieldsOf, placesOf, queueOf, modesOf, sharedOf, exclusiveOf, keptOf, answerOf};
 use desk::Language;
-use guard::Pair;
 use lock_queue::Places;
 use lock_queue::Queue;
 use lock_queue::Waiting;
+use stamps::Pair;
 
 // The seven reply fields as numbers.
 pub fn write_fields(fields: &mut [u64; 7], a: guard::Answer)

@@ -2,7 +2,7 @@
 // A slice is a pointer and a length, a reference to a number or to an array a pointer.
 ghost use mathlib.Core.Path.{_≡_};
 ghost use lib.ListN.{length};
-ghost use Rattle.guard.specs.Table.{settled};
+ghost use Rattle.lists.specs.Table.{settled};
 ghost use Rattle.image.specs.Image.{sound, makeNumber, fresh};
 ghost use Rattle.store.specs.Serve.{serve};
 ghost use Rattle.lock_queue.specs.Requests.{Request, answer, after};
@@ -12,8 +12,8 @@ ghost use Rattle.capi.specs.Fields.{fieldsOf, waiting, queueOf, modesOf,
 ghost use Rattle.capi.specs.Shown.{askedNumber, shownLength};
 ghost use Rattle.capi.specs.Places.{stands};
 use desk::Language;
-use guard::Pair;
 use lock_queue::Waiting;
+use stamps::Pair;
 use stream::Next;
 
 mod inner;

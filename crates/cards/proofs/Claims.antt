@@ -4,7 +4,7 @@ use native.Mathlib.Nat.{le-of-suc-le-suc, not-suc-le-zero}
 use mathlib.Core.Path.{_≡_, refl, ap}
 use mathlib.Core.List.{List, [], _∷_}
 use lib.ListN.{length, take, getD}
-use Rattle.endian.proofs.Spread.{part-spread}
+use Rattle.lists.proofs.Spread.{part-spread}
 use Rattle.guard.specs.declared.Answer.{Answer}
 use Rattle.store.specs.Serve.{serve}
 use Rattle.cards.specs.Run.{numbersOf, perLine, runs}

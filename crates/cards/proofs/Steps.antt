@@ -10,10 +10,10 @@ use lib.Dec.{leb, leb→le}
 use borrow.Author.Tests.{le-leb, lt-leb}
 use native.Mathlib.Omega.{arith}
 use native.Mathlib.Nat.{zero-add}
-use Rattle.endian.specs.Parts.{part, splice, spread}
+use Rattle.lists.specs.Parts.{part, splice, spread}
 use Rattle.endian.specs.Le.{le}
-use Rattle.endian.proofs.Parts.{part-take, part-replicate, splice-nil, splice-adjacent, length-splice}
-use Rattle.endian.proofs.Tests.{to-T, and-left, and-right}
+use Rattle.lists.proofs.Parts.{part-take, part-replicate, splice-nil, splice-adjacent, length-splice}
+use Rattle.lists.proofs.Tests.{to-T, and-left, and-right}
 use Rattle.guard.specs.declared.Answer.{Answer}
 use Rattle.image.specs.Image.{headerSize, mostBytes, mostRoom, countOf, roomOf, sound}
 use Rattle.image.proofs.Decode.{shape-holds}

@@ -4,7 +4,7 @@ use Prim.Native.Nat.{ℕ, _*_, _<_}
 use mathlib.Core.Path.{_≡_}
 use mathlib.Core.List.{List, []}
 use lib.ListN.{length, take, getD}
-use Rattle.endian.specs.Parts.{part}
+use Rattle.lists.specs.Parts.{part}
 use Rattle.guard.specs.declared.Answer.{Answer}
 use Rattle.store.specs.Serve.{serve}
 use Rattle.cards.specs.Run.{numbersOf, perLine, runs, printed}

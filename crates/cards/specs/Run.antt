@@ -5,8 +5,8 @@ use mathlib.Core.List.{List, [], _∷_}
 use mathlib.Core.Bool.{Bool, cond, _&&_}
 use lib.Dec.{leb}
 use lib.ListN.{length, take, drop, replicate}
-use Rattle.endian.specs.Parts.{spread}
-use Rattle.guard.specs.Command.{fixed}
+use Rattle.lists.specs.Parts.{spread}
+use Rattle.commands.specs.Command.{fixed}
 use Rattle.guard.specs.declared.Answer.{Answer}
 use Rattle.image.specs.Image.{headerSize, mostBytes, mostRoom, countOf, roomOf, sizeOf, sound}
 use Rattle.store.specs.Serve.{serve}

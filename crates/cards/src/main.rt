@@ -2,7 +2,7 @@
 ghost use mathlib.Core.Path.{_≡_};
 ghost use Prim.Native.Nat.{_+_, _-_, _*_, _≤_};
 ghost use lib.ListN.{length, drop};
-ghost use Rattle.endian.specs.Parts.{splice};
+ghost use Rattle.lists.specs.Parts.{splice};
 ghost use Rattle.stream.specs.Stream.{commands, endOf};
 ghost use Rattle.cards.specs.Run.{mostInput, perLine, storeSize, numbersOf, runs, printed, answered, Lent};
 use guard::Answer;

@@ -4,8 +4,8 @@ use mathlib.Core.Path.{_≡_, ap}
 use mathlib.Core.Bool.{Bool, _||_}
 use lib.ListN.{drop, take-append-drop}
 use lib.Seq.{length-take-le}
-use Rattle.guard.specs.Table.{first, settled}
-use Rattle.guard.proofs.Table.{given, unapplied, settled-old}
+use Rattle.lists.specs.Table.{first, settled}
+use Rattle.lists.proofs.Table.{given, unapplied, settled-old}
 use Rattle.desk.specs.Show.{Text, of, beyond, behindAsked, showRows, rows, shownNumber}
 use Rattle.desk.specs.Claims.{Exactly, Prefix, Alike, Independent, Claims}
 use Rattle.desk.specs.declared.Language.{Language}

@@ -4,9 +4,9 @@ use mathlib.Core.Path.{_≡_}
 use mathlib.Core.Bool.{Bool, false, _||_}
 use borrow.Author.Tests.{ltb-false}
 use lib.ListN.{length, take}
-use Rattle.endian.proofs.Tests.{or-fails}
-use Rattle.guard.specs.Table.{first, settled}
-use Rattle.guard.proofs.Table.{unapplied, none-applies}
+use Rattle.lists.proofs.Tests.{or-fails}
+use Rattle.lists.specs.Table.{first, settled}
+use Rattle.lists.proofs.Table.{unapplied, none-applies}
 use Rattle.desk.specs.Show.{Text, of, beyond, showRows, shownNumber, shownPart}
 use Rattle.desk.specs.declared.Language.{Language}
 use Rattle.desk.specs.declared.Language.the-variants.{Original, Translation}

@@ -6,7 +6,7 @@ use mathlib.Core.Logic.{_↔_}
 use mathlib.Core.List.{List, [], _++_}
 use lib.Dec.{T}
 use lib.ListN.{length}
-use Rattle.guard.specs.Table.{none, applies, earlier}
+use Rattle.lists.specs.Table.{none, applies, earlier}
 use Rattle.desk.specs.Show.{Text, of, rows, shownNumber, shownPart}
 use Rattle.desk.specs.declared.Language.{Language}
 use Rattle.desk.specs.declared.Language.the-variants.{Original, Translation}

@@ -6,7 +6,7 @@ use mathlib.Core.Bool.{Bool, false, _||_}
 use lib.Dec.{ltb}
 use lib.ListN.{length, take}
 use Rattle.guard.specs.Judge.{behind}
-use Rattle.guard.specs.Table.{Row, row, first, settled}
+use Rattle.lists.specs.Table.{Row, row, first, settled}
 use Rattle.desk.specs.declared.Language.{Language}
 use Rattle.desk.specs.declared.Language.the-variants.{Original, Translation}
 

@@ -3,7 +3,7 @@ ghost use mathlib.Core.Path.{_≡_};
 ghost use Prim.Native.Nat.{_≤_};
 ghost use lib.ListN.{length, take};
 ghost use denote.Ref.{ptr};
-ghost use Rattle.guard.specs.Table.{first, settled};
+ghost use Rattle.lists.specs.Table.{first, settled};
 ghost use Rattle.desk.specs.Show.{text, of, behindAsked, showRows, shownNumber, shownPart};
 
 // The languages that can be asked for.

@@ -1,4 +1,2 @@
-pub mod Parts
 pub mod Le
-pub mod Tests
 pub mod Claims

@@ -1,7 +1,7 @@
 ghost use mathlib.Core.Path.{_≡_};
 ghost use Prim.Native.Nat.{_+_, _^_, _≤_, _<_};
 ghost use lib.ListN.{length, replicate};
-ghost use Rattle.endian.specs.Parts.{part, splice};
+ghost use Rattle.lists.specs.Parts.{part, splice};
 ghost use Rattle.endian.specs.Le.{le, toLe};
 
 // The number of `count` bytes, at most 8, that begin at `at`. Read from the last byte down.

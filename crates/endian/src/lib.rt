@@ -2,7 +2,7 @@
 pub mod inner;
 
 ghost use mathlib.Core.Path.{_≡_};
-ghost use Rattle.endian.specs.Parts.{zeros};
+ghost use Rattle.lists.specs.Parts.{zeros};
 
 // Whether every byte is zero.
 pub fn all_zero(s: &[u8]) -> bool

@@ -6,17 +6,17 @@ use mathlib.Core.Logic.{_↔_, _⊎_}
 use mathlib.Core.Bool.{Bool, true, false, not, _&&_}
 use borrow.Author.Tests.{ltb-false, eqb-true, eqb-false, not-true, not-false}
 use lib.Dec.{T, eqb}
-use Rattle.endian.proofs.Tests.{from-T, never-both, or-fails}
-use Rattle.guard.specs.Stamp.{shared, exclusive, stale}
-use Rattle.guard.specs.Command.{Language, original, translation, reads, writes, verifier, update, wellFormed}
-use Rattle.guard.specs.Table.{first, none, applies, earlier, once, settled}
-use Rattle.guard.specs.Judge.{markFits, behind, lastEdition, overruns, entryRows, rows, raise, judged, blank, readLength, replied, refused}
-use Rattle.guard.specs.declared.Command.{Command}
+use Rattle.lists.proofs.Tests.{from-T, never-both, or-fails}
+use Rattle.stamps.specs.Stamp.{shared, exclusive, stale, markFits}
+use Rattle.commands.specs.Command.{Language, original, translation, reads, writes, verifier, update, wellFormed}
+use Rattle.lists.specs.Table.{first, none, applies, earlier, once, settled}
+use Rattle.guard.specs.Judge.{behind, lastEdition, overruns, entryRows, rows, raise, judged, blank, readLength, replied, refused}
+use Rattle.commands.specs.declared.Command.{Command}
 use Rattle.guard.specs.declared.Entry.{Entry}
 use Rattle.guard.specs.declared.Judged.{Judged}
-use Rattle.guard.proofs.Table.{given, unapplied, none-applies, first-all, settled-new, settled-old}
-use Rattle.guard.proofs.Rules.{command-rules}
-use Rattle.guard.proofs.Stamp.{larger-old, stale-more}
+use Rattle.lists.proofs.Table.{given, unapplied, none-applies, first-all, settled-new, settled-old}
+use Rattle.commands.proofs.Rules.{command-rules}
+use Rattle.stamps.proofs.Stamp.{larger-old, stale-more}
 
 second-fails : (a b : Bool) → (a && b) ≡ false → a ≡ true → b ≡ false
 second-fails true b h e = h

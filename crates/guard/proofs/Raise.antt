@@ -7,17 +7,17 @@ use mathlib.Core.Bool.{Bool, true, false, cond, not, _||_}
 use borrow.Author.Tests.{le-leb, leb-true, ne-eqb, eqb-false, not-true}
 use lib.Dec.{T, leb, eqb}
 use lib.ListN.{getD}
-use Rattle.endian.specs.Tests.{all, allFrom}
-use Rattle.endian.proofs.Tests.{to-T, from-T, and-in, or-left, not-in, all-cons, all-out}
-use Rattle.guard.specs.Stamp.{stampValid}
-use Rattle.guard.specs.Command.{original, translation, writes, update}
+use Rattle.lists.specs.Tests.{all, allFrom}
+use Rattle.lists.proofs.Tests.{to-T, from-T, and-in, or-left, not-in, all-cons, all-out}
+use Rattle.stamps.specs.Stamp.{stampValid}
+use Rattle.commands.specs.Command.{original, translation, writes, update, FitsCommand}
 use Rattle.guard.specs.Judge.{raise}
-use Rattle.guard.specs.Entry.{entryChecks, entrySound, FitsEntry, FitsCommand}
-use Rattle.guard.specs.declared.Command.{Command}
+use Rattle.guard.specs.Entry.{entryChecks, entrySound, FitsEntry}
+use Rattle.commands.specs.declared.Command.{Command}
 use Rattle.guard.specs.declared.Entry.{Entry}
 use Rattle.guard.proofs.Judge.{Accepted}
-use Rattle.guard.proofs.Rules.{CommandRules, command-rules}
-use Rattle.guard.proofs.Stamp.{max-one}
+use Rattle.commands.proofs.Rules.{CommandRules, command-rules}
+use Rattle.stamps.proofs.Stamp.{max-one}
 
 -- What holds of both arms holds of the one that a test picks.
 picked : {A : Type 0} (P : A → Type 0) (b : Bool) {x y : A} → (b ≡ true → P x) → (b ≡ false → P y) → P (cond b x y)

@@ -1,16 +1,12 @@
--- A stored entry and a command within their fields' widths, and the rules of a stored entry (the sheet, "The image").
+-- A stored entry within its fields' widths, and its rules (the sheet, "The image").
 -- Assumes nothing.
 use Prim.Native.Nat.{ℕ, _<_}
 use mathlib.Core.List.{List, [], _∷_}
 use mathlib.Core.Bool.{Bool, not, _||_}
 use lib.Dec.{leb, eqb}
-use Rattle.endian.specs.Tests.{all}
-use Rattle.guard.specs.Command.{markWhole, noPair, noMark}
-use Rattle.guard.specs.Stamp.{stampValid}
-use Rattle.guard.specs.declared.Command.{Command}
+use Rattle.lists.specs.Tests.{all}
+use Rattle.stamps.specs.Stamp.{stampValid, markWhole, noPair, noMark, FitsPair, FitsMark}
 use Rattle.guard.specs.declared.Entry.{Entry}
-use Rattle.guard.specs.declared.Mark.{Mark}
-use Rattle.guard.specs.declared.Pair.{Pair}
 
 -- The entry of a card of a fresh image.
 abbrev pub noEntry : Entry
@@ -34,14 +30,6 @@ unfoldable pub entrySound : ℕ → Entry → Bool
 entrySound room e = all (entryChecks room e)
 
 -- Each number within its field's width.
-pub record FitsPair (p : Pair) : Type 0 where
-  pub s : p .s < 18446744073709551616
-  pub x : p .x < 18446744073709551616
-
-pub record FitsMark (m : Mark) : Type 0 where
-  pub desk : m .desk < 65536
-  pub transaction : m .transaction < 4294967296
-
 pub record FitsEntry (e : Entry) : Type 0 where
   pub pair : FitsPair (e .pair)
   pub mark : FitsMark (e .mark)
@@ -49,13 +37,3 @@ pub record FitsEntry (e : Entry) : Type 0 where
   pub from : e .from < 65536
   pub original : e .original < 65536
   pub translation : e .translation < 65536
-
-pub record FitsCommand (c : Command) : Type 0 where
-  pub act : c .act < 256
-  pub mode : c .mode < 256
-  pub card : c .card < 65536
-  pub pair : FitsPair (c .pair)
-  pub expected : FitsMark (c .expected)
-  pub next : FitsMark (c .next)
-  pub edition : c .edition < 65536
-  pub length : c .length < 65536

@@ -5,18 +5,13 @@ use Prim.Native.Nat.{ℕ, zero, suc, _+_}
 use mathlib.Core.List.{List, [], _∷_}
 use mathlib.Core.Bool.{Bool, cond, not, _&&_, _||_}
 use lib.Dec.{ltb, eqb}
-use Rattle.guard.specs.Stamp.{stale, largerOfEach}
-use Rattle.guard.specs.Command.{Language, original, translation, reads, writes, verifier, update, wellFormed, noPair, noMark}
-use Rattle.guard.specs.Table.{Row, row, first, settled}
+use Rattle.stamps.specs.Stamp.{stale, largerOfEach, markFits, noPair, noMark}
+use Rattle.commands.specs.Command.{Language, original, translation, reads, writes, verifier, update, wellFormed}
+use Rattle.lists.specs.Table.{Row, row, first, settled}
 use Rattle.guard.specs.declared.Answer.{Answer}
-use Rattle.guard.specs.declared.Command.{Command}
+use Rattle.commands.specs.declared.Command.{Command}
 use Rattle.guard.specs.declared.Entry.{Entry}
 use Rattle.guard.specs.declared.Judged.{Judged}
-use Rattle.guard.specs.declared.Mark.{Mark}
-
--- "The commit mark must equal the stored mark in desk and in transaction."
-abbrev pub markFits : Mark → Mark → Bool
-markFits stored expected = eqb (expected .desk) (stored .desk) && eqb (expected .transaction) (stored .transaction)
 
 -- "A translation is behind if translated-from is 0 or is not the edition."
 abbrev pub behind : ℕ → ℕ → Bool

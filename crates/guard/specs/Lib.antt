@@ -1,6 +1,2 @@
-pub mod Stamp
-pub mod Command
-pub mod Table
 pub mod Judge
 pub mod Entry
-pub mod Claims

@@ -1,15 +1,16 @@
 ghost use mathlib.Core.Path.{_≡_};
 ghost use mathlib.Core.Bool.{false, cond};
-ghost use Rattle.guard.specs.Judge.{markFits, behind, wrongEdition, editionsSpent, replyShort, rows, raise, judged, blank, readLength, replied, refused};
-ghost use Rattle.guard.specs.Table.{first, settled};
+ghost use Rattle.guard.specs.Judge.{behind, wrongEdition, editionsSpent, replyShort, rows, raise, judged, blank, readLength, replied, refused};
+ghost use Rattle.lists.specs.Table.{first, settled};
 use crate::Answer;
-use crate::Command;
 use crate::Entry;
 use crate::Judged;
-use crate::Mark;
-use crate::Pair;
-use crate::stamps::larger_of_each;
-use crate::stamps::stale;
+use commands::Command;
+use stamps::Mark;
+use stamps::Pair;
+use stamps::larger_of_each;
+use stamps::mark_fits;
+use stamps::stale;
 
 // The numbers of the table.
 pub const ACCEPTED: u8 = 0;
@@ -34,15 +35,6 @@ pub const UNSOUND: u8 = 9;
 
 // The edition that no write can raise.
 const LAST_EDITION: u16 = 65535;
-
-impl Mark {
-    // Whether the expected mark equals the stored one, in desk and in transaction.
-    fn fits(self, expected: Mark) -> bool
-        ensures { λ r. ⌜ r ≡ markFits self expected ⌝ }
-    {
-        (expected.desk == self.desk) & (expected.transaction == self.transaction)
-    }
-}
 
 impl Entry {
     // A translation is behind if translated-from is 0 or is not the edition.
@@ -85,7 +77,7 @@ impl Entry {
         if stale(c.mode, self.pair, c.pair) {
             return STALE;
         }
-        if !self.mark.fits(c.expected) {
+        if !mark_fits(self.mark, c.expected) {
             return MARK_DIFFERS;
         }
         if room < c.length {

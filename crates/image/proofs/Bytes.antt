@@ -6,17 +6,17 @@ use mathlib.Core.List.{List, _∷_, _++_, append-assoc, []}
 use mathlib.Core.Bool.{Bool, true, false, _&&_}
 use borrow.Author.Tests.{eq-eqb, ne-eqb, leb-true, eqb-true}
 use lib.Dec.{eqb}
-use Rattle.endian.specs.Tests.{all, allFrom}
-use Rattle.endian.proofs.Tests.{all-out}
-use Rattle.guard.specs.Command.{field}
+use Rattle.lists.specs.Tests.{all, allFrom}
+use Rattle.lists.proofs.Tests.{all-out}
+use Rattle.commands.specs.Command.{field}
 use Rattle.guard.specs.Entry.{entrySound}
 use Rattle.guard.specs.declared.Entry.{Entry}
 use lib.ListN.{length, take, drop, replicate, length-append, length-replicate, replicate-append-replicate}
 use lib.Seq.{take-append-add, take-at}
-use Rattle.endian.specs.Parts.{part, splice, every}
-use Rattle.endian.proofs.Every.{every-fail}
+use Rattle.lists.specs.Parts.{part, splice, every}
+use Rattle.lists.proofs.Every.{every-fail}
 use Rattle.endian.specs.Le.{toLe}
-use Rattle.endian.proofs.Parts.{part-all, splice-adjacent, splice-whole}
+use Rattle.lists.proofs.Parts.{part-all, splice-adjacent, splice-whole}
 use Rattle.image.specs.Image.{sizeOf, shapeOk, pad, header, headerNumbers, headerSound, headerSize, fresh, makes, countOf, roomOf, bodyPlace, entryPlace, entryAt, tailZero, cardSound, sound}
 use Rattle.image.proofs.Shape.{all-fails-at, body-within}
 

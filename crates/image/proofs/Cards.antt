@@ -10,15 +10,15 @@ use borrow.Author.Tests.{eq-eqb, eqb-true, eqb-false}
 use lib.Dec.{eqb, lit≤, lit<}
 use lib.ListN.{length, take, getD, set, replicate, length-set}
 use lib.Seq.{getD-set-same, getD-set-other}
-use Rattle.endian.specs.Parts.{part, spread, zeros, Bytes}
+use Rattle.lists.specs.Parts.{part, spread, zeros, Bytes}
 use Rattle.endian.specs.Le.{le, toLe}
-use Rattle.endian.specs.Tests.{all, allFrom}
-use Rattle.endian.proofs.Bytes.{Bytes-append, Bytes-replicate, Bytes-take, zeros-replicate}
-use Rattle.endian.proofs.Every.{every-in}
+use Rattle.lists.specs.Tests.{all, allFrom}
+use Rattle.lists.proofs.Bytes.{Bytes-append, Bytes-replicate, Bytes-take, zeros-replicate}
+use Rattle.lists.proofs.Every.{every-in}
 use Rattle.endian.proofs.Le.{Bytes-toLe}
-use Rattle.endian.proofs.Spread.{Bytes-spread, table-is}
-use Rattle.endian.proofs.Tests.{cases, from-T}
-use Rattle.guard.specs.Command.{original, translation, field}
+use Rattle.lists.proofs.Spread.{Bytes-spread, table-is}
+use Rattle.lists.proofs.Tests.{cases, from-T}
+use Rattle.commands.specs.Command.{original, translation, field}
 use Rattle.guard.specs.Entry.{entrySound}
 use Rattle.guard.specs.declared.Entry.{Entry}
 use Rattle.image.specs.Image.{Card, Cards, sideText, withCard, noCard, shapeOk, sizeOf, entrySize, entryPlace, bodyPlace, magic, version, headerNumbers, header, entryPair, entryMark, entryCounts, entryBytes, pad, bodies, encode, countOf, roomOf, entryAt, readEntry, bodyAt, cardAt, decode, tailZero, cardSound, headerSound, sound}

@@ -1,8 +1,8 @@
 -- The worked cases, by computation. Assumes nothing.
 use mathlib.Core.Path.{refl}
 use Rattle.endian.specs.Le.{le, toLe}
-use Rattle.endian.specs.Parts.{part, spread, every, zeros}
-use Rattle.endian.specs.Tests.{all, allFrom}
+use Rattle.lists.specs.Parts.{part, spread, every, zeros}
+use Rattle.lists.specs.Tests.{all, allFrom}
 use Rattle.guard.specs.Entry.{entrySound}
 use Rattle.image.specs.Cases.{Limits, Changes}
 use Rattle.image.specs.Image.{

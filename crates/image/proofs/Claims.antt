@@ -6,13 +6,13 @@ use mathlib.Core.List.{List, append-assoc}
 use lib.Dec.{T, lit<, leb·zero}
 use lib.ListN.{length, drop, getD, replicate, length-replicate, getD-replicate, replicate-append-replicate}
 use lib.Seq.{drop-at}
-use Rattle.endian.specs.Parts.{Bytes}
+use Rattle.lists.specs.Parts.{Bytes}
 use Rattle.endian.specs.Le.{toLe}
-use Rattle.endian.proofs.Spread.{table-ext, spread-replicate}
-use Rattle.endian.proofs.Tests.{to-T}
-use Rattle.endian.specs.Tests.{all, allFrom}
-use Rattle.endian.proofs.Bytes.{Bytes-nil, zeros-at, zeros-replicate}
-use Rattle.guard.specs.Command.{Language, original, translation}
+use Rattle.lists.proofs.Spread.{table-ext, spread-replicate}
+use Rattle.lists.proofs.Tests.{to-T}
+use Rattle.lists.specs.Tests.{all, allFrom}
+use Rattle.lists.proofs.Bytes.{Bytes-nil, zeros-at, zeros-replicate}
+use Rattle.commands.specs.Command.{Language, original, translation}
 use Rattle.guard.specs.Entry.{entrySound}
 use Rattle.image.specs.Image.{Card, text, noCard, shapeOk, sizeOf, headerSize, entrySize, header, entryBytes, pad, bodies, encode, countOf, cardAt, decode, sound, fresh, freshCards}
 use Rattle.image.specs.Claims.{SoundReadsBack, GoodCard, GoodCards, GoodEncodes, OneImage, FreshSound}

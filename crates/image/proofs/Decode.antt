@@ -8,15 +8,15 @@ use mathlib.Core.Bool.{true}
 use borrow.Author.Tests.{eqb-true}
 use lib.Dec.{T, lit≤, lit<}
 use lib.ListN.{length, getD, replicate}
-use Rattle.endian.specs.Parts.{part, spread, table, every, Bytes}
+use Rattle.lists.specs.Parts.{part, spread, table, every, Bytes}
 use Rattle.endian.specs.Le.{le, toLe}
-use Rattle.endian.proofs.Bytes.{Bytes-nil, Bytes-part, zeros-means}
-use Rattle.endian.proofs.Every.{every-out}
+use Rattle.lists.proofs.Bytes.{Bytes-nil, Bytes-part, zeros-means}
+use Rattle.lists.proofs.Every.{every-out}
 use Rattle.endian.proofs.Le.{le-injective, le-part-bound, Bytes-toLe}
-use Rattle.endian.proofs.Parts.{length-part, part-part, part-join}
-use Rattle.endian.proofs.Spread.{spread-parts, length-table, getD-table}
-use Rattle.endian.proofs.Tests.{and-left, and-right, all-out, from-T, to-T}
-use Rattle.guard.specs.Command.{Language, original, translation, field}
+use Rattle.lists.proofs.Parts.{length-part, part-part, part-join}
+use Rattle.lists.proofs.Spread.{spread-parts, length-table, getD-table}
+use Rattle.lists.proofs.Tests.{and-left, and-right, all-out, from-T, to-T}
+use Rattle.commands.specs.Command.{Language, original, translation, field}
 use Rattle.guard.specs.Entry.{entrySound, FitsEntry}
 use Rattle.image.specs.Image.{Card, noCard, shapeOk, sizeOf, mostBytes, headerSize, entrySize, entryPlace, bodyPlace, magic, version, header, entryBytes, pad, bodies, encode, countOf, roomOf, readEntry, entryAt, bodyAt, text, cardAt, decode, tailZero, cardSound, headerSound, sound}
 use Rattle.image.specs.Claims.{GoodCard, GoodCards}

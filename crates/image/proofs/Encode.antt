@@ -7,11 +7,11 @@ use mathlib.Core.Path.{_≡_, refl, sym, ap, _∙_}
 use mathlib.Core.List.{List, _++_}
 use lib.ListN.{length, getD, set, length-append, length-take, length-replicate, length-set}
 use lib.Seq.{set-set, getD-set-same}
-use Rattle.endian.specs.Parts.{part, splice, spread}
+use Rattle.lists.specs.Parts.{part, splice, spread}
 use Rattle.endian.specs.Le.{le, toLe}
 use Rattle.endian.proofs.Le.{le-toLe}
-use Rattle.endian.proofs.Parts.{part-part, part-append-left, part-append-right, splice-append-left, splice-append-right, splice-within, splice-part, splice-whole}
-use Rattle.endian.proofs.Spread.{length-spread, part-spread, splice-spread}
+use Rattle.lists.proofs.Parts.{part-part, part-append-left, part-append-right, splice-append-left, splice-append-right, splice-within, splice-part, splice-whole}
+use Rattle.lists.proofs.Spread.{length-spread, part-spread, splice-spread}
 use Rattle.guard.specs.declared.Entry.{Entry}
 use Rattle.image.specs.Image.{
   Card,

@@ -6,12 +6,12 @@ use mathlib.Core.List.{List, _++_}
 use mathlib.Core.Bool.{true}
 use lib.ListN.{length, take, drop, replicate}
 use lib.Seq.{take-at, drop-at}
-use Rattle.endian.specs.Parts.{part, zeros, Bytes}
+use Rattle.lists.specs.Parts.{part, zeros, Bytes}
 use Rattle.endian.specs.Le.{toLe}
-use Rattle.endian.proofs.Bytes.{Bytes-part, zeros-means}
+use Rattle.lists.proofs.Bytes.{Bytes-part, zeros-means}
 use Rattle.endian.proofs.Le.{le-toLe, toLe-le}
-use Rattle.endian.proofs.Parts.{length-part, part-join}
-use Rattle.guard.specs.Command.{field}
+use Rattle.lists.proofs.Parts.{length-part, part-join}
+use Rattle.commands.specs.Command.{field}
 use Rattle.guard.specs.Entry.{FitsEntry}
 use Rattle.guard.specs.declared.Entry.{Entry}
 use Rattle.image.specs.Image.{entryBytes, readEntry, entrySize, pad}

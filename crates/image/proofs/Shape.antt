@@ -9,8 +9,8 @@ use mathlib.Core.Bool.{Bool, true, false, _&&_}
 use borrow.Author.Tests.{le-leb, lt-leb, leb-true, eqb-true}
 use lib.Dec.{leb, eqb}
 use lib.ListN.{getD}
-use Rattle.endian.specs.Tests.{all, allFrom}
-use Rattle.endian.proofs.Tests.{cases, never-both, all-out}
+use Rattle.lists.specs.Tests.{all, allFrom}
+use Rattle.lists.proofs.Tests.{cases, never-both, all-out}
 use Rattle.image.specs.Image.{
   sizeOf,
   shapeOk,

@@ -5,8 +5,8 @@ use mathlib.Core.Path.{_≡_}
 use mathlib.Core.List.{List}
 use lib.ListN.{length, drop, getD}
 use lib.Dec.{T}
-use Rattle.endian.specs.Parts.{Bytes}
-use Rattle.guard.specs.Command.{Language, original, translation}
+use Rattle.lists.specs.Parts.{Bytes}
+use Rattle.commands.specs.Command.{Language, original, translation}
 use Rattle.guard.specs.Entry.{entrySound, FitsEntry}
 use Rattle.image.specs.Image.{
   Card,

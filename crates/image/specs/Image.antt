@@ -5,14 +5,14 @@ use mathlib.Core.List.{List, [], _∷_, _++_}
 use mathlib.Core.Bool.{Bool, cond, _&&_}
 use lib.ListN.{length, take, set, replicate}
 use lib.Dec.{leb, eqb}
-use Rattle.endian.specs.Parts.{part, spread, table, every, zeros}
+use Rattle.lists.specs.Parts.{part, spread, table, every, zeros}
 use Rattle.endian.specs.Le.{le, toLe}
-use Rattle.endian.specs.Tests.{all}
-use Rattle.guard.specs.Command.{Language, original, translation, field}
+use Rattle.lists.specs.Tests.{all}
+use Rattle.commands.specs.Command.{Language, original, translation, field}
 use Rattle.guard.specs.Entry.{entrySound, noEntry}
 use Rattle.guard.specs.declared.Entry.{Entry}
-use Rattle.guard.specs.declared.Mark.{Mark}
-use Rattle.guard.specs.declared.Pair.{Pair}
+use Rattle.stamps.specs.declared.Mark.{Mark}
+use Rattle.stamps.specs.declared.Pair.{Pair}
 
 -- One card: its entry and its two texts.
 pub record Card : Type 0 where

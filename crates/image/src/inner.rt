@@ -1,7 +1,7 @@
 ghost use mathlib.Core.Path.{_≡_};
 ghost use Prim.Native.Nat.{_+_, _-_, _≤_, _<_};
 ghost use lib.ListN.{length};
-ghost use Rattle.endian.specs.Parts.{part, splice, zeros};
+ghost use Rattle.lists.specs.Parts.{part, splice, zeros};
 ghost use Rattle.guard.specs.Entry.{entrySound};
 ghost use Rattle.image.specs.Image.{
   countOf,
@@ -31,8 +31,8 @@ use crate::layout::VERSION_AT;
 use crate::layout::ZEROS_AT;
 use endian::inner as le;
 use guard::Entry;
-use guard::Mark;
-use guard::Pair;
+use stamps::Mark;
+use stamps::Pair;
 
 // N as the header says.
 pub fn count(image: &[u8]) -> u16
@@ -54,9 +54,9 @@ pub fn room(image: &[u8]) -> u16
 pub fn entry_sound(e: Entry, room: u16) -> bool
     ensures { λ r. ⌜ r ≡ entrySound room e ⌝ }
 {
-    guard::stamp_valid(e.pair.s)
-        & guard::stamp_valid(e.pair.x)
-        & guard::mark_whole(e.mark)
+    stamps::stamp_valid(e.pair.s)
+        & stamps::stamp_valid(e.pair.x)
+        & stamps::mark_whole(e.mark)
         & (e.original <= room)
         & (e.translation <= room)
         & (e.from <= e.edition)

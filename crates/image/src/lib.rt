@@ -4,7 +4,7 @@ pub mod layout;
 
 ghost use mathlib.Core.Path.{_≡_};
 ghost use lib.ListN.{length};
-ghost use Rattle.guard.specs.Table.{settled};
+ghost use Rattle.lists.specs.Table.{settled};
 ghost use Rattle.image.specs.Image.{sound, makeNumber, fresh};
 
 // Whether any bytes are a sound image.

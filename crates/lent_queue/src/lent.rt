@@ -9,13 +9,13 @@ ghost use Rattle.lock_queue.specs.Requests.{asks, leaves, answer, after};
 ghost use Rattle.lent_queue.specs.Slice.{held, written, loaded, replyOf};
 use crate::Kept;
 use crate::Reply;
-use guard::Pair;
 use lock_queue::MOST_PLACES;
 use lock_queue::Outcome;
 use lock_queue::Places;
 use lock_queue::Queue;
 use lock_queue::Waiting;
 use lock_queue::inner;
+use stamps::Pair;
 
 // Whether place i is lent, and one of the 32.
 pub fn within(i: usize, lent: usize) -> bool

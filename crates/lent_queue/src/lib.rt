@@ -3,13 +3,13 @@ ghost use mathlib.Core.Path.{_≡_};
 ghost use lib.ListN.{length};
 ghost use Rattle.lock_queue.specs.Requests.{asks, leaves, answer, after};
 ghost use Rattle.lent_queue.specs.Slice.{held};
-use guard::Pair;
 use lent::asked;
 use lent::left;
 use lent::load;
 use lent::store;
 use lock_queue::Answer;
 use lock_queue::Waiting;
+use stamps::Pair;
 
 mod lent;
 

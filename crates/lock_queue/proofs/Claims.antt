@@ -10,13 +10,12 @@ use borrow.Author.Tests.{eq-eqb, eqb-true, eqb-false, leb-true, le-leb, ltb-true
 use lib.Dec.{T, ltb, leb, eqb, eqb→eq}
 use lib.ListN.{length, take, drop, getD, length-append, length-take, length-drop, length-map, length-set}
 use lib.Seq.{getD-take, length-take-le, take-suc-set, drop-set-lt, take-at, drop-at, getD-at, append-snoc, take-append-le, drop-append-le, set-append-left, getD-append-seam, take-append-seam}
-use Rattle.endian.specs.Parts.{table}
-use Rattle.endian.specs.Tests.{all, allFrom}
-use Rattle.endian.proofs.Tests.{cases, to-T, from-T, and-in, and-left, and-right, or-cases}
-use Rattle.guard.proofs.Stamp.{max-one, larger-old, SessionRules, session-rules}
-use Rattle.guard.proofs.Table.{given, unapplied}
-use Rattle.guard.specs.Stamp.{stampValid, deskNumber, deskStart, own, shared, exclusive, largerOfEach}
-use Rattle.guard.specs.Command.{noPair}
+use Rattle.lists.specs.Parts.{table}
+use Rattle.lists.specs.Tests.{all, allFrom}
+use Rattle.lists.proofs.Tests.{cases, to-T, from-T, and-in, and-left, and-right, or-cases}
+use Rattle.stamps.proofs.Stamp.{max-one, larger-old, SessionRules, session-rules}
+use Rattle.lists.proofs.Table.{given, unapplied}
+use Rattle.stamps.specs.Stamp.{stampValid, deskNumber, deskStart, own, shared, exclusive, largerOfEach, noPair}
 use Rattle.lock_queue.specs.Claims.{EachNumber, Acceptance, RefusalLeaves, BlankAnswers, LookedWithin, StaysGood, JoinsEnd, GapClosed, FreedZeroed, OthersKept, LargestGrows, AskerHolds, LeaverHoldsNothing, HoldersShared, RoomAfterLeaving, NoDeskZero, BeyondLent, longer, modeOf}
 use Rattle.lock_queue.specs.Queue.{State, noWaiting, mostPlaces, standing, desk, desks, stands, firstPlace, looked, distinct, noExclusive, holdsAt, holds, formed, within, good, joined, removed, without}
 use Rattle.lock_queue.specs.Requests.{Request, asks, leaves, rows, sender, accepted, blank, answered, number, after, answer}

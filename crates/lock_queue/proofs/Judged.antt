@@ -7,12 +7,12 @@ use mathlib.Core.Bool.{Bool, true, false, not, _&&_}
 use borrow.Author.Tests.{leb-true, le-leb, eqb-false, not-false}
 use lib.Dec.{T, leb, eqb}
 use lib.ListN.{drop}
-use Rattle.endian.proofs.Tests.{all-out, and-in, and-left, and-right, or-fails}
-use Rattle.endian.specs.Tests.{all, allFrom}
-use Rattle.guard.proofs.Table.{unapplied, none-applies, settled-old}
-use Rattle.guard.specs.Stamp.{stampValid}
-use Rattle.guard.specs.declared.Pair.{Pair}
-use Rattle.guard.specs.Table.{Row, row, first, applies, once}
+use Rattle.lists.proofs.Tests.{all-out, and-in, and-left, and-right, or-fails}
+use Rattle.lists.specs.Tests.{all, allFrom}
+use Rattle.lists.proofs.Table.{unapplied, none-applies, settled-old}
+use Rattle.stamps.specs.Stamp.{stampValid}
+use Rattle.stamps.specs.declared.Pair.{Pair}
+use Rattle.lists.specs.Table.{Row, row, first, applies, once}
 use Rattle.lock_queue.proofs.Standing.{stands-below}
 use Rattle.lock_queue.specs.Queue.{State, mostPlaces, standing, desks, firstPlace, stands, distinct, formed, within, queueChecks, good, joined, without}
 use Rattle.lock_queue.specs.Entries.{entriesGood}

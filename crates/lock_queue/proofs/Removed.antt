@@ -7,10 +7,10 @@ use mathlib.Core.Bool.{Bool, true, false, cond, not, _||_}
 use borrow.Author.Tests.{eq-eqb, eqb-true, eqb-false, ltb-true, leb-true, le-leb, not-true}
 use lib.Dec.{leb, eqb}
 use lib.ListN.{length, getD, length-map}
-use Rattle.endian.proofs.Tests.{all-cons, all-append, and-in, and-left, and-right, or-fails, or-none, never-both, not-in}
-use Rattle.endian.specs.Tests.{all, allFrom}
-use Rattle.guard.specs.Stamp.{exclusive}
-use Rattle.guard.specs.declared.Pair.{Pair}
+use Rattle.lists.proofs.Tests.{all-cons, all-append, and-in, and-left, and-right, or-fails, or-none, never-both, not-in}
+use Rattle.lists.specs.Tests.{all, allFrom}
+use Rattle.stamps.specs.Stamp.{exclusive}
+use Rattle.stamps.specs.declared.Pair.{Pair}
 use Rattle.lock_queue.specs.Queue.{noWaiting, desk, desks, stands, firstPlace, distinct, noExclusive, within, removed}
 use Rattle.lock_queue.proofs.Standing.{stands-place, distinct-more, map-append}
 use Rattle.lock_queue.specs.declared.Waiting.{Waiting}

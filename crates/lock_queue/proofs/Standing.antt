@@ -10,13 +10,13 @@ use borrow.Author.Tests.{eq-eqb, ne-eqb, lt-ltb, le-ltb, ltb-true}
 use lib.Dec.{ltb, eqb, leb·suc-suc}
 use lib.ListN.{length, take, drop, getD, set, length-map, length-take, length-drop, length-append, drop-of-length-le}
 use lib.Seq.{getD-take, length-take-le, take-suc, take-take}
-use Rattle.endian.proofs.Parts.{drop-left}
+use Rattle.lists.proofs.Parts.{drop-left}
 use Rattle.endian.proofs.Loops.{Writing, writing-more, writing-done}
-use Rattle.endian.specs.Parts.{splice}
-use Rattle.endian.proofs.Tests.{eqb-comm, all-append}
-use Rattle.endian.specs.Tests.{all, allFrom}
-use Rattle.guard.specs.Stamp.{exclusive}
-use Rattle.guard.specs.declared.Pair.{Pair}
+use Rattle.lists.specs.Parts.{splice}
+use Rattle.lists.proofs.Tests.{eqb-comm, all-append}
+use Rattle.lists.specs.Tests.{all, allFrom}
+use Rattle.stamps.specs.Stamp.{exclusive}
+use Rattle.stamps.specs.declared.Pair.{Pair}
 use Rattle.lock_queue.specs.Queue.{noWaiting, desk, desks, stands, firstPlace, looked, distinct, noExclusive, holdsAt, holds, formed, within, removed}
 use Rattle.lock_queue.specs.Entries.{entriesGood, fitsBehind}
 use Rattle.lock_queue.specs.declared.Waiting.{Waiting}

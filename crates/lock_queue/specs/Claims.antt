@@ -7,9 +7,8 @@ use mathlib.Core.List.{List, [], _∷_, _++_}
 use mathlib.Core.Bool.{false, cond}
 use lib.Dec.{T, eqb}
 use lib.ListN.{length, drop, getD}
-use Rattle.guard.specs.Stamp.{shared, exclusive}
-use Rattle.guard.specs.Command.{noPair}
-use Rattle.guard.specs.Table.{applies, none, earlier}
+use Rattle.stamps.specs.Stamp.{shared, exclusive, noPair}
+use Rattle.lists.specs.Table.{applies, none, earlier}
 use Rattle.lock_queue.specs.Queue.{State, noWaiting, standing, desks, firstPlace, noExclusive, holds, good, removed}
 use Rattle.lock_queue.specs.Requests.{Request, asks, leaves, rows, blank, number, after, answer}
 use Rattle.lock_queue.specs.declared.Waiting.{Waiting}

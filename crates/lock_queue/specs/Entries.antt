@@ -2,8 +2,8 @@
 -- Assumes nothing.
 use mathlib.Core.List.{List, map}
 use mathlib.Core.Bool.{Bool, not, _&&_}
-use Rattle.endian.specs.Tests.{all}
-use Rattle.guard.specs.declared.Pair.{Pair}
+use Rattle.lists.specs.Tests.{all}
+use Rattle.stamps.specs.declared.Pair.{Pair}
 use Rattle.lock_queue.specs.Queue.{desk, desks, stands, distinct, formed, within}
 use Rattle.lock_queue.specs.declared.Waiting.{Waiting}
 

@@ -6,10 +6,9 @@ use mathlib.Core.List.{List, [], _∷_, _++_, map}
 use mathlib.Core.Bool.{Bool, true, false, cond, not, _&&_, _||_}
 use lib.ListN.{length, take, drop, getD, set}
 use lib.Dec.{leb, eqb}
-use Rattle.endian.specs.Tests.{all}
-use Rattle.guard.specs.Stamp.{stampValid, deskOf, exclusive, sessionChecks, stale, largerOfEach}
-use Rattle.guard.specs.Command.{noPair}
-use Rattle.guard.specs.declared.Pair.{Pair}
+use Rattle.lists.specs.Tests.{all}
+use Rattle.stamps.specs.Stamp.{stampValid, deskOf, exclusive, sessionChecks, stale, largerOfEach, noPair}
+use Rattle.stamps.specs.declared.Pair.{Pair}
 use Rattle.lock_queue.specs.declared.Queue.{Queue}
 use Rattle.lock_queue.specs.declared.Waiting.{Waiting}
 

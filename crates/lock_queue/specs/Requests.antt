@@ -5,8 +5,8 @@ use Prim.Native.Nat.{ℕ}
 use mathlib.Core.List.{List, [], _∷_}
 use mathlib.Core.Bool.{Bool, cond, not, _&&_, _||_}
 use lib.Dec.{eqb}
-use Rattle.guard.specs.Command.{noPair}
-use Rattle.guard.specs.Table.{Row, row, first, settled}
+use Rattle.stamps.specs.Stamp.{noPair}
+use Rattle.lists.specs.Table.{Row, row, first, settled}
 use Rattle.lock_queue.specs.Queue.{State, standing, desk, desks, stands, already, looked, holds, formed, good, denied, full, joined, without}
 use Rattle.lock_queue.specs.declared.Answer.{Answer}
 use Rattle.lock_queue.specs.declared.Waiting.{Waiting}

@@ -4,8 +4,8 @@
 use Prim.Native.Nat.{ℕ, _+_}
 use mathlib.Core.Path.{_≡_}
 use mathlib.Core.List.{List, [], _∷_}
-use Rattle.endian.specs.Parts.{table}
-use Rattle.guard.specs.Stamp.{stamp, shared, exclusive}
+use Rattle.lists.specs.Parts.{table}
+use Rattle.stamps.specs.Stamp.{stamp, shared, exclusive}
 use Rattle.lock_queue.specs.Queue.{State, mostPlaces}
 use Rattle.lock_queue.specs.Requests.{Request, asks, leaves, number, after}
 use Rattle.lock_queue.specs.declared.Waiting.{Waiting}

@@ -10,7 +10,7 @@ use crate::Answer;
 use crate::Places;
 use crate::Queue;
 use crate::Waiting;
-use guard::Pair;
+use stamps::Pair;
 
 // The place, among the first `count`, where the desk first stands, or `count`.
 pub fn place(places: Places, count: usize, desk: u32) -> usize
@@ -20,7 +20,7 @@ pub fn place(places: Places, count: usize, desk: u32) -> usize
     let mut i = 0;
     while i < count {
         let w = places.at[i];
-        if guard::desk_of(w.mode, w.pair) == desk {
+        if stamps::desk_of(w.mode, w.pair) == desk {
             return i;
         }
         i += 1;
@@ -56,7 +56,7 @@ pub fn no_exclusive(places: Places, count: usize) -> bool
     let mut i = 0;
     while i < count {
         let w = places.at[i];
-        if w.mode == guard::EXCLUSIVE {
+        if w.mode == stamps::EXCLUSIVE {
             return false;
         }
         i += 1;
@@ -74,7 +74,7 @@ pub fn holds(places: Places, count: usize, desk: u32) -> bool
         return false;
     }
     let w = places.at[found];
-    if w.mode == guard::EXCLUSIVE {
+    if w.mode == stamps::EXCLUSIVE {
         return found == 0;
     }
     no_exclusive(places, found)
@@ -86,8 +86,8 @@ fn entry_good(places: Places, i: usize, largest: Pair) -> bool
     ensures { λ r. ⌜ r ≡ fitsBehind largest (take i (places .at)) (getD (places .at) i noWaiting) ⌝ }
 {
     let w = places.at[i];
-    guard::session_ok(w.mode, w.pair)
-        & !stands(places, i, guard::desk_of(w.mode, w.pair))
+    stamps::session_ok(w.mode, w.pair)
+        & !stands(places, i, stamps::desk_of(w.mode, w.pair))
         & ((w.pair.s <= largest.s) & (w.pair.x <= largest.x))
 }
 
@@ -145,7 +145,7 @@ pub fn joined(queue: Queue, new: Waiting) -> Queue
     Queue {
         places: put(stood, queue.count, new),
         count: queue.count + 1,
-        largest: guard::larger_of_each(largest, pair),
+        largest: stamps::larger_of_each(largest, pair),
     }
 }
 

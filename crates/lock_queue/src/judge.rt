@@ -19,8 +19,8 @@ fn good(queue: Queue, lent: usize) -> bool
     }
     let largest = queue.largest;
     let stood = queue.places;
-    guard::stamp_valid(largest.s)
-        & guard::stamp_valid(largest.x)
+    stamps::stamp_valid(largest.s)
+        & stamps::stamp_valid(largest.x)
         & inner::entries_good(stood, count, largest)
 }
 
@@ -47,15 +47,20 @@ pub fn ask_number(queue: Queue, lent: usize, new: Waiting) -> u8
         return 10;
     }
     let pair = new.pair;
-    if !guard::session_ok(new.mode, pair) {
+    if !stamps::session_ok(new.mode, pair) {
         return 1;
     }
     let stood = queue.places;
-    if already(new.mode, stood, queue.count, guard::desk_of(new.mode, pair)) {
+    if already(
+        new.mode,
+        stood,
+        queue.count,
+        stamps::desk_of(new.mode, pair),
+    ) {
         return 12;
     }
     let largest = queue.largest;
-    if guard::stale(new.mode, largest, pair) {
+    if stamps::stale(new.mode, largest, pair) {
         return 11;
     }
     if full(lent, queue.count) {

@@ -2,7 +2,7 @@
 ghost use mathlib.Core.Path.{_≡_};
 ghost use Rattle.lock_queue.specs.Queue.{state};
 ghost use Rattle.lock_queue.specs.Requests.{asks, leaves, answer, after};
-use guard::Pair;
+use stamps::Pair;
 
 pub mod inner;
 mod judge;
@@ -47,7 +47,7 @@ pub fn ask(queue: Queue, lent: usize, new: Waiting) -> Outcome
     ensures { λ r. ⌜ (r .answer ≡ answer lent (state queue) (asks new)) × (state (r .queue) ≡ after lent (state queue) (asks new)) ⌝ }
 {
     let number = judge::ask_number(queue, lent, new);
-    let desk = guard::desk_of(new.mode, new.pair);
+    let desk = stamps::desk_of(new.mode, new.pair);
     if number == 0 {
         let joined = inner::joined(queue, new);
         return Outcome {

@@ -5,10 +5,10 @@ ghost use Rattle.lock_queue.specs.Queue.{mostPlaces};
 ghost use Rattle.lock_queue.specs.Requests.{asks, leaves, number, answer, after};
 ghost use Rattle.lock_queue.specs.Trials.{guest, crowded};
 ghost use Rattle.lent_queue.specs.Slice.{held};
-use guard::Pair;
 use lent_queue::Kept;
 use lent_queue::Reply;
 use lock_queue::Waiting;
+use stamps::Pair;
 
 // What a leave and then an ask came to.
 struct Turn {

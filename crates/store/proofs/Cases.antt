@@ -2,10 +2,10 @@
 use Prim.Native.Nat.{ℕ}
 use mathlib.Core.Path.{_≡_, refl, ap}
 use mathlib.Core.List.{List, [], _∷_, _++_, reverse, reverse-cons, reverse-append}
-use Rattle.endian.specs.Parts.{part, splice, table, spread, every, zeros}
+use Rattle.lists.specs.Parts.{part, splice, table, spread, every, zeros}
 use Rattle.endian.specs.Le.{le, toLe}
-use Rattle.endian.specs.Tests.{all, allFrom}
-use Rattle.guard.specs.Command.{wellFormed, fieldsOf, payload, formed, commandBytes}
+use Rattle.lists.specs.Tests.{all, allFrom}
+use Rattle.commands.specs.Command.{wellFormed, fieldsOf, payload, formed, commandBytes}
 use Rattle.guard.specs.Entry.{entrySound}
 use Rattle.guard.specs.Judge.{raise, replied}
 use Rattle.image.specs.Image.{

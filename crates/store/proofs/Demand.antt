@@ -7,7 +7,7 @@ use mathlib.Core.List.{List, [], _∷_, _++_, map, reverse, reverseAux}
 use mathlib.Core.Bool.{true, false}
 use lib.Dec.{T}
 use lib.ListN.{length, length-replicate, getD-replicate}
-use Rattle.endian.proofs.Tests.{cases}
+use Rattle.lists.proofs.Tests.{cases}
 use Rattle.image.specs.Image.{Cards, noCard, fresh, freshCards, shapeOk}
 use Rattle.image.proofs.Claims.{freshSound}
 use Rattle.store.specs.Words.{Sent, Event, history, logOf, commandOf, late}

@@ -7,8 +7,8 @@ use mathlib.Core.List.{List}
 use lib.Dec.{T, leb, leb→le}
 use lib.ListN.{length}
 use Rattle.guard.specs.Judge.{replied}
-use Rattle.guard.specs.Table.{first, applies, earlier, none}
-use Rattle.guard.proofs.Table.{given, unapplied, first-all}
+use Rattle.lists.specs.Table.{first, applies, earlier, none}
+use Rattle.lists.proofs.Table.{given, unapplied, first-all}
 use Rattle.store.specs.Serve.{serveBy, serve, storeRows}
 use Rattle.store.specs.Claims.{Exactly, Refusals}
 

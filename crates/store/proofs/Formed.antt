@@ -5,10 +5,10 @@ use mathlib.Core.Bool.{Bool, true, false, _||_, or-false}
 use Prim.Native.Nat.{ℕ}
 use borrow.Author.Tests.{eqb-true}
 use lib.Dec.{eqb}
-use Rattle.guard.specs.Command.{isWrite, wellFormed, fieldsOf, formed}
-use Rattle.guard.specs.declared.Command.{Command}
-use Rattle.guard.proofs.CommandBytes.{formedness}
-use Rattle.guard.proofs.Rules.{CommandRules, command-rules}
+use Rattle.commands.specs.Command.{isWrite, wellFormed, fieldsOf, formed}
+use Rattle.commands.specs.declared.Command.{Command}
+use Rattle.commands.proofs.CommandBytes.{formedness}
+use Rattle.commands.proofs.Rules.{CommandRules, command-rules}
 
 pub formed-well : (bytes : List ℕ) → formed bytes ≡ true → wellFormed (fieldsOf bytes) ≡ true
 formed-well bytes e = formedness bytes e .rules

@@ -8,13 +8,13 @@ use mathlib.Core.List.{List, _∷_, _++_, map, reverse, append-assoc}
 use mathlib.Core.Bool.{Bool, true, false, _&&_}
 use borrow.Author.Tests.{eqb-true, eq-eqb, ne-eqb, ltb-false}
 use lib.Dec.{eqb, ltb}
-use Rattle.endian.proofs.Tests.{from-T, to-false, cases, and-in, and-right, or-fails, not-in}
-use Rattle.guard.specs.Stamp.{shared, exclusive, deskStart, deskOf, own}
-use Rattle.guard.specs.Command.{verifier, update, session, Session}
-use Rattle.guard.specs.declared.Command.{Command}
-use Rattle.guard.specs.declared.Pair.{Pair}
+use Rattle.lists.proofs.Tests.{from-T, to-false, cases, and-in, and-right, or-fails, not-in}
+use Rattle.stamps.specs.Stamp.{shared, exclusive, deskStart, deskOf, own}
+use Rattle.commands.specs.Command.{verifier, update, session, Session}
+use Rattle.commands.specs.declared.Command.{Command}
+use Rattle.stamps.specs.declared.Pair.{Pair}
 use Rattle.store.specs.Words.{Sent, Event, any, none, commandOf, accepted, Proper, largerS, largerX, late, carries, sentFor, premise, OneSession, deskIn, intrudes}
-use Rattle.guard.proofs.Rules.{CommandRules}
+use Rattle.commands.proofs.Rules.{CommandRules}
 use Rattle.store.proofs.Formed.{formed-rules}
 use Rattle.store.proofs.Meaning.{Among, among-here, among-right, among-reverse, among-map, none-means, premise-means, accepted-means, Intruder, intrudes-means}
 

@@ -7,11 +7,11 @@ use mathlib.Core.Bool.{Bool, true, false}
 use borrow.Author.Tests.{eqb-true}
 use lib.ListN.{length, getD, set, length-set}
 use lib.Seq.{getD-set-same, set-set}
-use Rattle.endian.specs.Parts.{splice, Bytes}
-use Rattle.endian.proofs.Tests.{to-T, from-T}
-use Rattle.guard.specs.Command.{original, translation, writes}
+use Rattle.lists.specs.Parts.{splice, Bytes}
+use Rattle.lists.proofs.Tests.{to-T, from-T}
+use Rattle.commands.specs.Command.{original, translation, writes}
 use Rattle.guard.specs.Judge.{raise}
-use Rattle.guard.specs.declared.Command.{Command}
+use Rattle.commands.specs.declared.Command.{Command}
 use Rattle.guard.specs.declared.Entry.{Entry}
 use Rattle.image.specs.Image.{Card, Cards, withCard, withEntry, withText, noCard, entryPlace, bodyPlace, entryBytes, pad, countOf, entryAt, cardAt, encode, decode, sound}
 use Rattle.image.proofs.Claims.{soundReadsBack, goodEncodes}

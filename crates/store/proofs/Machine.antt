@@ -10,19 +10,20 @@ use borrow.Author.Tests.{eqb-true, eqb-false, eq-eqb, ne-eqb, le-ltb, ltb-true, 
 use lib.Dec.{eqb, ltb, eqb·suc-zero}
 use lib.ListN.{length, getD, set, length-set}
 use lib.Seq.{getD-set-same, getD-set-other}
-use Rattle.endian.proofs.Tests.{cases, or-right, not-in, ltb-max}
-use Rattle.guard.specs.Command.{Language, original, translation, writes, update, fieldsOf, formed, payload, noMark}
+use Rattle.lists.proofs.Tests.{cases, or-right, not-in, ltb-max}
+use Rattle.commands.specs.Command.{Language, original, translation, writes, update, fieldsOf, formed, payload}
+use Rattle.stamps.specs.Stamp.{noMark}
 use Rattle.guard.specs.Judge.{behind, textLength, rows, raise, judged, replied}
-use Rattle.guard.specs.Table.{first, settled, applies}
-use Rattle.guard.specs.declared.Command.{Command}
-use Rattle.guard.specs.declared.Pair.{Pair}
+use Rattle.lists.specs.Table.{first, settled, applies}
+use Rattle.commands.specs.declared.Command.{Command}
+use Rattle.stamps.specs.declared.Pair.{Pair}
 use Rattle.guard.proofs.Judge.{Accepted, accepted as passes}
-use Rattle.guard.proofs.Rules.{CommandRules}
-use Rattle.guard.proofs.Table.{unapplied, none-applies}
+use Rattle.commands.proofs.Rules.{CommandRules}
+use Rattle.lists.proofs.Table.{unapplied, none-applies}
 use Rattle.image.specs.Image.{Card, Cards, text, noCard}
 use Rattle.store.specs.Serve.{cardOf, requestRows, stepped, cardsAfter, answerBy, replyBy}
 use Rattle.store.specs.Words.{Sent, Event, any, last, commandOf, accepted, outdated, lastText}
-use Rattle.guard.proofs.CommandBytes.{length-payload}
+use Rattle.commands.proofs.CommandBytes.{length-payload}
 use Rattle.store.proofs.Formed.{formed-well, formed-rules}
 
 -- ---- one request

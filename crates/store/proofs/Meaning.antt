@@ -7,11 +7,11 @@ use mathlib.Core.List.{List, [], _∷_, _++_, map, reverse, append-assoc, revers
 use mathlib.Core.Bool.{Bool, true, false, not, _&&_, _||_, or-assoc}
 use borrow.Author.Tests.{not-true, not-false, ltb-true, lt-ltb, eqb-true, eqb-false, eq-eqb, ne-eqb}
 use lib.Dec.{eqb, ltb}
-use Rattle.endian.proofs.Tests.{never-both, cases, and-in, and-left, and-right, or-left, or-right, or-cases, or-fails, not-in}
-use Rattle.guard.specs.Command.{fieldsOf, verifier, update}
-use Rattle.guard.specs.Stamp.{shared, exclusive, deskNumber, deskStart, deskOf}
-use Rattle.guard.specs.declared.Command.{Command}
-use Rattle.guard.specs.declared.Pair.{Pair}
+use Rattle.lists.proofs.Tests.{never-both, cases, and-in, and-left, and-right, or-left, or-right, or-cases, or-fails, not-in}
+use Rattle.commands.specs.Command.{fieldsOf, verifier, update}
+use Rattle.stamps.specs.Stamp.{shared, exclusive, deskNumber, deskStart, deskOf}
+use Rattle.commands.specs.declared.Command.{Command}
+use Rattle.stamps.specs.declared.Pair.{Pair}
 use Rattle.store.specs.Words.{Sent, Event, any, none, since, last, commandOf, accepted, largerS, largerX, late, sentFor, carries, under, breaks, premise, deskIn, intrudes}
 
 module _ {A : Type 0} where

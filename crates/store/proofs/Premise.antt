@@ -1,13 +1,13 @@
 -- The premise on the lists of trials a and d, by computation on bytes. Assumes nothing.
 use mathlib.Core.Path.{refl}
 use mathlib.Core.List.{[]}
-use Rattle.endian.specs.Parts.{part, splice, table, spread, every, zeros}
+use Rattle.lists.specs.Parts.{part, splice, table, spread, every, zeros}
 use Rattle.endian.specs.Le.{le, toLe}
-use Rattle.endian.specs.Tests.{all, allFrom}
-use Rattle.guard.specs.Command.{wellFormed, fieldsOf, payload, formed, commandBytes}
+use Rattle.lists.specs.Tests.{all, allFrom}
+use Rattle.commands.specs.Command.{wellFormed, fieldsOf, payload, formed, commandBytes}
 use Rattle.guard.specs.Entry.{entrySound}
 use Rattle.guard.specs.Judge.{raise, replied}
-use Rattle.guard.specs.Stamp.{stamp, shared, exclusive}
+use Rattle.stamps.specs.Stamp.{stamp, shared, exclusive}
 use Rattle.image.specs.Image.{
   shapeOk,
   header,

@@ -9,15 +9,15 @@ use borrow.Author.Tests.{eqb-true, le-ltb, ltb-true}
 use lib.Dec.{ltb}
 use lib.ListN.{length, take, drop}
 use lib.Seq.{take-append-seam}
-use Rattle.endian.specs.Parts.{splice}
-use Rattle.endian.proofs.Tests.{to-T, from-T, never-both}
-use Rattle.guard.specs.Stamp.{stale}
-use Rattle.guard.specs.Command.{Language, original, translation, reads, writes, verifier, fieldsOf}
-use Rattle.guard.specs.Judge.{markFits, behind, textLength, raise, readLength, replied}
-use Rattle.guard.specs.Table.{Row, applies}
-use Rattle.guard.specs.declared.Command.{Command}
+use Rattle.lists.specs.Parts.{splice}
+use Rattle.lists.proofs.Tests.{to-T, from-T, never-both}
+use Rattle.stamps.specs.Stamp.{stale, markFits}
+use Rattle.commands.specs.Command.{Language, original, translation, reads, writes, verifier, fieldsOf}
+use Rattle.guard.specs.Judge.{behind, textLength, raise, readLength, replied}
+use Rattle.lists.specs.Table.{Row, applies}
+use Rattle.commands.specs.declared.Command.{Command}
 use Rattle.guard.specs.declared.Entry.{Entry}
-use Rattle.guard.proofs.Table.{given}
+use Rattle.lists.proofs.Table.{given}
 use Rattle.image.specs.Image.{Card, Cards, text}
 use Rattle.store.specs.Serve.{cardOf, requestRows, textRead}
 use Rattle.store.specs.Words.{Sent, Event, commandOf, Proper, late, rightMark, outdated, lastText}

@@ -6,12 +6,12 @@ use mathlib.Core.List.{List, [], _∷_}
 use mathlib.Core.Bool.{Bool, true, false, cond}
 use borrow.Author.Tests.{ltb-true}
 use lib.ListN.{length}
-use Rattle.endian.specs.Parts.{Bytes}
-use Rattle.endian.proofs.Bytes.{Bytes-nil, Bytes-drop}
-use Rattle.endian.proofs.Tests.{from-T}
-use Rattle.guard.specs.Command.{Language, original, translation, writes, fieldsOf, payload, fixed}
-use Rattle.guard.specs.Table.{settled}
-use Rattle.guard.specs.declared.Command.{Command}
+use Rattle.lists.specs.Parts.{Bytes}
+use Rattle.lists.proofs.Bytes.{Bytes-nil, Bytes-drop}
+use Rattle.lists.proofs.Tests.{from-T}
+use Rattle.commands.specs.Command.{Language, original, translation, writes, fieldsOf, payload, fixed}
+use Rattle.lists.specs.Table.{settled}
+use Rattle.commands.specs.declared.Command.{Command}
 use Rattle.guard.proofs.Raise.{raise-sound, raise-fits}
 use Rattle.image.specs.Image.{Card, Cards, text, encode, decode, sound}
 use Rattle.image.specs.Claims.{GoodCard, GoodCards}
@@ -20,7 +20,7 @@ use Rattle.image.proofs.Claims.{goodEncodes}
 use Rattle.store.specs.Serve.{cardOf, stepped, cardsAfter, serveBy, serve}
 use Rattle.store.specs.Words.{Sent, eventOf, imageAfter, history}
 use Rattle.store.specs.Claims.{SentBytes, AllBytes}
-use Rattle.guard.proofs.CommandBytes.{length-payload, fits-fields}
+use Rattle.commands.proofs.CommandBytes.{length-payload, fits-fields}
 use Rattle.store.proofs.Machine.{numberOn, eventBy, cardsBy, cardsFrom, eventsFrom, Passed, passed, Sized, sized-step}
 
 -- ---- cards stay by the rules

@@ -9,19 +9,19 @@ use borrow.Author.Tests.{lt-ltb, ltb-true, ltb-false}
 use lib.ListN.{length, take, drop, length-drop}
 use lib.Seq.{take-all}
 use lib.Dec.{ltb}
-use Rattle.endian.specs.Parts.{splice}
-use Rattle.endian.proofs.Tests.{cases, never-both}
-use Rattle.guard.specs.Command.{Language, original, translation, reads, fieldsOf, payload, formed, parsed, fixed}
-use Rattle.guard.specs.Table.{first}
+use Rattle.lists.specs.Parts.{splice}
+use Rattle.lists.proofs.Tests.{cases, never-both}
+use Rattle.commands.specs.Command.{Language, original, translation, reads, fieldsOf, payload, formed, parsed, fixed}
+use Rattle.lists.specs.Table.{first}
 use Rattle.guard.specs.Judge.{rows, readLength, overruns, raise, replied, judged, refused}
 use Rattle.guard.specs.declared.Answer.{Answer}
-use Rattle.guard.specs.declared.Command.{Command}
+use Rattle.commands.specs.declared.Command.{Command}
 use Rattle.guard.specs.declared.Entry.{Entry}
 use Rattle.guard.specs.declared.Judged.{Judged}
-use Rattle.guard.specs.declared.Parsed.the-variants.{Malformed, Formed}
-use Rattle.guard.proofs.CommandBytes.{parsed-formed, parsed-malformed, formed-short}
+use Rattle.commands.specs.declared.Parsed.the-variants.{Malformed, Formed}
+use Rattle.commands.proofs.CommandBytes.{parsed-formed, parsed-malformed, formed-short}
 use Rattle.guard.proofs.Judge.{Accepted, accepted, accepted-raises}
-use Rattle.guard.proofs.Table.{settled-old}
+use Rattle.lists.proofs.Table.{settled-old}
 use Rattle.image.specs.Image.{Card, withCard, cardAt, entryAt, countOf, roomOf, encode, decode, sound}
 use Rattle.image.proofs.Decode.{count-decode, card-decode}
 use Rattle.store.specs.Effects.{judgedAt, carried}

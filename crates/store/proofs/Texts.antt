@@ -6,12 +6,12 @@ use mathlib.Core.List.{List}
 use mathlib.Core.Bool.{true, false}
 use borrow.Author.Tests.{eqb-true}
 use lib.ListN.{length}
-use Rattle.endian.specs.Parts.{part, splice}
-use Rattle.endian.proofs.Parts.{splice-nil}
-use Rattle.endian.proofs.Tests.{to-T, never-both}
-use Rattle.guard.specs.Command.{Language, original, translation, reads, writes}
+use Rattle.lists.specs.Parts.{part, splice}
+use Rattle.lists.proofs.Parts.{splice-nil}
+use Rattle.lists.proofs.Tests.{to-T, never-both}
+use Rattle.commands.specs.Command.{Language, original, translation, reads, writes}
 use Rattle.guard.specs.Judge.{textLength, readLength}
-use Rattle.guard.specs.declared.Command.{Command}
+use Rattle.commands.specs.declared.Command.{Command}
 use Rattle.guard.specs.declared.Entry.{Entry}
 use Rattle.image.specs.Image.{Card, text, sound, headerSize, countOf, roomOf, bodyPlace, pad, entryAt, cardAt}
 use Rattle.image.proofs.Bytes.{Lengths}

@@ -5,10 +5,10 @@ use Prim.Native.Nat.{ℕ}
 use mathlib.Core.Path.{_≡_}
 use mathlib.Core.List.{List, [], _∷_, _++_, map, reverse}
 use lib.ListN.{length, replicate}
-use Rattle.guard.specs.Command.{commandBytes, noMark, noPair}
-use Rattle.guard.specs.Stamp.{stamp, shared, exclusive}
+use Rattle.commands.specs.Command.{commandBytes}
+use Rattle.stamps.specs.Stamp.{stamp, shared, exclusive, noMark, noPair}
 use Rattle.guard.specs.declared.Answer.{Answer}
-use Rattle.guard.specs.declared.Pair.{Pair}
+use Rattle.stamps.specs.declared.Pair.{Pair}
 use Rattle.image.specs.Image.{encode, fresh}
 use Rattle.store.specs.Serve.{serve}
 use Rattle.store.specs.Words.{Sent, Event, history}

@@ -7,9 +7,9 @@ use mathlib.Core.List.{List, [], _∷_, _++_, map, reverse}
 use mathlib.Core.Bool.{true, false}
 use lib.ListN.{length, take}
 use lib.Dec.{T}
-use Rattle.endian.specs.Parts.{Bytes}
-use Rattle.guard.specs.Command.{Language, translation, reads}
-use Rattle.guard.specs.Table.{applies, earlier, none as noRow}
+use Rattle.lists.specs.Parts.{Bytes}
+use Rattle.commands.specs.Command.{Language, translation, reads}
+use Rattle.lists.specs.Table.{applies, earlier, none as noRow}
 use Rattle.image.specs.Image.{shapeOk}
 use Rattle.store.specs.Serve.{serve, storeRows}
 use Rattle.store.specs.Words.{

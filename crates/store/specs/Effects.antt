@@ -5,11 +5,11 @@ use Prim.Native.Nat.{ℕ}
 use mathlib.Core.List.{List}
 use mathlib.Core.Bool.{cond}
 use lib.ListN.{length}
-use Rattle.endian.specs.Parts.{splice}
-use Rattle.guard.specs.Command.{original, translation, writes}
+use Rattle.lists.specs.Parts.{splice}
+use Rattle.commands.specs.Command.{original, translation, writes}
 use Rattle.guard.specs.Judge.{judged, replied}
-use Rattle.guard.specs.Table.{settled}
-use Rattle.guard.specs.declared.Command.{Command}
+use Rattle.lists.specs.Table.{settled}
+use Rattle.commands.specs.declared.Command.{Command}
 use Rattle.guard.specs.declared.Judged.{Judged}
 use Rattle.image.specs.Image.{bodyPlace, countOf, roomOf, pad, entryAt, cardAt, withCard, encode, decode}
 use Rattle.store.specs.Serve.{Outcome, textRead, stepped}

@@ -5,12 +5,12 @@ use mathlib.Core.List.{List, [], _∷_}
 use mathlib.Core.Bool.{Bool, cond, not}
 use lib.ListN.{length, getD}
 use lib.Dec.{ltb}
-use Rattle.endian.specs.Parts.{splice}
-use Rattle.guard.specs.Command.{original, translation, reads, writes, fieldsOf, payload, formed}
-use Rattle.guard.specs.Table.{Row, row, first, settled}
+use Rattle.lists.specs.Parts.{splice}
+use Rattle.commands.specs.Command.{original, translation, reads, writes, fieldsOf, payload, formed}
+use Rattle.lists.specs.Table.{Row, row, first, settled}
 use Rattle.guard.specs.Judge.{entryRows, raise, replied}
 use Rattle.guard.specs.declared.Answer.{Answer}
-use Rattle.guard.specs.declared.Command.{Command}
+use Rattle.commands.specs.declared.Command.{Command}
 use Rattle.image.specs.Image.{Card, Cards, text, withCard, noCard, encode, decode, sound}
 
 -- The card that a command names; an empty one where there is none.

@@ -5,11 +5,10 @@ use mathlib.Core.Path.{_≡_}
 use mathlib.Core.List.{List, [], _∷_, reverse}
 use mathlib.Core.Bool.{Bool, true, false, cond, not, _&&_, _||_}
 use lib.Dec.{ltb, eqb}
-use Rattle.guard.specs.Stamp.{shared, exclusive, deskStart}
-use Rattle.guard.specs.Command.{Language, original, translation, writes, verifier, update, fieldsOf, payload, formed, session, noMark}
-use Rattle.guard.specs.Judge.{markFits}
+use Rattle.stamps.specs.Stamp.{shared, exclusive, deskStart, noMark, markFits}
+use Rattle.commands.specs.Command.{Language, original, translation, writes, verifier, update, fieldsOf, payload, formed, session}
 use Rattle.guard.specs.declared.Answer.{Answer}
-use Rattle.guard.specs.declared.Command.{Command}
+use Rattle.commands.specs.declared.Command.{Command}
 use Rattle.image.specs.Image.{fresh}
 use Rattle.store.specs.Serve.{Outcome, serve}
 

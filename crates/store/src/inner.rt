@@ -2,15 +2,15 @@ ghost use mathlib.Core.Path.{_≡_};
 ghost use mathlib.Core.Bool.{true};
 ghost use Prim.Native.Nat.{_<_, _≤_};
 ghost use lib.ListN.{length};
-ghost use Rattle.endian.specs.Parts.{splice};
+ghost use Rattle.lists.specs.Parts.{splice};
 ghost use Rattle.guard.specs.Judge.{raise, readLength};
 ghost use Rattle.image.specs.Image.{bodyPlace, countOf, roomOf, entryAt, cardAt, withCard, encode, decode, sound};
 ghost use Rattle.store.specs.Effects.{textWritten, carried};
 ghost use Rattle.store.specs.Serve.{textRead, stepped, serve};
+use commands::Command;
+use commands::Parsed;
 use guard::Answer;
-use guard::Command;
 use guard::Entry;
-use guard::Parsed;
 use guard::entries::ACCEPTED;
 use guard::entries::MALFORMED;
 use guard::entries::NO_CARD;
@@ -105,11 +105,11 @@ pub fn step(image: &mut [u8], command: &[u8], reply: &mut [u8]) -> Answer
     ensures reply { λ _. ⌜ now (reply .exit) ≡ serve (now (image .entry)) (now (command .entry)) (now (reply .entry)) .reply ⌝ }
     ensures kept { λ _. ⌜ sound (now (image .exit)) ≡ true ⌝ }
 {
-    let Parsed::Formed(c) = guard::parse(command) else {
+    let Parsed::Formed(c) = commands::parse(command) else {
         return guard::refusal(MALFORMED);
     };
     if image::inner::count(image) <= c.card {
         return guard::refusal(NO_CARD);
     }
-    carry(image, c, &command[guard::FIXED..], reply)
+    carry(image, c, &command[commands::FIXED..], reply)
 }

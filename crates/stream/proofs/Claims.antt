@@ -8,9 +8,9 @@ use mathlib.Core.Bool.{Bool, true, false}
 use lib.ListN.{length, take, drop, getD, length-drop, length-append, take-append-drop}
 use lib.Seq.{length-take-le, drop-drop, take-at, drop-at, take-suc, take-length, drop-cons}
 use denote.Ref.{RefT, now}
-use Rattle.endian.specs.Parts.{part, spread}
-use Rattle.endian.proofs.Spread.{spread-append}
-use Rattle.guard.specs.Command.{fixed}
+use Rattle.lists.specs.Parts.{part, spread}
+use Rattle.lists.proofs.Spread.{spread-append}
+use Rattle.commands.specs.Command.{fixed}
 use Rattle.stream.specs.Stream.{extent, whole, nextAt, onward, commands, endOf, endToEnd, placeOf}
 use Rattle.stream.specs.Claims.{OneCommand, Parts, First, Back, Stepping, Visits, Reads, Claims}
 use Rattle.stream.specs.Reader.{begun, movedTo, passed, steps}

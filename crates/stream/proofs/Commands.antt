@@ -7,7 +7,7 @@ use mathlib.Core.List.{List, [], _∷_}
 use mathlib.Core.Bool.{Bool, true, false, cond}
 use lib.ListN.{length, take, drop, length-drop, length-append}
 use lib.Seq.{length-take-le, drop-drop}
-use Rattle.endian.specs.Parts.{spread}
+use Rattle.lists.specs.Parts.{spread}
 use Rattle.stream.specs.Stream.{extent, whole, nextAt, commandsWithin, commands, endWithin, endOf, endToEnd}
 use Rattle.stream.specs.declared.Next.the-variants.{Whole, Cut}
 use Rattle.stream.proofs.Place.{extent-fixed, whole-out, cut-short, says-whole, says-cut}

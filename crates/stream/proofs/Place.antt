@@ -8,11 +8,11 @@ use mathlib.Core.Bool.{Bool, true, false}
 use borrow.Author.Tests.{leb-true, le-leb}
 use lib.Dec.{leb}
 use lib.ListN.{length, take, drop, length-drop}
-use Rattle.endian.specs.Parts.{part}
+use Rattle.lists.specs.Parts.{part}
 use Rattle.endian.specs.Le.{le}
-use Rattle.endian.proofs.Parts.{part-drop, part-take, part-append-left}
-use Rattle.endian.proofs.Tests.{and-in, and-right}
-use Rattle.guard.specs.Command.{fixed}
+use Rattle.lists.proofs.Parts.{part-drop, part-take, part-append-left}
+use Rattle.lists.proofs.Tests.{and-in, and-right}
+use Rattle.commands.specs.Command.{fixed}
 use Rattle.stream.specs.Stream.{extent, whole, nextAt}
 use Rattle.stream.specs.declared.Next.the-variants.{Whole, Cut}
 

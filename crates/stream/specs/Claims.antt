@@ -6,8 +6,8 @@ use mathlib.Core.List.{List, [], _∷_, _++_}
 use mathlib.Core.Bool.{false}
 use lib.ListN.{length, drop, getD}
 use denote.Ref.{RefT, now}
-use Rattle.endian.specs.Parts.{part}
-use Rattle.guard.specs.Command.{fixed, field}
+use Rattle.lists.specs.Parts.{part}
+use Rattle.commands.specs.Command.{fixed, field}
 use Rattle.stream.specs.Stream.{whole, nextAt, commands, endOf, endToEnd, placeOf}
 use Rattle.stream.specs.Reader.{begun, movedTo, steps}
 use Rattle.stream.specs.declared.Next.the-variants.{Whole, Cut}

@@ -5,8 +5,8 @@ use mathlib.Core.List.{List, [], _∷_}
 use mathlib.Core.Bool.{Bool, cond, _&&_}
 use lib.Dec.{leb}
 use lib.ListN.{length, take, drop}
-use Rattle.endian.specs.Parts.{spread}
-use Rattle.guard.specs.Command.{fixed, field}
+use Rattle.lists.specs.Parts.{spread}
+use Rattle.commands.specs.Command.{fixed, field}
 use Rattle.stream.specs.declared.Next.{Next}
 use Rattle.stream.specs.declared.Next.the-variants.{Whole, Cut}
 

@@ -2,9 +2,9 @@
 ghost use mathlib.Core.Path.{_≡_};
 ghost use Rattle.stream.specs.Stream.{nextAt, endOf};
 ghost use Rattle.stream.specs.Reader.{begun, movedTo};
+use commands::FIXED;
+use commands::LENGTH;
 use endian::inner::read_u16;
-use guard::FIXED;
-use guard::commands::LENGTH;
 
 // What stands at a place of a stream: a whole command, and the place behind it; or none that is whole.
 pub enum Next {

@@ -4,7 +4,7 @@ use Prim.Native.Nat.{_-_, _≤_, _<_}
 use native.Mathlib.Omega.{arith}
 use borrow.Author.Needs.{needs}
 use lib.ListN.{length, drop, drop-of-length-le}
-use Rattle.endian.proofs.Parts.{drop-left}
+use Rattle.lists.proofs.Parts.{drop-left}
 use Rattle.endian.proofs.Loops.{Writing, writing-none, writing-more, writing-done}
 use Rattle.cards.specs.Run.{perLine}
 use Rattle.cards.proofs.Steps.{per-line}

@@ -2,7 +2,7 @@
 use mathlib.Core.Path.{refl, sym}
 use borrow.Author.Needs.{needs}
 use lib.Seq.{length-take-le}
-use Rattle.guard.proofs.Table.{settled-old}
+use Rattle.lists.proofs.Table.{settled-old}
 use Rattle.desk.proofs.part_of.Statement.{statement}
 use Rattle.desk.proofs.part_of.Tie as tie
 

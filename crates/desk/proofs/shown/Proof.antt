@@ -5,7 +5,7 @@ use mathlib.Core.Bool.{Bool, _||_}
 use borrow.Author.Needs.{needs}
 use denote.Ref.{now}
 use lib.ListN.{length, take}
-use Rattle.guard.specs.Table.{first, settled}
+use Rattle.lists.specs.Table.{first, settled}
 use Rattle.desk.specs.Show.{Text, text, of, beyond, showRows, shownNumber, shownPart}
 use Rattle.desk.specs.declared.Language.{Language}
 use Rattle.desk.specs.declared.Language.the-variants.{Original, Translation}

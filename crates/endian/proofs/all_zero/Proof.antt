@@ -5,7 +5,7 @@ use mathlib.Core.Path.{_≡_, refl}
 use borrow.Author.Tests.{eq-eqb, ne-eqb}
 use lib.ListN.{length, drop}
 use Rattle.endian.proofs.Loops.{zeros-from, zeros-end}
-use Rattle.endian.specs.Parts.{zeros}
+use Rattle.lists.specs.Parts.{zeros}
 use Rattle.endian.proofs.all_zero.Statement.{statement}
 use Rattle.endian.proofs.all_zero.Tie as tie
 

@@ -1,8 +1,8 @@
 -- The loop: every card before k keeps the rules. Assumes nothing.
 use Rattle.image.proofs.Bytes.{short, header-size, header-fails, card-fails, all-hold}
 use Rattle.image.specs.Image.{cardSound, countOf}
-use Rattle.endian.proofs.Every.{every-none, every-more}
-use Rattle.endian.specs.Parts.{every}
+use Rattle.lists.proofs.Every.{every-none, every-more}
+use Rattle.lists.specs.Parts.{every}
 use native.Mathlib.Omega.{arith}
 use borrow.Author.Tests.{not-true, not-false}
 use mathlib.Core.Bool.{true}

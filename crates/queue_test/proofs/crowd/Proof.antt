@@ -5,8 +5,8 @@ use native.Mathlib.Omega.{arith}
 use mathlib.Core.List.{List}
 use borrow.Author.Needs.{needs}
 use lib.ListN.{length, replicate, set}
-use Rattle.endian.specs.Parts.{table}
-use Rattle.endian.proofs.Spread.{getD-table}
+use Rattle.lists.specs.Parts.{table}
+use Rattle.lists.proofs.Spread.{getD-table}
 use Rattle.lock_queue.specs.Queue.{mostPlaces}
 use Rattle.lock_queue.specs.Trials.{guest, crowded}
 use Rattle.lock_queue.specs.declared.Waiting.{Waiting}

@@ -2,7 +2,7 @@
 use mathlib.Core.Path.{sym, ap}
 use Prim.Native.Nat.{ℕ}
 use native.Mathlib.Nat.{add-zero}
-use Rattle.guard.specs.Stamp.{shared}
+use Rattle.stamps.specs.Stamp.{shared}
 use borrow.Author.Needs.{needs}
 use Rattle.queue_test.proofs.guest.Statement.{statement}
 use Rattle.queue_test.proofs.guest.Tie as tie

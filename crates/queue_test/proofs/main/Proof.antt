@@ -2,8 +2,8 @@
 use mathlib.Core.Path.{_≡_, refl, ap, _∙_}
 use Prim.Native.Nat.{ℕ, _+_, _*_}
 use borrow.Author.Tests.{eq-eqb}
-use Rattle.endian.specs.Parts.{table}
-use Rattle.endian.specs.Tests.{all, allFrom}
+use Rattle.lists.specs.Parts.{table}
+use Rattle.lists.specs.Tests.{all, allFrom}
 use Rattle.lock_queue.specs.Queue.{mostPlaces, stands, distinct, good, joined, removed, without}
 use Rattle.lock_queue.specs.Requests.{asks, leaves, number, after}
 use Rattle.lock_queue.specs.Trials.{guest, crowded}

@@ -4,7 +4,7 @@ use borrow.Author.Needs.{needs}
 use borrow.Author.Tests.{eq-eqb}
 use lib.ListN.{set, replicate}
 use Rattle.endian.specs.Le.{le}
-use Rattle.endian.specs.Parts.{part}
+use Rattle.lists.specs.Parts.{part}
 use Rattle.stream.specs.Stream.{extent, whole, endWithin, endOf}
 use Rattle.stream_test.proofs.main.Statement.{statement}
 use Rattle.stream_test.proofs.main.Tie as tie

@@ -2,7 +2,7 @@
 use Prim.Native.Nat.{ℕ, _≤_, _-_}
 use native.Mathlib.Omega.{arith}
 use lib.ListN.{length}
-use Rattle.endian.proofs.Spread.{length-table, getD-table}
+use Rattle.lists.proofs.Spread.{length-table, getD-table}
 use Rattle.lock_queue.specs.Queue.{noWaiting}
 use Rattle.capi.specs.Fields.{placesOf}
 use Rattle.capi.proofs.Arrays.{Filling, filling-none, filling-more, filling-done}

@@ -2,7 +2,7 @@
 use Prim.Native.Nat.{_-_}
 use native.Mathlib.Omega.{arith}
 use lib.ListN.{length, drop, drop-of-length-le}
-use Rattle.endian.proofs.Parts.{drop-left}
+use Rattle.lists.proofs.Parts.{drop-left}
 use Rattle.endian.proofs.Loops.{Writing, writing-none, writing-more, writing-done}
 use Rattle.endian.proofs.inner.put.Statement.{statement}
 use Rattle.endian.proofs.inner.put.Tie as tie

@@ -1,7 +1,7 @@
 -- By the number of the first row that applies. Assumes nothing.
 use borrow.Author.Needs.{needs}
 use mathlib.Core.Path.{sym, _∙_}
-use Rattle.guard.proofs.Table.{settled-new, settled-old}
+use Rattle.lists.proofs.Table.{settled-new, settled-old}
 use Rattle.guard.proofs.Judge.{judged-by, accepted-none}
 use Rattle.guard.proofs.Entry.judge.Statement.{statement}
 use Rattle.guard.proofs.Entry.judge.Tie as tie

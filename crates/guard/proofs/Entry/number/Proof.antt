@@ -6,7 +6,7 @@ use mathlib.Core.Bool.{not}
 use borrow.Author.Tests.{lt-ltb, le-ltb}
 use lib.ListN.{drop}
 use Rattle.guard.specs.Judge.{rows}
-use Rattle.guard.specs.Table.{first}
+use Rattle.lists.specs.Table.{first}
 use Rattle.guard.proofs.Entry.number.Statement.{statement}
 use Rattle.guard.proofs.Entry.number.Tie as tie
 
@@ -21,7 +21,7 @@ past-2 : (c : tie.Else2) → let s = c .before .before .before .before in left 0
 past-2 c = past-1 (c .before .before) ∙ rw (sym (c .before .stale .ensures) ∙ c .if2 .left)
 
 past-3 : (c : tie.Else3) → let s = c .before .before .before .before .before .before in left 0 s ≡ left 3 s
-past-3 c = past-2 (c .before .before) ∙ rw (ap not (sym (c .before .fits2 .ensures)) ∙ c .if3 .left)
+past-3 c = past-2 (c .before .before) ∙ rw (ap not (sym (c .before .mark-fits .ensures)) ∙ c .if3 .left)
 
 past-4 : (c : tie.Else4) → let s = c .before .before .before .before .before .before .before .before in left 0 s ≡ left 4 s
 past-4 c = past-3 (c .before .before) ∙ rw (le-ltb _ _ (c .if4 .left))
@@ -47,11 +47,11 @@ stale-requires c κs = search needs
 returns-2 : tie.Need-returns-2
 returns-2 c = sym (past-1 (c .before .before) ∙ rw (sym (c .before .stale .ensures) ∙ c .if2 .taken))
 
-fits-requires : tie.Need-fits-requires
-fits-requires c κs = search needs
+mark-fits-requires : tie.Need-mark-fits-requires
+mark-fits-requires c κs = search needs
 
 returns-3 : tie.Need-returns-3
-returns-3 c = sym (past-2 (c .before .before) ∙ rw (ap not (sym (c .before .fits2 .ensures)) ∙ c .if3 .taken))
+returns-3 c = sym (past-2 (c .before .before) ∙ rw (ap not (sym (c .before .mark-fits .ensures)) ∙ c .if3 .taken))
 
 returns-4 : tie.Need-returns-4
 returns-4 c = sym (past-3 (c .before .before) ∙ rw (lt-ltb _ _ (c .if4 .taken)))
@@ -85,7 +85,7 @@ number-spec =
     returns
     stale-requires
     returns-2
-    fits-requires
+    mark-fits-requires
     returns-3
     returns-4
     wrong-edition-requires

@@ -1,7 +1,7 @@
 -- By the number. Assumes nothing.
 use borrow.Author.Needs.{needs}
 use mathlib.Core.Path.{sym, _∙_}
-use Rattle.guard.proofs.Table.{settled-new, settled-old}
+use Rattle.lists.proofs.Table.{settled-new, settled-old}
 use Rattle.guard.proofs.Judged.length.Statement.{statement}
 use Rattle.guard.proofs.Judged.length.Tie as tie
 

@@ -1,5 +1,5 @@
 -- The tests in their order, by what each call ensures. Assumes nothing.
-use Rattle.endian.specs.Tests.{all, allFrom}
+use Rattle.lists.specs.Tests.{all, allFrom}
 use Rattle.guard.specs.Entry.{entrySound}
 use borrow.Author.Needs.{needs}
 use Rattle.image.proofs.inner.entry_sound.Statement.{statement}

@@ -1,8 +1,8 @@
 -- The tests in their order, by what each call ensures. Assumes nothing.
 use Rattle.image.specs.Image.{headerSound}
 use Rattle.endian.specs.Le.{le}
-use Rattle.endian.specs.Parts.{part}
-use Rattle.endian.specs.Tests.{all, allFrom}
+use Rattle.lists.specs.Parts.{part}
+use Rattle.lists.specs.Tests.{all, allFrom}
 use borrow.Author.Needs.{needs}
 use Rattle.image.proofs.inner.header_sound.Statement.{statement}
 use Rattle.image.proofs.inner.header_sound.Tie as tie

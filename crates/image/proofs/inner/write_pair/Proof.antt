@@ -1,7 +1,7 @@
 -- The numbers end to end. Assumes nothing.
 use native.Mathlib.Omega.{arith}
 use Rattle.endian.specs.Le.{toLe}
-use Rattle.endian.proofs.Parts.{splice-adjacent}
+use Rattle.lists.proofs.Parts.{splice-adjacent}
 use borrow.Author.Needs.{needs}
 use Rattle.image.proofs.inner.write_pair.Statement.{statement}
 use Rattle.image.proofs.inner.write_pair.Tie as tie

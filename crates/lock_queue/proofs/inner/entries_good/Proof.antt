@@ -4,7 +4,7 @@ use native.Mathlib.Omega.{arith}
 use mathlib.Core.Path.{_≡_, refl}
 use lib.ListN.{length, take}
 use Rattle.lock_queue.specs.Queue.{mostPlaces, distinct}
-use Rattle.endian.specs.Tests.{all, allFrom}
+use Rattle.lists.specs.Tests.{all, allFrom}
 use Rattle.lock_queue.specs.Entries.{entriesGood}
 use Rattle.lock_queue.proofs.Array.{places-long}
 use Rattle.lock_queue.proofs.Standing.{one-more, entries-more}

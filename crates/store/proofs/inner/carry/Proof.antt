@@ -2,7 +2,7 @@
 use borrow.Author.Needs.{needs}
 use mathlib.Core.Path.{_≡_, refl}
 use lib.ListN.{length}
-use Rattle.endian.proofs.Tests.{to-T}
+use Rattle.lists.proofs.Tests.{to-T}
 use Rattle.image.proofs.Decode.{places}
 use Rattle.store.specs.Effects.{judgedAt}
 use Rattle.store.proofs.Step.{exits, refuses, accepts, payload-fits, lent-fits, raises}

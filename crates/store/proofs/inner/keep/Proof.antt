@@ -1,7 +1,7 @@
 -- `store::inner::keep` meets its contract. Assumes nothing.
 use borrow.Author.Needs.{needs}
 use native.Mathlib.Omega.{arith}
-use Rattle.endian.proofs.Tests.{to-T}
+use Rattle.lists.proofs.Tests.{to-T}
 use Rattle.image.proofs.Claims.{soundReadsBack}
 use Rattle.image.proofs.Decode.{places}
 use Rattle.store.proofs.Kept.{keeps}

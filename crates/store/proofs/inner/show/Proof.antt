@@ -1,7 +1,7 @@
 -- `store::inner::show` meets its contract. Assumes nothing.
 use borrow.Author.Needs.{needs}
 use mathlib.Core.Path.{sym, _∙_}
-use Rattle.guard.specs.Command.{original, translation}
+use Rattle.commands.specs.Command.{original, translation}
 use Rattle.image.specs.Image.{cardAt}
 use Rattle.store.proofs.Texts.{text-fits, shows, shows-none}
 use Rattle.store.proofs.inner.show.Statement.{statement}

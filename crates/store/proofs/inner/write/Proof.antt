@@ -2,7 +2,7 @@
 use borrow.Author.Needs.{needs}
 use native.Mathlib.Omega.{arith}
 use mathlib.Core.Path.{sym, _∙_}
-use Rattle.guard.specs.Command.{original, translation}
+use Rattle.commands.specs.Command.{original, translation}
 use Rattle.store.proofs.Texts.{header-in, body-within, written, written-none}
 use Rattle.store.proofs.inner.write.Statement.{statement}
 use Rattle.store.proofs.inner.write.Tie as tie

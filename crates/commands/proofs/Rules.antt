@@ -1,0 +1,56 @@
+-- The rules of a command's numbers, sentence by sentence. Assumes nothing.
+use Prim.Native.Nat.{_≤_}
+use mathlib.Core.Path.{_≡_, sym, ap, _∙_}
+use mathlib.Core.Bool.{Bool, true, not, _&&_, _||_, Bool·beq}
+use borrow.Author.Tests.{leb-true}
+use lib.Dec.{leb, eqb}
+use Rattle.lists.specs.Tests.{all, allFrom}
+use Rattle.lists.proofs.Tests.{allFrom-and, all-out, and-left, and-right, beq-true}
+use Rattle.stamps.specs.Stamp.{exclusive, sessionChecks, markWhole}
+use Rattle.commands.specs.Command.{translation, writes, isWrite, update, checks, wellFormed}
+use Rattle.stamps.proofs.Stamp.{SessionRules, session-rules}
+use Rattle.commands.specs.declared.Command.{Command}
+
+-- The rules of the act, the edition and the length.
+abbrev pub ownRules : Command → Bool
+ownRules c =
+    leb 1 (c .act)
+    && leb (c .act) 5
+    && (not (isWrite c) || eqb (c .mode) exclusive)
+    && Bool·beq (eqb (c .act) 4) (not (eqb (c .edition) 0))
+    && (eqb (c .length) 0 || isWrite c)
+
+-- The rules, with those of a session as one.
+pub by-session : (c : Command) →
+    wellFormed c ≡ (ownRules c && all (sessionChecks (c .mode) (update c)) && markWhole (c .expected) && markWhole (c .next))
+unfolding wellFormed all allFrom
+by-session c = ap (λ (b : Bool). b && markWhole (c .expected) && markWhole (c .next)) (allFrom-and (ownRules c) (sessionChecks (c .mode) (update c)))
+
+-- The rules of a well-formed command, one by one.
+pub record CommandRules (c : Command) : Type 0 where
+  pub least : 1 ≤ c .act
+  pub most : c .act ≤ 5
+  pub writing : (not (isWrite c) || eqb (c .mode) exclusive) ≡ true
+  pub edition : writes (translation 0) c ≡ not (eqb (c .edition) 0)
+  pub length : (eqb (c .length) 0 || isWrite c) ≡ true
+  pub expected : markWhole (c .expected) ≡ true
+  pub next : markWhole (c .next) ≡ true
+  pub session : SessionRules (c .mode) (update c)
+
+pub command-rules : (c : Command) → wellFormed c ≡ true → CommandRules c
+unfolding wellFormed
+command-rules c h =
+    record {
+      least = leb-true 1 (c .act) (and-left (leb 1 (c .act)) (leb (c .act) 5) (all-out (checks c) h 0));
+      most = leb-true (c .act) 5 (and-right (leb 1 (c .act)) (leb (c .act) 5) (all-out (checks c) h 0));
+      writing = all-out (checks c) h 1;
+      edition = beq-true (eqb (c .act) 4) (not (eqb (c .edition) 0)) (all-out (checks c) h 2);
+      length = all-out (checks c) h 3;
+      expected = all-out (checks c) h 8;
+      next = all-out (checks c) h 9;
+      session =
+          session-rules (c .mode) (update c)
+          (and-right (ownRules c) (all (sessionChecks (c .mode) (update c)))
+          (and-left (ownRules c && all (sessionChecks (c .mode) (update c))) (markWhole (c .expected))
+          (and-left (ownRules c && all (sessionChecks (c .mode) (update c)) && markWhole (c .expected)) (markWhole (c .next)) (sym (by-session c) ∙ h))));
+    }

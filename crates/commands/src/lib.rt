@@ -1,0 +1,199 @@
+// A command: its numbers, its rules and its bytes.
+ghost use mathlib.Core.Path.{_≡_};
+ghost use mathlib.Core.Bool.{Bool·beq, not, _&&_, _||_};
+ghost use Prim.Native.Nat.{_+_, _≤_};
+ghost use lib.ListN.{length};
+ghost use lib.Dec.{leb, eqb};
+ghost use Rattle.stamps.specs.Stamp.{exclusive};
+ghost use Rattle.commands.specs.Command.{Language, reads, writes, isWrite, wellFormed, markAt, fieldsOf, parsed, fixed};
+use stamps::EXCLUSIVE;
+use stamps::Mark;
+use stamps::Pair;
+use stamps::mark_whole;
+use stamps::session_ok;
+
+// The numbers of a command. Its payload stands behind the fixed part in the lent bytes.
+pub struct Command {
+    pub act: u8,
+    pub mode: u8,
+    pub card: u16,
+    pub pair: Pair,
+    pub expected: Mark,
+    pub next: Mark,
+    pub edition: u16,
+    pub length: u16,
+}
+
+// Lent bytes as a command.
+pub enum Parsed {
+    Malformed,
+    Formed(Command),
+}
+
+// The acts.
+pub const READ_ORIGINAL: u8 = 1;
+
+pub const READ_TRANSLATION: u8 = 2;
+
+pub const WRITE_ORIGINAL: u8 = 3;
+
+pub const WRITE_TRANSLATION: u8 = 4;
+
+pub const VERIFY: u8 = 5;
+
+// The bytes of a command before its payload, and where its fields begin.
+pub const FIXED: usize = 52;
+
+const ACT: usize = 0;
+
+const MODE: usize = 1;
+
+const CARD: usize = 2;
+
+const S: usize = 4;
+
+const X: usize = 12;
+
+const ZEROS: usize = 20;
+
+const EXPECTED: usize = 36;
+
+const NEXT: usize = 42;
+
+const EDITION: usize = 48;
+
+pub const LENGTH: usize = 50;
+
+impl Command {
+    // Act 1 reads the original.
+    pub fn reads_original(self) -> bool
+        ensures { λ r. ⌜ r ≡ reads Language.original self ⌝ }
+    {
+        self.act == READ_ORIGINAL
+    }
+
+    // Act 2 reads the translation.
+    pub fn reads_translation(self) -> bool
+        ensures { λ r. ⌜ r ≡ reads (Language.translation 0) self ⌝ }
+    {
+        self.act == READ_TRANSLATION
+    }
+
+    // Act 3 writes the original.
+    pub fn writes_original(self) -> bool
+        ensures { λ r. ⌜ r ≡ writes Language.original self ⌝ }
+    {
+        self.act == WRITE_ORIGINAL
+    }
+
+    // Act 4 writes the translation.
+    pub fn writes_translation(self) -> bool
+        ensures { λ r. ⌜ r ≡ writes (Language.translation 0) self ⌝ }
+    {
+        self.act == WRITE_TRANSLATION
+    }
+
+    // Whether the command writes a text.
+    fn is_write(self) -> bool
+        ensures { λ r. ⌜ r ≡ isWrite self ⌝ }
+    {
+        (self.act == WRITE_ORIGINAL) | (self.act == WRITE_TRANSLATION)
+    }
+
+    // Acts are 1 to 5.
+    fn act_known(self) -> bool
+        ensures { λ r. ⌜ r ≡ (leb 1 (self .act) && leb (self .act) 5) ⌝ }
+    {
+        (READ_ORIGINAL <= self.act) & (self.act <= VERIFY)
+    }
+
+    // Writes must be exclusive.
+    fn write_exclusive(self) -> bool
+        ensures { λ r. ⌜ r ≡ (not (isWrite self) || eqb (self .mode) exclusive) ⌝ }
+    {
+        !self.is_write() | (self.mode == EXCLUSIVE)
+    }
+
+    // The edition is nonzero for act 4 and zero for every other act.
+    fn edition_named(self) -> bool
+        ensures { λ r. ⌜ r ≡ Bool·beq (eqb (self .act) 4) (not (eqb (self .edition) 0)) ⌝ }
+    {
+        (self.act == WRITE_TRANSLATION) == !(self.edition == 0)
+    }
+
+    // The length is zero unless act 3 or 4.
+    fn payload_written(self) -> bool
+        ensures { λ r. ⌜ r ≡ (eqb (self .length) 0 || isWrite self) ⌝ }
+    {
+        (self.length == 0) | self.is_write()
+    }
+
+    // Whether the numbers keep the rules of a command.
+    pub fn well_formed(self) -> bool
+        ensures { λ r. ⌜ r ≡ wellFormed self ⌝ }
+    {
+        self.act_known()
+            & self.write_exclusive()
+            & self.edition_named()
+            & self.payload_written()
+            & session_ok(self.mode, self.pair)
+            & mark_whole(self.expected)
+            & mark_whole(self.next)
+    }
+}
+
+// The commit mark that begins at `at`.
+fn mark_at(bytes: &[u8], at: usize) -> Mark
+    requires { ⌜ at + 6 ≤ length (now bytes) ⌝ }
+    ensures { λ r. ⌜ r ≡ markAt at (now (bytes .entry)) ⌝ }
+{
+    Mark {
+        desk: endian::inner::read_u16(bytes, at),
+        transaction: endian::inner::read_u32(bytes, at + 2),
+    }
+}
+
+// The command's pair.
+fn pair_of(bytes: &[u8]) -> Pair
+    requires { ⌜ fixed ≤ length (now bytes) ⌝ }
+    ensures { λ r. ⌜ r ≡ fieldsOf (now (bytes .entry)) .pair ⌝ }
+{
+    Pair {
+        s: endian::inner::read_u64(bytes, S),
+        x: endian::inner::read_u64(bytes, X),
+    }
+}
+
+// The numbers of a command, by the sheet's offsets.
+fn fields(bytes: &[u8]) -> Command
+    requires { ⌜ fixed ≤ length (now bytes) ⌝ }
+    ensures { λ r. ⌜ r ≡ fieldsOf (now (bytes .entry)) ⌝ }
+{
+    Command {
+        act: bytes[ACT],
+        mode: bytes[MODE],
+        card: endian::inner::read_u16(bytes, CARD),
+        pair: pair_of(bytes),
+        expected: mark_at(bytes, EXPECTED),
+        next: mark_at(bytes, NEXT),
+        edition: endian::inner::read_u16(bytes, EDITION),
+        length: endian::inner::read_u16(bytes, LENGTH),
+    }
+}
+
+// Lent bytes as a command.
+pub fn parse(bytes: &[u8]) -> Parsed
+    ensures { λ r. ⌜ r ≡ parsed (now (bytes .entry)) ⌝ }
+{
+    if bytes.len() < FIXED {
+        return Parsed::Malformed;
+    }
+    let c = fields(bytes);
+    if (bytes.len() == FIXED + (c.length as usize))
+        & endian::all_zero(&bytes[ZEROS..EXPECTED])
+        & c.well_formed()
+    {
+        return Parsed::Formed(c);
+    }
+    Parsed::Malformed
+}

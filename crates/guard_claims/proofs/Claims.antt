@@ -1,0 +1,67 @@
+-- The claims on judging and on commands in bytes. Assumes nothing.
+use Prim.Native.Nat.{ℕ, zero, suc, _≤_}
+use native.Mathlib.Omega.{arith}
+use mathlib.Core.Path.{_≡_, refl, sym, subst}
+use mathlib.Core.Bool.{true, false}
+use mathlib.Core.Logic.{_⊎_, inl, inr}
+use lib.Dec.{T, T-not}
+use Rattle.lists.proofs.Tests.{to-T, from-T, from-false, cases}
+use Rattle.commands.specs.Command.{wellFormed, formed}
+use Rattle.guard.specs.Entry.{entrySound, FitsEntry}
+use Rattle.guard.specs.Judge.{raise, judged}
+use Rattle.guard_claims.specs.Claims.{Judges, StaleStays, Parsing, Parses, CommandComesBack, BytesComeBack}
+use Rattle.commands.specs.declared.Command.{Command}
+use Rattle.guard.specs.declared.Entry.{Entry}
+use Rattle.stamps.proofs.Stamp.{stale-more}
+use Rattle.guard.proofs.Judge.{Accepted, exactly, accepted-exactly, accepted, refusal-leaves, accepted-raises, accepted-mode, raise-more}
+use Rattle.guard.proofs.Raise.{raise-sound, raise-fits}
+use Rattle.commands.proofs.CommandBytes.{parsed-formed, parsed-malformed, payload-command, parsed-command, command-fields}
+
+-- What holds of the entry as it was and, where the command is accepted, of the raised one, holds of the entry as it now is.
+judged-keeps : (P : Entry → Type 0) (e : Entry) (c : Command) (room lent : ℕ) → P e → (Accepted e c room lent → P (raise e c)) → P (judged e c room lent .entry)
+judged-keeps P e c room lent p q = go (judged e c room lent .number) refl
+  where
+    go : (n : ℕ) → judged e c room lent .number ≡ n → P (judged e c room lent .entry)
+    go zero h = subst P (sym (accepted-raises e c room lent h)) (q (accepted e c room lent h))
+    go (suc n) h = subst P (sym (refusal-leaves e c room lent n h)) p
+
+pub judges : Judges
+judges e c room lent =
+    record {
+      each = exactly e c room lent;
+      accepts = accepted-exactly e c room lent;
+      leaves = refusal-leaves e c room lent;
+      raises = accepted-raises e c room lent;
+      formed = λ h. to-T (accepted e c room lent h .formed);
+      mode = λ h. accepted-mode e c room lent (accepted e c room lent h);
+      fresh = λ h. accepted e c room lent h .fresh;
+      sound = λ s. judged-keeps (λ d. T (entrySound room d)) e c room lent s (λ a. raise-sound a s);
+      fits = λ f g. judged-keeps FitsEntry e c room lent f (λ a. raise-fits a f g);
+      grows = judged-keeps (λ d. (e .pair .s ≤ d .pair .s) × (e .pair .x ≤ d .pair .x)) e c room lent (omega arith) (λ a. raise-more e c);
+    }
+
+pub stale-stays : StaleStays
+stale-stays mode stored more new hs hx t = stale-more mode new hs hx t
+
+pub parses : Parses
+parses bytes = go (cases (formed bytes))
+  where
+    go : (formed bytes ≡ true) ⊎ (formed bytes ≡ false) → Parsing bytes
+    go (inl f) =
+        record {
+          number = rw (parsed-formed bytes f, f);
+          numbers = λ t. rw (parsed-formed bytes f);
+          blanks = λ t. absurd (T-not (formed bytes) t (to-T f));
+        }
+    go (inr f) =
+        record {
+          number = rw (parsed-malformed bytes f, f);
+          numbers = λ t. absurd (from-false f t);
+          blanks = λ t. rw (parsed-malformed bytes f);
+        }
+
+pub command-comes-back : CommandComesBack
+command-comes-back c text f w l = (parsed-command c text f (from-T (wellFormed c) w) l, payload-command c text)
+
+pub bytes-come-back : BytesComeBack
+bytes-come-back bytes h t = command-fields bytes h (from-T (formed bytes) t)

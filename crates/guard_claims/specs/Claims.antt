@@ -1,0 +1,61 @@
+-- What is claimed of an entry that judges a command, and of commands in bytes. Proved in proofs/Claims.antt.
+-- Assumes nothing.
+use Prim.Native.Nat.{ℕ, suc, _≤_}
+use mathlib.Core.Path.{_≡_}
+use mathlib.Core.Logic.{_↔_, _⊎_}
+use mathlib.Core.List.{List, [], _∷_}
+use mathlib.Core.Bool.{false, not}
+use lib.Dec.{T}
+use lib.ListN.{length}
+use Rattle.lists.specs.Parts.{Bytes}
+use Rattle.stamps.specs.Stamp.{shared, exclusive, stale}
+use Rattle.commands.specs.Command.{verifier, wellFormed, fieldsOf, payload, formed, parsed, parsedNumber, parsedCommand, commandBytes, FitsCommand}
+use Rattle.lists.specs.Table.{row, first, applies, none, earlier}
+use Rattle.guard.specs.Judge.{rows, raise, judged}
+use Rattle.guard.specs.Entry.{entrySound, FitsEntry}
+use Rattle.commands.specs.declared.Command.{Command}
+use Rattle.guard.specs.declared.Entry.{Entry}
+use Rattle.stamps.specs.declared.Pair.{Pair}
+use Rattle.commands.specs.declared.Parsed.the-variants.{Malformed, Formed}
+
+-- What holds of an entry that judges a command.
+pub record Judging (e : Entry) (c : Command) (room lent : ℕ) : Type 0 where
+  -- "A number is given exactly when its row applies and no earlier row does"; accepted, 0, exactly when no row applies.
+  pub each : (n : ℕ) → (judged e c room lent .number ≡ suc n) ↔ (T (applies (suc n) (rows e c room lent)) × T (none (earlier (suc n) (rows e c room lent))))
+  pub accepts : (judged e c room lent .number ≡ 0) ↔ T (none (rows e c room lent))
+  -- A refusal leaves the entry as it was; an accepted command leaves it raised.
+  pub leaves : (n : ℕ) → judged e c room lent .number ≡ suc n → judged e c room lent .entry ≡ e
+  pub raises : judged e c room lent .number ≡ 0 → judged e c room lent .entry ≡ raise e c
+  -- An accepted command is well formed, shared or exclusive, and not stale.
+  pub formed : judged e c room lent .number ≡ 0 → T (wellFormed c)
+  pub mode : judged e c room lent .number ≡ 0 → (c .mode ≡ shared) ⊎ (c .mode ≡ exclusive)
+  pub fresh : judged e c room lent .number ≡ 0 → stale (c .mode) (e .pair) (verifier c) ≡ false
+  -- An entry by the rules of a sound image stays so, and within its fields' widths, whatever it judges; its stamps grow.
+  pub sound : T (entrySound room e) → T (entrySound room (judged e c room lent .entry))
+  pub fits : FitsEntry e → FitsCommand c → FitsEntry (judged e c room lent .entry)
+  pub grows : (e .pair .s ≤ judged e c room lent .entry .pair .s) × (e .pair .x ≤ judged e c room lent .entry .pair .x)
+
+abbrev pub Judges : Type 0
+Judges = (e : Entry) (c : Command) (room lent : ℕ) → Judging e c room lent
+
+-- What is stale stays stale, as the stored stamps grow.
+abbrev pub StaleStays : Type 0
+StaleStays = (mode : ℕ) (stored more new : Pair) → stored .s ≤ more .s → stored .x ≤ more .x → T (stale mode stored new) → T (stale mode more new)
+
+-- Lent bytes by the sheet's number: 1 exactly where row 1 applies to them, with zeros, else 0 with the numbers at the sheet's offsets.
+pub record Parsing (bytes : List ℕ) : Type 0 where
+  pub number : parsedNumber (parsed bytes) ≡ first (row (not (formed bytes)) 1 ∷ [])
+  pub numbers : T (formed bytes) → parsedCommand (parsed bytes) ≡ fieldsOf bytes
+  pub blanks : T (not (formed bytes)) → parsedCommand (parsed bytes) ≡ parsedCommand Malformed
+
+abbrev pub Parses : Type 0
+Parses = (bytes : List ℕ) → Parsing bytes
+
+-- A well-formed command comes back from its bytes, and so does its payload.
+abbrev pub CommandComesBack : Type 0
+CommandComesBack =
+    (c : Command) (text : List ℕ) → FitsCommand c → T (wellFormed c) → length text ≡ c .length → (parsed (commandBytes c text) ≡ Formed c) × (payload (commandBytes c text) ≡ text)
+
+-- Bytes that are a command are the bytes of that command and its payload.
+abbrev pub BytesComeBack : Type 0
+BytesComeBack = (bytes : List ℕ) → Bytes bytes → T (formed bytes) → commandBytes (fieldsOf bytes) (payload bytes) ≡ bytes

@@ -1,0 +1,1 @@
+// What is claimed of the guard of one card. Definitions and theorems alone; there is nothing to run.

@@ -1,0 +1,44 @@
+-- Worked cases of each word. Assumes nothing.
+use mathlib.Core.Path.{_≡_, refl}
+use mathlib.Core.List.{[], _∷_}
+use mathlib.Core.Bool.{true, false}
+use lib.Dec.{ltb}
+use Prim.Native.Nat.{ℕ, _*_}
+use Rattle.lists.specs.Parts.{part, splice, table, spread, every, zeros}
+use Rattle.lists.specs.Tests.{allFrom, all}
+
+part-inside : part {A = ℕ} 1 2 (7 ∷ 8 ∷ 9 ∷ 10 ∷ []) ≡ 8 ∷ 9 ∷ []
+unfolding part
+part-inside = refl
+
+part-past : part {A = ℕ} 3 2 (7 ∷ 8 ∷ 9 ∷ 10 ∷ []) ≡ 10 ∷ []
+unfolding part
+part-past = refl
+
+splice-inside : splice {A = ℕ} 1 (1 ∷ 2 ∷ []) (7 ∷ 8 ∷ 9 ∷ 10 ∷ []) ≡ 7 ∷ 1 ∷ 2 ∷ 10 ∷ []
+unfolding splice
+splice-inside = refl
+
+three-squares : table (λ i. i * i) 3 ≡ 0 ∷ 1 ∷ 4 ∷ []
+unfolding table
+three-squares = refl
+
+spread-pairs : spread (λ (n : ℕ). n ∷ n * n ∷ []) (2 ∷ 3 ∷ []) ≡ 2 ∷ 4 ∷ 3 ∷ 9 ∷ []
+unfolding spread
+spread-pairs = refl
+
+every-below : every (λ i. ltb i 3) 3 ≡ true
+unfolding every
+every-below = refl
+
+not-every-below : every (λ i. ltb i 3) 4 ≡ false
+unfolding every
+not-every-below = refl
+
+one-is-set : zeros (0 ∷ 1 ∷ 0 ∷ []) ≡ false
+unfolding zeros
+one-is-set = refl
+
+one-test-fails : all (true ∷ false ∷ true ∷ []) ≡ false
+unfolding all allFrom
+one-test-fails = refl

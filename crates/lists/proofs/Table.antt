@@ -1,0 +1,97 @@
+-- Laws of a table of numbered refusals, by number and not by place. Assumes nothing.
+use Prim.Native.Nat.{ℕ, zero, suc}
+use native.Mathlib.Omega.{arith}
+use mathlib.Core.Path.{_≡_, refl, sym, subst}
+use mathlib.Core.Logic.{_↔_}
+use mathlib.Core.List.{List, [], _∷_}
+use mathlib.Core.Bool.{Bool, true, false, cond, not, _&&_, _||_}
+use borrow.Author.Tests.{eqb-true, eqb-false}
+use lib.Dec.{T, eqb, T-not}
+use Rattle.lists.proofs.Tests.{eq→eqb, T-and-left, T-and-right, T-or-left, T-or-right}
+use Rattle.lists.specs.Table.{Row, row, first, none, applies, earlier, numbered, once, settled}
+
+-- The number that is given stands on a row.
+pub first-in : (rs : List Row) (n : ℕ) → first rs ≡ suc n → T (numbered (suc n) rs)
+first-in [] n e = absurd (omega arith)
+first-in (r ∷ rs) n e = go (r .applies) e (first-in rs n)
+  where
+    go : (a : Bool) → cond a (r .gives) (first rs) ≡ suc n → (first rs ≡ suc n → T (numbered (suc n) rs)) →
+        T (eqb (r .gives) (suc n) || numbered (suc n) rs)
+    go true h rest = T-or-left (eqb (r .gives) (suc n)) (numbered (suc n) rs) (eq→eqb (r .gives) (suc n) h)
+    go false h rest = T-or-right (eqb (r .gives) (suc n)) (numbered (suc n) rs) (rest h)
+
+-- Each row of such a table has a number of its own, and none has 0.
+module _ (r : Row) (rs : List Row) (o : T (once (r ∷ rs))) where
+  once-nonzero : r .gives ≡ 0 → ⊥
+  once-nonzero e =
+      T-not (eqb (r .gives) 0)
+      (T-and-left (not (eqb (r .gives) 0)) (not (numbered (r .gives) rs)) (T-and-left (not (eqb (r .gives) 0) && not (numbered (r .gives) rs)) (once rs) o))
+      (eq→eqb (r .gives) 0 e)
+
+  once-other : T (numbered (r .gives) rs) → ⊥
+  once-other =
+      T-not (numbered (r .gives) rs)
+      (T-and-right (not (eqb (r .gives) 0)) (not (numbered (r .gives) rs)) (T-and-left (not (eqb (r .gives) 0) && not (numbered (r .gives) rs)) (once rs) o))
+
+  once-rest : T (once rs)
+  once-rest = T-and-right (not (eqb (r .gives) 0) && not (numbered (r .gives) rs)) (once rs) o
+
+-- "A number is given exactly when its row applies and no earlier row does."
+pub given : (rs : List Row) → T (once rs) → (n : ℕ) → (first rs ≡ suc n) ↔ (T (applies (suc n) rs) × T (none (earlier (suc n) rs)))
+given [] o n = (λ e. absurd (omega arith), λ h. absurd (h .0))
+given (r ∷ rs) o n = go (r .applies) (eqb (r .gives) (suc n)) refl (given rs (once-rest r rs o) n)
+  where
+    go : (a b : Bool) → eqb (r .gives) (suc n) ≡ b → (first rs ≡ suc n) ↔ (T (applies (suc n) rs) × T (none (earlier (suc n) rs))) →
+        (cond a (r .gives) (first rs) ≡ suc n) ↔ (T (cond b a (applies (suc n) rs)) × T (none (cond b [] (row a (r .gives) ∷ earlier (suc n) rs))))
+    go true true q rest = (λ e. (tt, tt), λ h. eqb-true (r .gives) (suc n) q)
+    go true false q rest = (λ e. absurd (eqb-false (r .gives) (suc n) q e), λ h. absurd (h .1))
+    go false true q rest = (
+      λ e. absurd (once-other r rs o (subst (λ (k : ℕ). T (numbered k rs)) (sym (eqb-true (r .gives) (suc n) q)) (first-in rs n e))),
+      λ h. absurd (h .0),
+    )
+    go false false q rest = rest
+
+-- Answer 0, accepted, exactly when no row applies.
+pub unapplied : (rs : List Row) → T (once rs) → (first rs ≡ 0) ↔ T (none rs)
+unapplied [] o = (λ e. tt, λ t. refl)
+unapplied (r ∷ rs) o = go (r .applies) (unapplied rs (once-rest r rs o))
+  where
+    go : (a : Bool) → (first rs ≡ 0) ↔ T (none rs) → (cond a (r .gives) (first rs) ≡ 0) ↔ T (not a && none rs)
+    go true rest = (λ e. absurd (once-nonzero r rs o e), λ t. absurd t)
+    go false rest = rest
+
+-- Where no row applies, none does by its number.
+pub none-applies : (rs : List Row) → T (none rs) → (n : ℕ) → applies n rs ≡ false
+none-applies [] t n = refl
+none-applies (r ∷ rs) t n = go (r .applies) (eqb (r .gives) n) t (λ u. none-applies rs u n)
+  where
+    go : (a b : Bool) → T (not a && none rs) → (T (none rs) → applies n rs ≡ false) → cond b a (applies n rs) ≡ false
+    go true b u rest = absurd u
+    go false true u rest = refl
+    go false false u rest = rest u
+
+-- What goes by the number.
+module _ {A : Type 0} {n : ℕ} (new old : A) where
+  pub settled-new : n ≡ 0 → settled n new old ≡ new
+  settled-new e = rw e
+
+  pub settled-old : (n ≡ 0 → ⊥) → settled n new old ≡ old
+  settled-old h = go n refl
+    where
+      go : (k : ℕ) → n ≡ k → settled n new old ≡ old
+      go zero e = absurd (h e)
+      go (suc k) e = rw e
+
+-- Each row's number, and 0, has a property: so has the answer.
+abbrev pub givesAll : (ℕ → Bool) → List Row → Bool
+givesAll p [] = true
+givesAll p (r ∷ rs) = p (r .gives) && givesAll p rs
+
+pub first-all : (p : ℕ → Bool) (rs : List Row) → T (p 0) → T (givesAll p rs) → T (p (first rs))
+first-all p [] z t = z
+first-all p (r ∷ rs) z t =
+    go (r .applies) (T-and-left (p (r .gives)) (givesAll p rs) t) (first-all p rs z (T-and-right (p (r .gives)) (givesAll p rs) t))
+  where
+    go : (a : Bool) → T (p (r .gives)) → T (p (first rs)) → T (p (cond a (r .gives) (first rs)))
+    go true here rest = here
+    go false here rest = rest

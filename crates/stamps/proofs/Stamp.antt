@@ -1,0 +1,78 @@
+-- Laws of stamps, pairs and staleness. Assumes nothing.
+use Prim.Native.Nat.{ℕ, _+_, _*_, _/_, _≤_, _<_, max}
+use native.Mathlib.Omega.{arith}
+use mathlib.Core.Path.{_≡_, sym, subst, _∙_}
+use mathlib.Core.Logic.{_⊎_, inl, inr}
+use mathlib.Core.Bool.{true, false, _&&_}
+use borrow.Author.Tests.{ltb-true, ltb-false, ne-eqb, eqb-true, eqb-false, not-true}
+use lib.Dec.{T, ltb, eqb, lt→ltb, ltb→lt}
+use Rattle.lists.specs.Tests.{all}
+use Rattle.lists.proofs.Tests.{cases, not-in, or-right, or-cases, all-out, T-and, T-and-left, T-and-right, T-or-left, T-or-right, T-or-cases}
+use Rattle.stamps.specs.Stamp.{stamp, deskNumber, deskStart, stampValid, shared, exclusive, own, sessionChecks, stale, largerOfEach}
+use Rattle.stamps.specs.declared.Pair.{Pair}
+
+-- The parts of a stamp T.desk.start, for a desk and a start of 16 bits.
+module _ (t : ℕ) {desk start : ℕ} (d : desk < 65536) (i : start < 65536) where
+  pub stamp-desk-start : deskStart (stamp t desk start) ≡ desk * 65536 + start
+  stamp-desk-start = omega arith
+
+  pub stamp-desk : deskNumber (stamp t desk start) ≡ desk
+  stamp-desk = omega arith
+
+  pub stamp-t : stamp t desk start / 4294967296 ≡ t
+  stamp-t = omega arith
+
+  pub stamp-valid : (desk ≡ 0 → ⊥) → stampValid (stamp t desk start) ≡ true
+  stamp-valid h = or-right (eqb (stamp t desk start) 0) (not-in (ne-eqb (deskNumber (stamp t desk start)) 0 (λ e. h (sym stamp-desk ∙ e))))
+
+  -- Stamps are compared by T first.
+  pub stamp-later : {later : ℕ} (desk' start' : ℕ) → t < later → stamp t desk start < stamp later desk' start'
+  stamp-later desk' start' h = omega arith
+
+-- The larger of two numbers is one of them.
+pub max-one : (P : ℕ → Type 0) (a b : ℕ) → P a → P b → P (max a b)
+max-one P a b p q = go (cases (ltb a b))
+  where
+    go : (ltb a b ≡ true) ⊎ (ltb a b ≡ false) → P (max a b)
+    go (inl e) = let larger : b ≡ max a b = omega (arith, ltb-true a b e) in subst P larger q
+    go (inr e) = let larger : a ≡ max a b = omega (arith, ltb-false a b e) in subst P larger p
+
+-- Larger stored stamps keep a pair stale.
+pub stale-more : (mode : ℕ) {stored more : Pair} (new : Pair) → stored .s ≤ more .s → stored .x ≤ more .x → T (stale mode stored new) → T (stale mode more new)
+stale-more mode {stored} {more} new hs hx t = go (T-or-cases (ltb (new .x) (stored .x)) (eqb mode exclusive && ltb (new .s) (stored .s)) t)
+  where
+    go : T (ltb (new .x) (stored .x)) ⊎ T (eqb mode exclusive && ltb (new .s) (stored .s)) → T (stale mode more new)
+    go (inl x) =
+        T-or-left (ltb (new .x) (more .x)) (eqb mode exclusive && ltb (new .s) (more .s))
+        (lt→ltb (new .x) (more .x) (omega (arith, ltb→lt (new .x) (stored .x) x)))
+    go (inr s) =
+        T-or-right (ltb (new .x) (more .x)) (eqb mode exclusive && ltb (new .s) (more .s))
+        (T-and (eqb mode exclusive) (ltb (new .s) (more .s)) (T-and-left (eqb mode exclusive) (ltb (new .s) (stored .s)) s)
+        (lt→ltb (new .s) (more .s) (omega (arith, ltb→lt (new .s) (stored .s) (T-and-right (eqb mode exclusive) (ltb (new .s) (stored .s)) s)))))
+
+-- The larger of each is at least both.
+pub larger-old : (old new : Pair) → (old .s ≤ largerOfEach old new .s) × (old .x ≤ largerOfEach old new .x)
+larger-old old new = omega arith
+
+pub larger-new : (old new : Pair) → (new .s ≤ largerOfEach old new .s) × (new .x ≤ largerOfEach old new .x)
+larger-new old new = omega arith
+
+-- The rules of a mode and a pair, one by one.
+pub record SessionRules (m : ℕ) (pair : Pair) : Type 0 where
+  pub mode : (m ≡ shared) ⊎ (m ≡ exclusive)
+  pub s : stampValid (pair .s) ≡ true
+  pub x : stampValid (pair .x) ≡ true
+  pub some : own m pair ≡ 0 → ⊥
+
+pub session-rules : (m : ℕ) (pair : Pair) → all (sessionChecks m pair) ≡ true → SessionRules m pair
+session-rules m pair h =
+    record {
+      mode = go (or-cases (eqb m shared) (eqb m exclusive) (all-out (sessionChecks m pair) h 0));
+      s = all-out (sessionChecks m pair) h 1;
+      x = all-out (sessionChecks m pair) h 2;
+      some = eqb-false (own m pair) 0 (not-true (eqb (own m pair) 0) (all-out (sessionChecks m pair) h 3));
+    }
+  where
+    go : (eqb m shared ≡ true) ⊎ (eqb m exclusive ≡ true) → (m ≡ shared) ⊎ (m ≡ exclusive)
+    go (inl e) = inl (eqb-true m shared e)
+    go (inr e) = inr (eqb-true m exclusive e)
