@@ -4,7 +4,7 @@ ghost use mathlib.Core.Path.{_≡_};
 ghost use lib.ListN.{length};
 ghost use Rattle.lists.specs.Table.{settled};
 ghost use Rattle.image.specs.Image.{sound, makeNumber, fresh};
-ghost use Rattle.store.specs.Serve.{serve};
+ghost use Rattle.model.specs.Serve.{serve};
 ghost use Rattle.lock_queue.specs.Requests.{Request, answer, after};
 ghost use Rattle.desk.specs.Show.{text};
 ghost use Rattle.stream.specs.Stream.{nextAt, endOf, onward};

@@ -6,7 +6,7 @@ use mathlib.Core.List.{List, [], _∷_}
 use lib.ListN.{length, take, getD}
 use Rattle.lists.proofs.Spread.{part-spread}
 use Rattle.guard.specs.declared.Answer.{Answer}
-use Rattle.store.specs.Serve.{serve}
+use Rattle.model.specs.Serve.{serve}
 use Rattle.cards.specs.Run.{numbersOf, perLine, runs}
 use Rattle.cards.specs.Claims.{Claims}
 use Rattle.cards.proofs.Steps.{per-line}

@@ -18,7 +18,7 @@ use Rattle.guard.specs.declared.Answer.{Answer}
 use Rattle.image.specs.Image.{headerSize, mostBytes, mostRoom, countOf, roomOf, sound}
 use Rattle.image.proofs.Decode.{shape-holds}
 use Rattle.image.proofs.Shape.{shape}
-use Rattle.store.specs.Serve.{serve}
+use Rattle.model.specs.Serve.{serve}
 use Rattle.stream.specs.Stream.{commands, nextAt}
 use Rattle.stream.specs.declared.Next.the-variants.{Whole, Cut}
 use Rattle.stream.proofs.Commands.{Walked, walked-none, walked-more}

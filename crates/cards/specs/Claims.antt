@@ -6,7 +6,7 @@ use mathlib.Core.List.{List, []}
 use lib.ListN.{length, take, getD}
 use Rattle.lists.specs.Parts.{part}
 use Rattle.guard.specs.declared.Answer.{Answer}
-use Rattle.store.specs.Serve.{serve}
+use Rattle.model.specs.Serve.{serve}
 use Rattle.cards.specs.Run.{numbersOf, perLine, runs, printed}
 
 -- The answers of a run are those of judging command by command: one for each command, and each is the store's, on the image and the reply

@@ -9,7 +9,7 @@ use Rattle.lists.specs.Parts.{spread}
 use Rattle.commands.specs.Command.{fixed}
 use Rattle.guard.specs.declared.Answer.{Answer}
 use Rattle.image.specs.Image.{headerSize, mostBytes, mostRoom, countOf, roomOf, sizeOf, sound}
-use Rattle.store.specs.Serve.{serve}
+use Rattle.model.specs.Serve.{serve}
 use Rattle.stream.specs.Stream.{commands}
 
 -- "Standard input, at most 65,536 bytes".

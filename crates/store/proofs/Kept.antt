@@ -1,26 +1,21 @@
 -- What the writes of an accepted command make of the bytes of cards. Assumes nothing.
 use Prim.Native.Nat.{ℕ, _<_}
 use lib.Dec.{lit≤}
-use mathlib.Core.Path.{_≡_, refl, sym, ap, subst, _∙_}
+use mathlib.Core.Path.{_≡_, refl, sym, ap, _∙_}
 use mathlib.Core.List.{List}
 use mathlib.Core.Bool.{Bool, true, false}
 use borrow.Author.Tests.{eqb-true}
 use lib.ListN.{length, getD, set, length-set}
 use lib.Seq.{getD-set-same, set-set}
-use Rattle.lists.specs.Parts.{splice, Bytes}
-use Rattle.lists.proofs.Tests.{to-T, from-T}
+use Rattle.lists.specs.Parts.{splice}
 use Rattle.commands.specs.Command.{original, translation, writes}
 use Rattle.guard.specs.Judge.{raise}
 use Rattle.commands.specs.declared.Command.{Command}
 use Rattle.guard.specs.declared.Entry.{Entry}
-use Rattle.image.specs.Image.{Card, Cards, withCard, withEntry, withText, noCard, entryPlace, bodyPlace, entryBytes, pad, countOf, entryAt, cardAt, encode, decode, sound}
-use Rattle.image.proofs.Claims.{soundReadsBack, goodEncodes}
+use Rattle.image.specs.Image.{Card, Cards, withCard, withEntry, withText, noCard, entryPlace, bodyPlace, entryBytes, pad, countOf, entryAt, cardAt, encode, decode}
 use Rattle.image.proofs.Encode.{put-entry, put-text}
 use Rattle.store.specs.Effects.{bodyWritten, textWritten}
-use Rattle.store.specs.Serve.{stepped, serve}
-use Rattle.store.specs.Words.{Sent}
-use Rattle.store.proofs.Machine.{numberOn, cardsBy}
-use Rattle.store.proofs.Simulation.{good-more, same-image}
+use Rattle.model.specs.Serve.{stepped}
 use Rattle.image.proofs.Decode.{count-decode, card-decode}
 
 -- ---- a text, then an entry, at card k
@@ -107,17 +102,3 @@ keeps image same c t {e} h p = go (writes original c) (writes (translation 0) c)
         rw (stepped-translation (cardAt image (c .card)) c t q r, raised, q, r) (side-kept image same (c .card) h e 1 t (lit≤ tt))
     go false false q r =
         rw (stepped-none (cardAt image (c .card)) c t q r, raised, q, r) (entry-kept image same (c .card) h e)
-
--- ---- a request keeps a sound image sound
-
-pub stays-sound : (image command reply : List ℕ) → Bytes image → Bytes command → Bytes reply → sound image ≡ true →
-    sound (serve image command reply .image) ≡ true
-stays-sound image command reply b bc br e =
-    let back = soundReadsBack image b (to-T e) in
-    let s : Sent = record { command = command; lent = reply } in
-    let cards : Cards = cardsBy (numberOn (decode image) s) (decode image) s in
-    let after : serve image command reply .image ≡ encode cards =
-    subst (λ (i : List ℕ). serve i command reply .image ≡ encode cards) (back .same) (same-image (decode image) s (back .good)) in
-    ap sound after
-    ∙ from-T (sound (encode cards))
-    (goodEncodes cards (good-more (decode image) s (back .good) (record { command = bc; lent = br }) (numberOn (decode image) s) refl) .sounds)

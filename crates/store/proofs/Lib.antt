@@ -1,13 +1,3 @@
-pub mod Meaning
-pub mod Formed
-pub mod Isolation
-pub mod Machine
-pub mod Sentences
-pub mod Simulation
-pub mod Demand
-pub mod Exact
-pub mod Premise
-pub mod Cases
 pub mod Step
 pub mod Texts
 pub mod Kept

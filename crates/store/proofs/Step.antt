@@ -25,8 +25,8 @@ use Rattle.lists.proofs.Table.{settled-old}
 use Rattle.image.specs.Image.{Card, withCard, cardAt, entryAt, countOf, roomOf, encode, decode, sound}
 use Rattle.image.proofs.Decode.{count-decode, card-decode}
 use Rattle.store.specs.Effects.{judgedAt, carried}
-use Rattle.store.specs.Serve.{Outcome, cardOf, textRead, stepped, storeRows, serveBy, serve}
-use Rattle.store.proofs.Formed.{formed-well}
+use Rattle.model.specs.Serve.{Outcome, cardOf, textRead, stepped, storeRows, serveBy, serve}
+use Rattle.model.proofs.Formed.{formed-well}
 
 -- What a refusal with this answer leaves: image and reply buffer as they were.
 abbrev pub refusal : Answer → List ℕ → List ℕ → Outcome

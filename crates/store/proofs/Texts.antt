@@ -17,7 +17,7 @@ use Rattle.image.specs.Image.{Card, text, sound, headerSize, countOf, roomOf, b
 use Rattle.image.proofs.Bytes.{Lengths}
 use Rattle.image.proofs.Decode.{Places, places, long}
 use Rattle.store.specs.Effects.{bodyWritten, textWritten}
-use Rattle.store.specs.Serve.{textRead}
+use Rattle.model.specs.Serve.{textRead}
 
 -- The side of a language's body.
 abbrev pub sideOf : Language → ℕ

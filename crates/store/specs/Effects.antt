@@ -12,7 +12,7 @@ use Rattle.lists.specs.Table.{settled}
 use Rattle.commands.specs.declared.Command.{Command}
 use Rattle.guard.specs.declared.Judged.{Judged}
 use Rattle.image.specs.Image.{bodyPlace, countOf, roomOf, pad, entryAt, cardAt, withCard, encode, decode}
-use Rattle.store.specs.Serve.{Outcome, textRead, stepped}
+use Rattle.model.specs.Serve.{Outcome, textRead, stepped}
 
 -- An image with a text in a body of card k, "writing zeroes the rest of that body": side 0 is the original, side 1 the translation.
 abbrev pub bodyWritten : List ℕ → ℕ → ℕ → List ℕ → List ℕ

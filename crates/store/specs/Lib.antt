@@ -1,5 +1,1 @@
-pub mod Serve
 pub mod Effects
-pub mod Words
-pub mod Claims
-pub mod Cases

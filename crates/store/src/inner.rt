@@ -6,7 +6,7 @@ ghost use Rattle.lists.specs.Parts.{splice};
 ghost use Rattle.guard.specs.Judge.{raise, readLength};
 ghost use Rattle.image.specs.Image.{bodyPlace, countOf, roomOf, entryAt, cardAt, withCard, encode, decode, sound};
 ghost use Rattle.store.specs.Effects.{textWritten, carried};
-ghost use Rattle.store.specs.Serve.{textRead, stepped, serve};
+ghost use Rattle.model.specs.Serve.{textRead, stepped, serve};
 use commands::Command;
 use commands::Parsed;
 use guard::Answer;

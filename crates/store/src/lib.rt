@@ -2,7 +2,7 @@
 pub mod inner;
 
 ghost use mathlib.Core.Path.{_≡_};
-ghost use Rattle.store.specs.Serve.{serve};
+ghost use Rattle.model.specs.Serve.{serve};
 use guard::entries::UNSOUND;
 
 // One request: a command judged on an image. It gives the number and the seven reply fields, and leaves the image and the reply buffer as

@@ -6,7 +6,7 @@ use mathlib.Core.Bool.{true}
 use Rattle.commands.specs.Command.{fieldsOf, formed}
 use Rattle.image.specs.Image.{sound}
 use Rattle.commands.proofs.CommandBytes.{length-payload}
-use Rattle.store.proofs.Kept.{stays-sound}
+use Rattle.model.proofs.Sound.{stays-sound}
 use Rattle.store.proofs.Step.{
   exits,
   and-last,

@@ -13,10 +13,10 @@ use Rattle.stamps.specs.Stamp.{shared, exclusive, deskStart, deskOf, own}
 use Rattle.commands.specs.Command.{verifier, update, session, Session}
 use Rattle.commands.specs.declared.Command.{Command}
 use Rattle.stamps.specs.declared.Pair.{Pair}
-use Rattle.store.specs.Words.{Sent, Event, any, none, commandOf, accepted, Proper, largerS, largerX, late, carries, sentFor, premise, OneSession, deskIn, intrudes}
+use Rattle.model.specs.Words.{Sent, Event, any, none, commandOf, accepted, Proper, largerS, largerX, late, carries, sentFor, premise, OneSession, deskIn, intrudes}
 use Rattle.commands.proofs.Rules.{CommandRules}
-use Rattle.store.proofs.Formed.{formed-rules}
-use Rattle.store.proofs.Meaning.{Among, among-here, among-right, among-reverse, among-map, none-means, premise-means, accepted-means, Intruder, intrudes-means}
+use Rattle.model.proofs.Formed.{formed-rules}
+use Rattle.model.proofs.Meaning.{Among, among-here, among-right, among-reverse, among-map, none-means, premise-means, accepted-means, Intruder, intrudes-means}
 
 -- What an accepted event is known to be by the events before it: it is proper, and not late.
 pub record Timely (n : ℕ) (e : Event) (before : List Event) : Type 0 where

@@ -17,11 +17,11 @@ use Rattle.image.specs.Image.{Card, Cards, text, encode, decode, sound}
 use Rattle.image.specs.Claims.{GoodCard, GoodCards}
 use Rattle.image.proofs.Cards.{good-with}
 use Rattle.image.proofs.Claims.{goodEncodes}
-use Rattle.store.specs.Serve.{cardOf, stepped, cardsAfter, serveBy, serve}
-use Rattle.store.specs.Words.{Sent, eventOf, imageAfter, history}
-use Rattle.store.specs.Claims.{SentBytes, AllBytes}
+use Rattle.model.specs.Serve.{cardOf, stepped, cardsAfter, serveBy, serve}
+use Rattle.model.specs.Words.{Sent, eventOf, imageAfter, history}
+use Rattle.model.specs.Claims.{SentBytes, AllBytes}
 use Rattle.commands.proofs.CommandBytes.{length-payload, fits-fields}
-use Rattle.store.proofs.Machine.{numberOn, eventBy, cardsBy, cardsFrom, eventsFrom, Passed, passed, Sized, sized-step}
+use Rattle.model.proofs.Machine.{numberOn, eventBy, cardsBy, cardsFrom, eventsFrom, Passed, passed, Sized, sized-step}
 
 -- ---- cards stay by the rules
 

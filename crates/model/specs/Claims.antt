@@ -10,9 +10,9 @@ use lib.Dec.{T}
 use Rattle.lists.specs.Parts.{Bytes}
 use Rattle.commands.specs.Command.{Language, translation, reads}
 use Rattle.lists.specs.Table.{applies, earlier, none as noRow}
-use Rattle.image.specs.Image.{shapeOk}
-use Rattle.store.specs.Serve.{serve, storeRows}
-use Rattle.store.specs.Words.{
+use Rattle.image.specs.Image.{shapeOk, sound}
+use Rattle.model.specs.Serve.{serve, storeRows}
+use Rattle.model.specs.Words.{
   Sent,
   Event,
   logOf,
@@ -28,7 +28,7 @@ use Rattle.store.specs.Words.{
   OneSession,
   intrudes,
 }
-use Rattle.store.specs.Cases.{sentA, sentD}
+use Rattle.model.specs.Cases.{sentA, sentD}
 
 -- What is sent is bytes: each element is below 256, and nothing else.
 pub record SentBytes (s : Sent) : Type 0 where
@@ -117,3 +117,9 @@ pub record Safe (image command reply : List ℕ) : Type 0 where
 
 abbrev pub Refusals : Type 0
 Refusals = (image command reply : List ℕ) → Safe image command reply
+
+-- A sound image stays sound, whatever is asked of it.
+abbrev pub StaysSound : Type 0
+StaysSound =
+    (image command reply : List ℕ) → Bytes image → Bytes command → Bytes reply → sound image ≡ true
+    → sound (serve image command reply .image) ≡ true

@@ -9,8 +9,8 @@ use lib.ListN.{length}
 use Rattle.guard.specs.Judge.{replied}
 use Rattle.lists.specs.Table.{first, applies, earlier, none}
 use Rattle.lists.proofs.Table.{given, unapplied, first-all}
-use Rattle.store.specs.Serve.{serveBy, serve, storeRows}
-use Rattle.store.specs.Claims.{Exactly, Refusals}
+use Rattle.model.specs.Serve.{serveBy, serve, storeRows}
+use Rattle.model.specs.Claims.{Exactly, Refusals}
 
 -- The answer's number is the table's.
 number-is : (image command reply : List ℕ) → serve image command reply .answer .number ≡ first (storeRows image command (length reply))

@@ -10,8 +10,8 @@ use Rattle.stamps.specs.Stamp.{stamp, shared, exclusive, noMark, noPair}
 use Rattle.guard.specs.declared.Answer.{Answer}
 use Rattle.stamps.specs.declared.Pair.{Pair}
 use Rattle.image.specs.Image.{encode, fresh}
-use Rattle.store.specs.Serve.{serve}
-use Rattle.store.specs.Words.{Sent, Event, history}
+use Rattle.model.specs.Serve.{serve}
+use Rattle.model.specs.Words.{Sent, Event, history}
 
 -- What a request gets: its answer and the reply buffer afterwards.
 pub record Got : Type 0 where

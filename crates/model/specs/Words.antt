@@ -10,7 +10,7 @@ use Rattle.commands.specs.Command.{Language, original, translation, writes, ver
 use Rattle.guard.specs.declared.Answer.{Answer}
 use Rattle.commands.specs.declared.Command.{Command}
 use Rattle.image.specs.Image.{fresh}
-use Rattle.store.specs.Serve.{Outcome, serve}
+use Rattle.model.specs.Serve.{Outcome, serve}
 
 -- A request as it is sent: "any lent bytes .., with a reply buffer of any length and content".
 pub record Sent : Type 0 where

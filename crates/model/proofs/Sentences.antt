@@ -19,10 +19,10 @@ use Rattle.commands.specs.declared.Command.{Command}
 use Rattle.guard.specs.declared.Entry.{Entry}
 use Rattle.lists.proofs.Table.{given}
 use Rattle.image.specs.Image.{Card, Cards, text}
-use Rattle.store.specs.Serve.{cardOf, requestRows, textRead}
-use Rattle.store.specs.Words.{Sent, Event, commandOf, Proper, late, rightMark, outdated, lastText}
-use Rattle.store.proofs.Formed.{formed-rules, no-payload}
-use Rattle.store.proofs.Machine.{numberOn, eventBy, passed, Tied, Ties}
+use Rattle.model.specs.Serve.{cardOf, requestRows, textRead}
+use Rattle.model.specs.Words.{Sent, Event, commandOf, Proper, late, rightMark, outdated, lastText}
+use Rattle.model.proofs.Formed.{formed-rules, no-payload}
+use Rattle.model.proofs.Machine.{numberOn, eventBy, passed, Tied, Ties}
 
 -- What is claimed of an event and the events before it.
 pub record Told (n : ℕ) (e : Event) (before : List Event) : Type 0 where

@@ -10,12 +10,12 @@ use lib.ListN.{length, length-replicate, getD-replicate}
 use Rattle.lists.proofs.Tests.{cases}
 use Rattle.image.specs.Image.{Cards, noCard, fresh, freshCards, shapeOk}
 use Rattle.image.proofs.Claims.{freshSound}
-use Rattle.store.specs.Words.{Sent, Event, history, logOf, commandOf, late}
-use Rattle.store.specs.Claims.{AllBytes, Claim, Demand3}
-use Rattle.store.proofs.Isolation.{Timely, isolated}
-use Rattle.store.proofs.Machine.{numberOn, eventBy, cardsFrom, eventsFrom, tied-fresh, Ties, ties-more, count-kept}
-use Rattle.store.proofs.Sentences.{Told, told}
-use Rattle.store.proofs.Simulation.{same-events}
+use Rattle.model.specs.Words.{Sent, Event, history, logOf, commandOf, late}
+use Rattle.model.specs.Claims.{AllBytes, Claim, Demand3}
+use Rattle.model.proofs.Isolation.{Timely, isolated}
+use Rattle.model.proofs.Machine.{numberOn, eventBy, cardsFrom, eventsFrom, tied-fresh, Ties, ties-more, count-kept}
+use Rattle.model.proofs.Sentences.{Told, told}
+use Rattle.model.proofs.Simulation.{same-events}
 
 -- What holds of each event and the events before it, along a list of events.
 abbrev Along : (Event → List Event → Type 0) → List Event → Type 0

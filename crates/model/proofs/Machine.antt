@@ -21,10 +21,10 @@ use Rattle.guard.proofs.Judge.{Accepted, accepted as passes}
 use Rattle.commands.proofs.Rules.{CommandRules}
 use Rattle.lists.proofs.Table.{unapplied, none-applies}
 use Rattle.image.specs.Image.{Card, Cards, text, noCard}
-use Rattle.store.specs.Serve.{cardOf, requestRows, stepped, cardsAfter, answerBy, replyBy}
-use Rattle.store.specs.Words.{Sent, Event, any, last, commandOf, accepted, outdated, lastText}
+use Rattle.model.specs.Serve.{cardOf, requestRows, stepped, cardsAfter, answerBy, replyBy}
+use Rattle.model.specs.Words.{Sent, Event, any, last, commandOf, accepted, outdated, lastText}
 use Rattle.commands.proofs.CommandBytes.{length-payload}
-use Rattle.store.proofs.Formed.{formed-well, formed-rules}
+use Rattle.model.proofs.Formed.{formed-well, formed-rules}
 
 -- ---- one request
 

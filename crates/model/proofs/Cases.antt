@@ -25,9 +25,9 @@ use Rattle.image.specs.Image.{
   sound,
   fresh,
 }
-use Rattle.store.specs.Serve.{stepped, serveBy, serve}
-use Rattle.store.specs.Cases.{run, RunLogged, Trials}
-use Rattle.store.specs.Words.{Sent, eventOf, imageAfter, history}
+use Rattle.model.specs.Serve.{stepped, serveBy, serve}
+use Rattle.model.specs.Cases.{run, RunLogged, Trials}
+use Rattle.model.specs.Words.{Sent, eventOf, imageAfter, history}
 
 pub trials-hold : Trials
 unfolding run serve serveBy stepped sound headerSound cardSound tailZero decode cardAt entryAt readEntry encode bodies pad entryBytes header shapeOk fresh replied raise entrySound commandBytes formed payload fieldsOf wellFormed all allFrom le toLe part splice table spread every zeros

@@ -25,10 +25,10 @@ use Rattle.image.specs.Image.{
   sound,
   fresh,
 }
-use Rattle.store.specs.Serve.{stepped, serveBy, serve}
-use Rattle.store.specs.Words.{Sent, Event, imageAfter, history, logOf}
-use Rattle.store.specs.Cases.{got, verify, first, sentD}
-use Rattle.store.specs.Claims.{Intruded, PremiseTells}
+use Rattle.model.specs.Serve.{stepped, serveBy, serve}
+use Rattle.model.specs.Words.{Sent, Event, imageAfter, history, logOf}
+use Rattle.model.specs.Cases.{got, verify, first, sentD}
+use Rattle.model.specs.Claims.{Intruded, PremiseTells}
 
 -- An accepted event of trial d.
 abbrev event : Sent → Event

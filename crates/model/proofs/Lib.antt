@@ -1,0 +1,11 @@
+pub mod Meaning
+pub mod Formed
+pub mod Isolation
+pub mod Machine
+pub mod Sentences
+pub mod Simulation
+pub mod Demand
+pub mod Exact
+pub mod Premise
+pub mod Sound
+pub mod Cases

@@ -1,0 +1,23 @@
+-- A request keeps a sound image sound. Assumes nothing.
+use mathlib.Core.Path.{_≡_, refl, subst, ap, _∙_}
+use mathlib.Core.List.{List}
+use Prim.Native.Nat.{ℕ}
+use Rattle.lists.proofs.Tests.{to-T, from-T}
+use Rattle.image.specs.Image.{Cards, encode, decode, sound}
+use Rattle.image.proofs.Claims.{soundReadsBack, goodEncodes}
+use Rattle.model.specs.Serve.{serve}
+use Rattle.model.specs.Words.{Sent}
+use Rattle.model.specs.Claims.{StaysSound}
+use Rattle.model.proofs.Machine.{numberOn, cardsBy}
+use Rattle.model.proofs.Simulation.{good-more, same-image}
+
+pub stays-sound : StaysSound
+stays-sound image command reply b bc br e =
+    let back = soundReadsBack image b (to-T e) in
+    let s : Sent = record { command = command; lent = reply } in
+    let cards : Cards = cardsBy (numberOn (decode image) s) (decode image) s in
+    let after : serve image command reply .image ≡ encode cards =
+    subst (λ (i : List ℕ). serve i command reply .image ≡ encode cards) (back .same) (same-image (decode image) s (back .good)) in
+    ap sound after
+    ∙ from-T (sound (encode cards))
+    (goodEncodes cards (good-more (decode image) s (back .good) (record { command = bc; lent = br }) (numberOn (decode image) s) refl) .sounds)

@@ -1,0 +1,4 @@
+pub mod Serve
+pub mod Words
+pub mod Claims
+pub mod Cases
