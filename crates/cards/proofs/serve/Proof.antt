@@ -1,7 +1,8 @@
 -- What the calls require, from what is known of a good store. Assumes nothing.
 use mathlib.Core.Path.{_∙_}
 use native.Mathlib.Omega.{arith}
-use Rattle.cards.proofs.Steps.{front, lines-fit, lent}
+use Rattle.input.proofs.Front.{front}
+use Rattle.batch.proofs.Answered.{lines-fit, lent}
 use borrow.Author.Needs.{needs}
 use Rattle.cards.proofs.serve.Statement.{statement}
 use Rattle.cards.proofs.serve.Tie as tie

@@ -1,0 +1,2 @@
+// An input judged whole: the stream behind the image in front.
+pub mod inner;
