@@ -1,18 +1,17 @@
-//! Single commands, images and their making: near every edge, damaged, and
-//! malformed.
+//! Single commands: on sound images near every edge, and malformed.
 
 use second::generate;
 use second::random::Random;
-use second::{Act, Command, CommandFields, Layout};
+use second::{Act, Command, CommandFields, Entry, Language, Layout, Pair};
 
+use crate::coverage::{Kind, Run};
 use crate::proved::{self, Answer};
-use crate::run::{bytes, same, Compared, Run};
+use crate::run::{bytes, same, Compared};
 
 /// Answers a command by both, compares number, fields, image and reply
 /// buffer, and leaves image and reply as both left them.
 pub fn answer(
     run: &mut Run,
-    part: &'static str,
     image: &mut [u8],
     command: &[u8],
     reply: &mut [u8],
@@ -27,39 +26,30 @@ pub fn answer(
     same("answer", (proved.number, proved.fields), told, input)?;
     same("image after", &*image, &second_image[..], input)?;
     same("reply after", &*reply, &second_reply[..], input)?;
-    run.case(part);
     run.number(proved.number);
     Ok(proved)
 }
 
-/// Compares whether bytes are a sound image.
-fn soundness(run: &mut Run, part: &'static str, image: &[u8]) -> Compared<()> {
-    let (proved, second) = (proved::sound(image), second::is_sound(image));
-    same("sound", proved, second, || bytes("image", image))?;
-    run.case(part);
-    run.seen(
-        if proved {
-            "images sound"
-        } else {
-            "images not sound"
-        },
-        1,
-    );
-    Ok(())
+/// A well-formed command and the entry of its card.
+fn about<'a>(image: &[u8], command: &'a [u8]) -> Option<(Command<'a>, Entry)> {
+    let command = Command::parse(command)?;
+    let entry = Layout::of_header(image)?.entry(image, command.card)?;
+    Some((command, entry))
+}
+
+/// The length of the text that a command reads.
+fn text_read(command: &Command, stored: Entry) -> Option<usize> {
+    match command.act {
+        Act::Read(language) => Some(stored.length(language).into()),
+        Act::Write(_) | Act::Verify => None,
+    }
 }
 
 /// A reply buffer whose length is near that of the text that the command
 /// reads: from none to one past it.
 pub fn reply_near(random: &mut Random, image: &[u8], command: &[u8]) -> Vec<u8> {
-    let read = || {
-        let command = Command::parse(command)?;
-        let Act::Read(language) = command.act else {
-            return None;
-        };
-        let text = Layout::of_header(image)?.text(image, command.card, language)?;
-        Some(text.len())
-    };
-    let length = match read() {
+    let read = about(image, command).and_then(|(command, stored)| text_read(&command, stored));
+    let length = match read {
         Some(text) => random.pick(&[0, text.saturating_sub(1), text, text, text, text + 1]),
         None => random.index(20),
     };
@@ -106,151 +96,120 @@ pub fn singles(run: &mut Run, random: &mut Random) -> Compared<()> {
                 2 => off_by_one(random, &image),
                 _ => generate::fitting_command(random, &image),
             };
-            let mut reply = reply_near(random, &image, &command);
-            answer(
-                run,
-                "commands on sound images",
-                &mut image,
-                &command,
-                &mut reply,
-            )?;
-            note_edges(run, &command);
+            let lent = reply_near(random, &image, &command);
+            let before = image.clone();
+            let told = answer(run, &mut image, &command, &mut lent.clone())?;
+            run.seen(Kind::Singles);
+            note_edges(run, &before, &command, lent.len());
+            note_bits(run, &command, told.number);
         }
     }
     Ok(())
 }
 
-/// Counts commands that carry what few do.
-fn note_edges(run: &mut Run, bytes: &[u8]) {
+/// Counts a value at the place that it has among the edges.
+fn note<T: PartialEq>(run: &mut Run, kind: Kind, value: T, edges: &[Option<T>]) {
+    let edges = edges.iter().enumerate();
+    for (at, _) in edges.filter(|(_, edge)| edge.as_ref() == Some(&value)) {
+        run.seen_at(kind, at);
+    }
+}
+
+/// Counts the edges at which a well-formed command for a card stands.
+fn note_edges(run: &mut Run, image: &[u8], command: &[u8], lent: usize) {
+    let Some((command, stored)) = about(image, command) else {
+        return;
+    };
+    let editions = [0, 1, 65_534, 65_535].map(Some);
+    note(run, Kind::Editions, stored.edition, &editions);
+    let room = Layout::of_header(image).map_or(16, Layout::room);
+    let lengths = [0, room - 1, room, room + 1].map(Some);
+    if let Some(text) = text_read(&command, stored) {
+        note(run, Kind::TextsRead, text, &lengths[..3]);
+        let buffers = [Some(0), text.checked_sub(1), Some(text), Some(text + 1)];
+        note(run, Kind::Replies, lent, &buffers);
+    }
+    if matches!(command.act, Act::Write(_)) {
+        note(run, Kind::TextsWritten, command.payload.len(), &lengths);
+    }
+    let (expected, mark) = (command.expected, stored.mark);
+    let off = (
+        expected.desk.abs_diff(mark.desk),
+        expected.transaction.abs_diff(mark.transaction),
+    );
+    note(run, Kind::Marks, off, &[(0, 0), (1, 0), (0, 1)].map(Some));
+    let near = |stamp: u64| [Some(stamp), stamp.checked_sub(1), stamp.checked_add(1)];
+    note(
+        run,
+        Kind::SharedStamps,
+        command.pair.s,
+        &near(stored.pair.s),
+    );
+    note(
+        run,
+        Kind::ExclusiveStamps,
+        command.pair.x,
+        &near(stored.pair.x),
+    );
+}
+
+/// Counts top bits that are accepted, and payloads of non-writes.
+fn note_bits(run: &mut Run, bytes: &[u8], number: u8) {
     let Some(fields) = CommandFields::from_bytes(bytes) else {
         return;
     };
-    if !matches!(fields.act, 3 | 4) && fields.length > 0 {
-        run.seen("non-writes that carry a payload", 1);
+    let payload = !matches!(fields.act, 3 | 4) && fields.length > 0;
+    if payload && bytes.len() == 52 + usize::from(fields.length) && number == 1 {
+        run.seen(Kind::Carrying);
     }
     let marks = [fields.expected, fields.next];
-    if marks
-        .iter()
-        .any(|mark| mark.transaction >= 1 << 31 || mark.desk >= 1 << 15)
-    {
-        run.seen("marks with their top bits set", 1);
-    }
     let stamps = [fields.pair.s, fields.pair.x];
-    if stamps
+    let tops = [
+        marks.iter().any(|mark| mark.transaction >> 31 == 1),
+        marks.iter().any(|mark| mark.desk >> 15 == 1),
+        stamps.iter().any(|stamp| stamp >> 63 == 1),
+        stamps.iter().any(|stamp| stamp >> 31 & 1 == 1),
+    ];
+    for (at, _) in tops
         .iter()
-        .any(|stamp| stamp >> 63 == 1 || stamp >> 31 & 1 == 1)
+        .enumerate()
+        .filter(|(_, top)| **top && number == 0)
     {
-        run.seen("stamps with their top bits set", 1);
+        run.seen_at(Kind::TopBits, at);
     }
 }
 
-/// Images of the largest shapes.
-pub fn large(run: &mut Run, random: &mut Random) -> Compared<()> {
-    let shapes = [(64, 224), (15, 1_024), (31, 496), (64, 16), (1, 1_024)];
-    let (cards, room) = random.pick(&shapes);
-    let mut image = generate::sound_image_of(random, cards, room);
-    for _ in 0..6 {
-        let command = generate::fitting_command(random, &image);
-        let mut reply = reply_near(random, &image, &command);
-        answer(
-            run,
-            "commands on the largest images",
-            &mut image,
-            &command,
-            &mut reply,
-        )?;
+/// A read that its card accepts, with every reply buffer from 0 bytes to one
+/// past the text.
+pub fn replies(run: &mut Run, random: &mut Random) -> Compared<()> {
+    let image = generate::sound_image(random);
+    let layout = Layout::of_header(&image);
+    let card = random.index(layout.map_or(1, Layout::cards)) as u16;
+    let stored = layout.and_then(|layout| layout.entry(&image, card));
+    let stored = stored.unwrap_or_default();
+    let language = match stored.is_behind() || random.one_in(2) {
+        true => Language::Original,
+        false => Language::Translation,
+    };
+    let mut own = |stamp: u64| match stamp {
+        0 => generate::valid_stamp(random),
+        _ => stamp,
+    };
+    let pair = Pair::new(own(stored.pair.s), own(stored.pair.x));
+    let read = CommandFields {
+        act: Act::Read(language).number(),
+        mode: random.pick(&[1, 2]),
+        card,
+        pair,
+        expected: stored.mark,
+        next: stored.mark,
+        ..CommandFields::default()
+    };
+    for lent in 0..=usize::from(stored.length(language)) + 1 {
+        let mut reply = random.bytes(lent);
+        let told = answer(run, &mut image.clone(), &read.with_payload(&[]), &mut reply)?;
+        run.seen_at(Kind::EveryReply, usize::from(told.number == 0));
     }
-    let at = random.index(image.len());
-    image[at] ^= 1 << random.below(8);
-    soundness(run, "largest images, damaged", &image)
-}
-
-/// The fields of an entry: where and how wide.
-const FIELDS: [(usize, usize); 9] = [
-    (0, 8),
-    (8, 8),
-    (16, 2),
-    (18, 2),
-    (20, 4),
-    (24, 2),
-    (26, 2),
-    (28, 2),
-    (30, 2),
-];
-
-/// Damaged images: every header byte and every field of an entry broken in
-/// turn, every other byte changed, bytes missing and bytes too many.
-pub fn damaged(run: &mut Run, random: &mut Random) -> Compared<()> {
-    let sound = generate::sound_image(random);
-    let room = Layout::of_header(&sound).map_or(16, Layout::room) as u64;
-    let card = random.index(Layout::of_header(&sound).map_or(1, Layout::cards));
-    let mut command = generate::fitting_command(random, &sound);
-    command[2..4].copy_from_slice(&(card as u16).to_le_bytes());
-    for (offset, width) in FIELDS {
-        let at = 16 + 32 * card + offset;
-        let stored = u64::from(second::endian::u16_at(&sound, at).unwrap_or(0));
-        let edges = [
-            0,
-            1,
-            stored + 1,
-            room,
-            room + 1,
-            0xffff,
-            1 << 16,
-            1 << 32,
-            u64::MAX,
-        ];
-        for value in edges {
-            let mut image = sound.clone();
-            image[at..at + width].copy_from_slice(&value.to_le_bytes()[..width]);
-            one_damaged(
-                run,
-                random,
-                "images with an entry's field broken",
-                image,
-                &command,
-            )?;
-        }
-    }
-    for at in 0..sound.len() {
-        let part = if at < 16 {
-            "images with a header byte broken"
-        } else {
-            "images with a byte changed"
-        };
-        for changed in [sound[at] ^ 1 << random.below(8), random.byte()] {
-            let mut image = sound.clone();
-            image[at] = changed;
-            one_damaged(run, random, part, image, &command)?;
-        }
-    }
-    for length in [
-        0,
-        1,
-        15,
-        16,
-        17,
-        sound.len() - 1,
-        sound.len() + 1,
-        sound.len() + 64,
-    ] {
-        let mut image = sound.clone();
-        image.resize(length, 0);
-        one_damaged(run, random, "images too short or too long", image, &command)?;
-    }
-    Ok(())
-}
-
-fn one_damaged(
-    run: &mut Run,
-    random: &mut Random,
-    part: &'static str,
-    mut image: Vec<u8>,
-    command: &[u8],
-) -> Compared<()> {
-    soundness(run, part, &image)?;
-    let mut reply = reply_near(random, &image, command);
-    answer(run, part, &mut image, command, &mut reply)?;
     Ok(())
 }
 
@@ -259,86 +218,30 @@ fn one_damaged(
 pub fn malformed(run: &mut Run, random: &mut Random) -> Compared<()> {
     let image = generate::sound_image(random);
     let command = generate::fitting_command(random, &image);
+    let sent = |run: &mut Run, random: &mut Random, command: &[u8]| {
+        let mut reply = random.bytes(18);
+        answer(run, &mut image.clone(), command, &mut reply).map(|told| told.number)
+    };
+    let reaches_guard = !matches!(sent(run, random, &command)?, 1 | 2);
     for at in 0..52 {
         let byte = command[at];
-        for changed in [
-            0,
-            1,
-            0xff,
-            byte ^ 1,
-            byte ^ 0x80,
-            byte.wrapping_add(1),
-            random.byte(),
-        ] {
+        let near = [byte ^ 1, byte ^ 0x80, byte.wrapping_add(1), random.byte()];
+        for changed in [0, 1, 0xff].into_iter().chain(near) {
             let mut broken = command.clone();
             broken[at] = changed;
-            let (mut image, mut reply) = (image.clone(), random.bytes(18));
-            answer(
-                run,
-                "commands with a byte broken",
-                &mut image,
-                &broken,
-                &mut reply,
-            )?;
+            let number = sent(run, random, &broken)?;
+            if reaches_guard && matches!(number, 1 | 2) {
+                run.seen_at(Kind::CommandBytes, at);
+            }
         }
     }
-    let longer = command.len() + 1;
-    for length in [
-        0,
-        1,
-        49,
-        50,
-        51,
-        52,
-        53,
-        command.len() - 1,
-        longer,
-        52 + 65_535,
-    ] {
+    let whole = command.len();
+    let lengths = [0, 1, 49, 50, 51, 52, 53, whole - 1, whole + 1, 52 + 65_535];
+    for length in lengths.into_iter().filter(|length| *length != whole) {
         let mut broken = command.clone();
         broken.resize(length, 0);
-        let (mut image, mut reply) = (image.clone(), random.bytes(18));
-        answer(
-            run,
-            "commands too short or too long",
-            &mut image,
-            &broken,
-            &mut reply,
-        )?;
-    }
-    Ok(())
-}
-
-/// Making fresh images of any numbers in any number of bytes.
-pub fn making(run: &mut Run, random: &mut Random) -> Compared<()> {
-    for _ in 0..40 {
-        let any = random.number();
-        let cards = random.pick(&[0, 1, 2, 15, 16, 63, 64, 65, 1 << 16, (1 << 32) + 1, any]);
-        let room = random.pick(&[
-            0,
-            15,
-            16,
-            17,
-            32,
-            224,
-            240,
-            1_008,
-            1_024,
-            1_040,
-            (1 << 16) + 16,
-            any,
-        ]);
-        let right = Layout::new(cards, room).map_or(80, Layout::size);
-        let length = random.pick(&[0, 16, right, right, right, right + 1, right - 1]);
-        let mut image = random.bytes(length);
-        let mut second_image = image.clone();
-        let input = || format!("  cards {cards}, room {room}, {length} bytes lent\n");
-        let proved = proved::make(&mut image, cards, room);
-        let second = second::make_fresh(&mut second_image, cards, room);
-        same("make", proved, second, input)?;
-        same("made image", &image, &second_image, input)?;
-        run.case("images made");
-        run.number(proved);
+        sent(run, random, &broken)?;
+        run.seen_at(Kind::CommandLengths, usize::from(length > whole));
     }
     Ok(())
 }

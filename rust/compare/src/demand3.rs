@@ -4,6 +4,9 @@
 use second::stamp::desk_and_start;
 use second::{Act, Command, Language, Mark, Mode};
 
+use crate::coverage::{Kind, Run};
+use crate::proved::Answer;
+
 /// One request as its sender sees it.
 #[derive(Clone, Debug)]
 pub struct Event {
@@ -19,46 +22,34 @@ pub struct Event {
     pub reply: Vec<u8>,
 }
 
-/// How often each sentence spoke.
-#[derive(Clone, Copy, Debug, Default)]
-pub struct Spoken {
-    /// Commands that come late.
-    pub late: u64,
-    /// Commands that do not.
-    pub in_time: u64,
-    /// Reads of a translation that is behind.
-    pub behind: u64,
-    /// Reads of a translation that is not.
-    pub not_behind: u64,
-    /// Accepted reads of a text that was written.
-    pub shown: u64,
-    /// Accepted reads where nothing was written.
-    pub nothing_shown: u64,
-    /// Cards for which the premise holds, with a shared command that carries
-    /// another desk's exclusive stamp.
-    pub premise: u64,
-    /// Cards for which it does not hold.
-    pub no_premise: u64,
-    /// Pairs of accepted commands of one session under the premise.
-    pub pairs: u64,
-    /// Such pairs with a barred command between them, which was refused.
-    pub barred: u64,
-    /// Such pairs, shared, with an accepted shared command of another desk
-    /// between them.
-    pub together: u64,
-    /// Such pairs without the premise, with an accepted command between them
-    /// that the premise would have barred.
-    pub let_in: u64,
+impl Event {
+    /// What a sender sees of a request and its answer.
+    pub fn new(command: &[u8], lent: Vec<u8>, told: Answer, reply: &[u8]) -> Event {
+        Event {
+            command: command.to_vec(),
+            lent,
+            number: told.number,
+            length: told.fields[6] as usize,
+            reply: reply.to_vec(),
+        }
+    }
 }
 
 /// A list of events, its commands parsed once.
 struct List<'a> {
     events: &'a [Event],
     commands: Vec<Option<Command<'a>>>,
-    cards: u16,
 }
 
 impl<'a> List<'a> {
+    fn new(events: &'a [Event]) -> List<'a> {
+        let commands = events.iter().map(|event| Command::parse(&event.command));
+        List {
+            events,
+            commands: commands.collect(),
+        }
+    }
+
     /// The command at a place if it is accepted.
     fn accepted(&self, at: usize) -> Option<&Command<'a>> {
         self.commands[at]
@@ -136,87 +127,81 @@ impl<'a> List<'a> {
     }
 }
 
-/// Evaluates every sentence on a list from a fresh image of so many cards.
-pub fn holds(cards: u16, events: &[Event], spoken: &mut Spoken) -> Result<(), String> {
-    let list = List {
-        events,
-        commands: events
-            .iter()
-            .map(|event| Command::parse(&event.command))
-            .collect(),
-        cards,
-    };
+/// Whether the premise on shared stamps holds for a card of a list.
+pub fn premise(events: &[Event], card: u16) -> bool {
+    List::new(events).premise(card).0
+}
+
+/// Evaluates every sentence on a list from a fresh image of so many cards,
+/// and counts how often each spoke.
+pub fn holds(cards: u16, events: &[Event], run: &mut Run) -> Result<(), String> {
+    let list = List::new(events);
     for at in 0..events.len() {
         let told = |sentence: &str| format!("{sentence}, at command {at} of the list");
-        staleness(&list, at, spoken).map_err(told)?;
-        behindness(&list, at, spoken).map_err(told)?;
-        showing(&list, at, spoken).map_err(told)?;
+        let formed = list.commands[at].as_ref();
+        if let Some(command) = formed.filter(|command| command.card < cards) {
+            staleness(&list, at, command, run).map_err(told)?;
+            behindness(&list, at, command, run).map_err(told)?;
+        }
+        showing(&list, at, run).map_err(told)?;
     }
-    (0..cards).try_for_each(|card| isolation(&list, card, spoken))
+    (0..cards).try_for_each(|card| isolation(&list, card, run))
 }
 
-fn staleness(list: &List, at: usize, spoken: &mut Spoken) -> Result<(), &'static str> {
-    let Some(command) = list.commands[at]
-        .as_ref()
-        .filter(|command| command.card < list.cards)
-    else {
-        return Ok(());
-    };
-    let late = list.late(at, command);
-    *(if late {
-        &mut spoken.late
-    } else {
-        &mut spoken.in_time
-    }) += 1;
-    match late == (list.events[at].number == 3) {
+/// Counts a kind by whether something is so, and says what does not hold.
+fn spoken(
+    run: &mut Run,
+    kind: Kind,
+    so: bool,
+    holds: bool,
+    sentence: &'static str,
+) -> Result<(), &'static str> {
+    run.seen_at(kind, usize::from(!so));
+    match holds {
         true => Ok(()),
-        false => Err("refused as stale exactly when it comes late"),
+        false => Err(sentence),
     }
 }
 
-fn behindness(list: &List, at: usize, spoken: &mut Spoken) -> Result<(), &'static str> {
-    let reads = |command: &&Command| {
-        command.act == Act::Read(Language::Translation) && command.card < list.cards
-    };
-    let Some(command) = list.commands[at].as_ref().filter(reads) else {
-        return Ok(());
-    };
-    if list.late(at, command) || !list.right_mark(at, command) {
+fn staleness(list: &List, at: usize, command: &Command, run: &mut Run) -> Result<(), &'static str> {
+    let late = list.late(at, command);
+    let holds = late == (list.events[at].number == 3);
+    let sentence = "refused as stale exactly when it comes late";
+    spoken(run, Kind::Late, late, holds, sentence)
+}
+
+fn behindness(
+    list: &List,
+    at: usize,
+    command: &Command,
+    run: &mut Run,
+) -> Result<(), &'static str> {
+    let reads = command.act == Act::Read(Language::Translation);
+    if !reads || list.late(at, command) || !list.right_mark(at, command) {
         return Ok(());
     }
     let behind = list.behind(at, command.card);
-    *(if behind {
-        &mut spoken.behind
-    } else {
-        &mut spoken.not_behind
-    }) += 1;
-    match behind == (list.events[at].number == 6) {
-        true => Ok(()),
-        false => Err("a translation's read is refused as behind exactly when it is behind"),
-    }
+    let holds = behind == (list.events[at].number == 6);
+    let sentence = "a translation's read is refused as behind exactly when it is behind";
+    spoken(run, Kind::Behind, behind, holds, sentence)
 }
 
-fn showing(list: &List, at: usize, spoken: &mut Spoken) -> Result<(), &'static str> {
+fn showing(list: &List, at: usize, run: &mut Run) -> Result<(), &'static str> {
     let event = &list.events[at];
-    let shown = match list.accepted(at).map(|command| (command.act, command.card)) {
+    let written = match list.accepted(at).map(|command| (command.act, command.card)) {
         Some((Act::Read(language), card)) => list.last_written(at, card, language),
         _ => return Ok(()),
     };
-    *(if shown.is_some() {
-        &mut spoken.shown
-    } else {
-        &mut spoken.nothing_shown
-    }) += 1;
-    match event.reply.get(..event.length) == Some(shown.unwrap_or_default()) {
-        true => Ok(()),
-        false => Err("an accepted read shows the payload of the last accepted write"),
-    }
+    let holds = event.reply.get(..event.length) == Some(written.unwrap_or_default());
+    let sentence = "an accepted read shows the payload of the last accepted write";
+    spoken(run, Kind::Shown, written.is_some(), holds, sentence)
 }
 
-fn isolation(list: &List, card: u16, spoken: &mut Spoken) -> Result<(), String> {
+fn isolation(list: &List, card: u16, run: &mut Run) -> Result<(), String> {
     let (premise, carries) = list.premise(card);
-    spoken.premise += u64::from(premise && carries);
-    spoken.no_premise += u64::from(!premise);
+    if carries || !premise {
+        run.seen_at(Kind::Premise, usize::from(!premise));
+    }
     let accepted: Vec<usize> = (0..list.events.len())
         .filter(|&at| {
             list.accepted(at)
@@ -225,7 +210,7 @@ fn isolation(list: &List, card: u16, spoken: &mut Spoken) -> Result<(), String> 
         .collect();
     for (place, &first) in accepted.iter().enumerate() {
         for &second in &accepted[place + 1..] {
-            isolated(list, card, premise, first, second, spoken)?;
+            isolated(list, premise, (first, second), run)?;
         }
     }
     Ok(())
@@ -234,11 +219,9 @@ fn isolation(list: &List, card: u16, spoken: &mut Spoken) -> Result<(), String> 
 /// Two accepted commands of one session, and what stands between them.
 fn isolated(
     list: &List,
-    card: u16,
     premise: bool,
-    first: usize,
-    second: usize,
-    spoken: &mut Spoken,
+    (first, second): (usize, usize),
+    run: &mut Run,
 ) -> Result<(), String> {
     let (Some(a), Some(b)) = (list.accepted(first), list.accepted(second)) else {
         return Ok(());
@@ -246,13 +229,12 @@ fn isolated(
     if a.session() != b.session() {
         return Ok(());
     }
-    spoken.pairs += u64::from(premise);
     let (mut barred, mut together) = (false, false);
     for at in first + 1..second {
         let Some(other) = list.commands[at].as_ref() else {
             continue;
         };
-        if other.card != card || other.desk == b.desk {
+        if other.card != b.card || other.desk == b.desk {
             continue;
         }
         let intrudes = b.mode == Mode::Exclusive || other.mode == Mode::Exclusive;
@@ -262,12 +244,17 @@ fn isolated(
                     "under the premise, command {at} was accepted between {first} and {second}, one session of another desk"
                 ))
             }
-            (true, true, false) => spoken.let_in += 1,
+            (true, true, false) => run.seen(Kind::LetIn),
             (true, false, _) => together = true,
             (false, intrudes, _) => barred |= intrudes,
         }
     }
-    spoken.barred += u64::from(premise && barred);
-    spoken.together += u64::from(premise && together);
+    if premise {
+        run.seen(Kind::Isolated);
+        let between = [barred, together].into_iter().enumerate();
+        between
+            .filter(|(_, came)| *came)
+            .for_each(|(at, _)| run.seen_at(Kind::Between, at));
+    }
     Ok(())
 }

@@ -1,10 +1,11 @@
 //! The text a desk shows, for anything that it holds.
 
 use second::random::Random;
-use second::{shown, Language};
+use second::{shown, Held, Language};
 
-use crate::proved::{self, Held};
-use crate::run::{bytes, same, Compared, Difference, Run};
+use crate::coverage::{Kind, Run};
+use crate::proved;
+use crate::run::{bytes, same, Compared};
 
 /// Texts of desks near every edge, both languages, and a third that is none.
 pub fn any(run: &mut Run, random: &mut Random) -> Compared<()> {
@@ -18,18 +19,17 @@ pub fn any(run: &mut Run, random: &mut Random) -> Compared<()> {
             original_length: near(random, first as u64),
             translation_length: near(random, second as u64),
             edition: random.pick(&[0, 1, 2, 65_534, 65_535, any as u16]),
-            from: random.pick(&[0, 1, 2, 65_534, 65_535, any as u16]),
+            translated_from: random.pick(&[0, 1, 2, 65_534, 65_535, any as u16]),
         };
         for language in [Language::Original, Language::Translation] {
             both(run, &held, language)?;
         }
         let other = random.between(2, 255) as u8;
         if proved::shown(&held, other) != (1, 0) {
-            return Err(Difference(format!(
-                "language {other} is not refused: {held:?}"
-            )));
+            return Err(format!("language {other} is not refused: {held:?}"));
         }
-        run.case("desks asked for a third language");
+        run.case();
+        run.seen(Kind::ThirdLanguage);
     }
     Ok(())
 }
@@ -50,20 +50,12 @@ fn near(random: &mut Random, size: u64) -> u64 {
 }
 
 fn both(run: &mut Run, held: &Held, language: Language) -> Compared<()> {
-    let second_held = second::Held {
-        original: held.original,
-        translation: held.translation,
-        original_length: held.original_length,
-        translation_length: held.translation_length,
-        edition: held.edition.into(),
-        translated_from: held.from.into(),
-    };
     let input = || {
         bytes("original", held.original)
             + &bytes("translation", held.translation)
             + &format!("  {held:?} {language:?}\n")
     };
-    let (number, text) = shown(&second_held, language);
+    let (number, text) = shown(held, language);
     let proved = proved::shown(held, proved::asked(language));
     same("shown", proved, (number, text.len() as u64), input)?;
     let buffer = match language {
@@ -71,7 +63,13 @@ fn both(run: &mut Run, held: &Held, language: Language) -> Compared<()> {
         Language::Translation => held.translation,
     };
     same("shown text", &buffer[..proved.1 as usize], text, input)?;
-    run.case("desks' texts");
     run.number(number);
+    let kind = match (number, language) {
+        (0, Language::Original) => 0,
+        (0, Language::Translation) => 1,
+        (6, _) => 2,
+        _ => 3,
+    };
+    run.seen_at(Kind::Desks, kind);
     Ok(())
 }

@@ -2,17 +2,20 @@
 //! input, and the first difference stops the run and prints the input.
 //!
 //! - [`proved`]: the proved library by its exported functions.
-//! - [`run`]: what a run counts, and how a difference is told.
-//! - [`answers`], [`lists`], [`queues`], [`desks`], [`streams`], [`program`]:
-//!   what is compared, part by part.
+//! - [`run`]: how a difference is told. [`coverage`]: what a run counts.
+//! - [`answers`], [`images`], [`lists`], [`queues`], [`desks`], [`streams`],
+//!   [`program`]: what is compared, part by part.
+//! - [`trials`]: the sheet's trials, by both.
 //! - [`sessions`]: lists of commands as desks send them, sessions interleaved.
 //! - [`demand3`]: the sentences of demand 3, over a list of events.
 
 #![deny(missing_docs)]
 
 pub mod answers;
+pub mod coverage;
 pub mod demand3;
 pub mod desks;
+pub mod images;
 pub mod lists;
 pub mod program;
 pub mod proved;
@@ -20,3 +23,4 @@ pub mod queues;
 pub mod run;
 pub mod sessions;
 pub mod streams;
+pub mod trials;

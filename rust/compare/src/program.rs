@@ -5,36 +5,88 @@ use std::path::{Path, PathBuf};
 use std::process::{Command, Stdio};
 
 use second::generate;
+use second::program::INPUT_LIMIT;
 use second::random::Random;
 use second::short::fresh;
 
-use crate::run::{bytes, same, Compared, Difference, Run};
+use crate::coverage::{Kind, Run};
+use crate::run::{bytes, same, Compared};
 
-/// The most bytes that the program takes.
-const LIMIT: usize = 65_536;
-
-/// Where the gate leaves the program; none if there is no program to build.
-pub fn binary() -> Option<PathBuf> {
-    let top = Path::new(env!("CARGO_MANIFEST_DIR")).join("../..");
-    let there = top.join("crates/cards").exists();
-    there.then(|| top.join("target/bin/cards"))
+/// The program's binary, and the file through which it gets its inputs, which
+/// is gone at the end.
+pub struct Program {
+    binary: PathBuf,
+    file: PathBuf,
 }
 
-/// An input of any sort, at every edge of its length.
-fn input(random: &mut Random) -> Vec<u8> {
+impl Program {
+    /// The program where `tools/build` leaves it. No two at a time have the
+    /// same number.
+    pub fn new(number: u64) -> Program {
+        let name = format!("lupaniele-compare-{}-{number}", std::process::id());
+        let top = Path::new(env!("CARGO_MANIFEST_DIR")).join("../..");
+        Program {
+            binary: top.join("target/bin/cards"),
+            file: std::env::temp_dir().join(name),
+        }
+    }
+
+    /// What the binary prints.
+    fn printed(&self, input: &[u8]) -> Compared<String> {
+        let failed = |error: std::io::Error| format!("{}: {error}", self.binary.display());
+        fs::write(&self.file, input).map_err(failed)?;
+        let output = Command::new(&self.binary)
+            .stdin(File::open(&self.file).map_err(failed)?)
+            .stderr(Stdio::inherit())
+            .output()
+            .map_err(failed)?;
+        Ok(String::from_utf8_lossy(&output.stdout).into_owned())
+    }
+
+    /// What both print for an input.
+    pub fn output(&self, run: &mut Run, input: &[u8]) -> Compared<String> {
+        let (proved, second) = (self.printed(input)?, second::output(input));
+        let lent = || bytes("standard input", input);
+        same("program", &proved, &second, lent)?;
+        let last = proved.lines().last().unwrap_or_default();
+        let kind = match last.split(' ').next() {
+            Some("too") => 0,
+            Some("bad") => 1,
+            Some("end") => 2,
+            _ => 3,
+        };
+        run.seen_at(Kind::Outputs, kind);
+        if let Some(past @ 0..2) = input.len().checked_sub(INPUT_LIMIT) {
+            run.seen_at(Kind::InputLengths, past);
+        }
+        Ok(proved)
+    }
+}
+
+impl Drop for Program {
+    fn drop(&mut self) {
+        let _ = fs::remove_file(&self.file);
+    }
+}
+
+/// The edges of an input's length.
+const EDGES: u64 = 12;
+
+/// An input of any sort, its length at an edge or not.
+fn input(random: &mut Random, edge: u64) -> Vec<u8> {
     let mut input = match random.below(24) {
         0 => fresh(1, 16),
         _ => generate::image(random),
     };
-    match random.below(120) {
+    match edge {
         0 => input.truncate(0),
         1 => input.truncate(15),
         2 | 3 => input.truncate(16),
         4 | 5 => input.truncate(input.len().saturating_sub(1)),
-        6 => return filled(random, LIMIT),
-        7 => return filled(random, LIMIT + 1),
-        8 => return filled(random, LIMIT - 1),
-        9 => return random.bytes(LIMIT + 1),
+        6 => return filled(random, INPUT_LIMIT),
+        7 => return filled(random, INPUT_LIMIT + 1),
+        8 => return filled(random, INPUT_LIMIT - 1),
+        9 => return random.bytes(INPUT_LIMIT + 1),
         10 | 11 => {}
         _ => {
             let image = input.clone();
@@ -61,23 +113,12 @@ fn filled(random: &mut Random, length: usize) -> Vec<u8> {
     input
 }
 
-/// What the binary prints for an input, which goes through a file.
-fn printed(binary: &Path, file: &Path, input: &[u8]) -> Compared<Vec<u8>> {
-    let failed = |error: std::io::Error| Difference(format!("{}: {error}", binary.display()));
-    fs::write(file, input).map_err(failed)?;
-    let output = Command::new(binary)
-        .stdin(File::open(file).map_err(failed)?)
-        .stderr(Stdio::inherit())
-        .output()
-        .map_err(failed)?;
-    Ok(output.stdout)
-}
-
 /// Runs the binary on so many inputs, two at a time.
-pub fn any(run: &mut Run, random: &mut Random, binary: &Path, inputs: u64) -> Compared<()> {
-    let seeds = [random.number(), random.number()];
+pub fn any(run: &mut Run, random: &mut Random, inputs: u64) -> Compared<()> {
+    let workers = [(1, random.number()), (2, random.number())];
     let runs = std::thread::scope(|scope| {
-        let workers = seeds.map(|seed| scope.spawn(move || worker(seed, binary, inputs / 2)));
+        let workers =
+            workers.map(|(number, seed)| scope.spawn(move || worker(number, seed, inputs / 2)));
         workers.map(|worker| {
             worker
                 .join()
@@ -90,49 +131,21 @@ pub fn any(run: &mut Run, random: &mut Random, binary: &Path, inputs: u64) -> Co
     Ok(())
 }
 
-/// Half of the inputs, one after the other.
-fn worker(seed: u64, binary: &Path, inputs: u64) -> Compared<Run> {
-    let name = format!("lupaniele-compare-{}-{seed:x}", std::process::id());
-    let file = std::env::temp_dir().join(name);
+/// Half of the inputs, one after the other: each edge once, and then any.
+fn worker(number: u64, seed: u64, inputs: u64) -> Compared<Run> {
+    let program = Program::new(number);
     let (mut run, mut random) = (Run::default(), Random::new(seed));
-    let result = (1..=inputs).try_for_each(|count| {
-        if count % 10_000 == 0 {
-            println!("compare: the program, {count} inputs of {inputs}");
+    for count in 0..inputs {
+        let any = random.below(10 * EDGES);
+        let edge = if count < EDGES { count } else { any };
+        let input = input(&mut random, edge);
+        program.output(&mut run, &input)?;
+        if number == 1 && count % 5_000 == 4_999 {
+            println!(
+                "compare: the program, {} inputs of {inputs}, twice",
+                count + 1
+            );
         }
-        one(&mut run, &mut random, binary, &file)
-    });
-    let _ = fs::remove_file(&file);
-    result.map(|()| run)
-}
-
-fn one(run: &mut Run, random: &mut Random, binary: &Path, file: &Path) -> Compared<()> {
-    let input = input(random);
-    let proved = String::from_utf8_lossy(&printed(binary, file, &input)?).into_owned();
-    let second = second::output(&input);
-    let last = second.lines().last().unwrap_or_default();
-    let kind = match last.split(' ').next() {
-        Some("too") => "program: too long",
-        Some("bad") => "program: bad store",
-        Some("cut") => "program: runs that end with cut",
-        _ => "program: runs that end with end",
-    };
-    same("program", proved, second, || {
-        bytes("standard input", &input)
-    })?;
-    run.seen("program: inputs", 1);
-    run.seen(kind, 1);
-    if input.len() == LIMIT || input.len() == LIMIT + 1 {
-        run.seen("program: inputs of 65,536 and 65,537 bytes", 1);
     }
-    Ok(())
+    Ok(run)
 }
-
-/// The lines of the table for the program; each must come.
-pub const KINDS: [&str; 6] = [
-    "program: inputs",
-    "program: too long",
-    "program: bad store",
-    "program: runs that end with cut",
-    "program: runs that end with end",
-    "program: inputs of 65,536 and 65,537 bytes",
-];

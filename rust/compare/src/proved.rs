@@ -1,7 +1,8 @@
 //! The proved library, by its exported functions: safe names over
 //! `crates/capi`. Slices are a pointer and a length there, arrays a pointer.
 
-use second::{Language, Pair, Place};
+use second::short::Kept;
+use second::{Held, Language, Place, Turn};
 
 mod exported {
     extern "C" {
@@ -113,17 +114,17 @@ pub struct Queue {
 pub type QueueAnswer = (u8, [u64; 4]);
 
 impl Queue {
-    /// The queue with these places lent; of more than 32 the first 32, since
+    /// The queue with its places lent; of more than 32 the first 32, since
     /// such a queue is bad whatever they hold.
-    pub fn new(lent: &[Place], count: u64, largest: Pair) -> Queue {
+    pub fn new(kept: &Kept) -> Queue {
         let mut queue = Queue {
             modes: [0xaa; 32],
             s: [0xaaaa_aaaa; 32],
             x: [0xaaaa_aaaa; 32],
-            kept: [count, largest.s, largest.x],
-            places: lent.len() as u64,
+            kept: [kept.count as u64, kept.largest.s, kept.largest.x],
+            places: kept.places.len() as u64,
         };
-        for (at, place) in lent.iter().take(32).enumerate() {
+        for (at, place) in kept.places.iter().take(32).enumerate() {
             queue.modes[at] = place.mode;
             queue.s[at] = place.pair.s;
             queue.x[at] = place.pair.x;
@@ -131,8 +132,16 @@ impl Queue {
         queue
     }
 
+    /// A desk asks or leaves.
+    pub fn turn(&mut self, turn: Turn) -> QueueAnswer {
+        match turn {
+            Turn::Ask(asked) => self.ask(asked),
+            Turn::Leave(desk) => self.leave(desk),
+        }
+    }
+
     /// A desk asks for the lock.
-    pub fn ask(&mut self, asked: Place) -> QueueAnswer {
+    fn ask(&mut self, asked: Place) -> QueueAnswer {
         let mut fields = [0x5a5a_5a5a; 4];
         // SAFETY: each pointer is that of an array of its own.
         let number = unsafe {
@@ -152,7 +161,7 @@ impl Queue {
     }
 
     /// A desk and start leaves.
-    pub fn leave(&mut self, desk: u32) -> QueueAnswer {
+    fn leave(&mut self, desk: u32) -> QueueAnswer {
         let mut fields = [0x5a5a_5a5a; 4];
         // SAFETY: each pointer is that of an array of its own.
         let number = unsafe {
@@ -170,23 +179,6 @@ impl Queue {
     }
 }
 
-/// What a desk holds, at its own word.
-#[derive(Clone, Copy, Debug)]
-pub struct Held<'a> {
-    /// The buffer with the original.
-    pub original: &'a [u8],
-    /// The buffer with the translation.
-    pub translation: &'a [u8],
-    /// The length of the original.
-    pub original_length: u64,
-    /// The length of the translation.
-    pub translation_length: u64,
-    /// The edition.
-    pub edition: u16,
-    /// Translated-from.
-    pub from: u16,
-}
-
 /// The number, and how many first bytes of the buffer asked for are shown.
 /// `asked` is 0 for the original, 1 for the translation.
 pub fn shown(held: &Held, asked: u8) -> (u8, u64) {
@@ -202,7 +194,7 @@ pub fn shown(held: &Held, asked: u8) -> (u8, u64) {
             held.original_length,
             held.translation_length,
             held.edition,
-            held.from,
+            held.translated_from,
             asked,
             &mut count,
         )

@@ -2,78 +2,56 @@
 
 use second::generate;
 use second::random::Random;
-use second::stamp::{desk_and_start, stamp};
-use second::{Pair, Place, Queue};
+use second::short::Kept;
+use second::stamp::{desk_and_start, is_valid, stamp};
+use second::{Place, Turn};
 
-use crate::proved;
-use crate::run::{same, Compared, Run};
+use crate::coverage::{Kind, Run};
+use crate::proved::{self, QueueAnswer};
+use crate::run::{same, Compared};
 
-/// What a desk does.
-#[derive(Clone, Copy, Debug)]
-pub enum Turn {
-    /// Asks with this entry.
-    Ask(Place),
-    /// Leaves, by desk and start.
-    Leave(u32),
-}
-
-/// A queue of both.
-pub struct Both {
-    proved: proved::Queue,
-    places: Vec<Place>,
-    count: usize,
-    largest: Pair,
-}
-
-impl Both {
-    /// The same queue for both.
-    pub fn new(places: Vec<Place>, count: usize, largest: Pair) -> Both {
-        Both {
-            proved: proved::Queue::new(&places, count as u64, largest),
-            places,
-            count,
-            largest,
-        }
+/// A turn by both: compares the answer and the whole queue after it.
+pub fn turn(run: &mut Run, queue: &mut Kept, turn: Turn) -> Compared<QueueAnswer> {
+    let entry = queue.clone();
+    let input = || format!("  queue: {entry:x?}\n  turn: {turn:x?}\n");
+    let mut lent = proved::Queue::new(queue);
+    let proved = lent.turn(turn);
+    let second = queue.lend(|queue| queue.turn(turn));
+    let told = (second.number, second.numbers());
+    same("queue's answer", proved, told, input)?;
+    same("queue after", lent, proved::Queue::new(queue), input)?;
+    run.number(proved.0);
+    if proved.0 == 0 && second.holds {
+        run.seen(Kind::Holding);
     }
+    Ok(proved)
+}
 
-    /// A turn of both: compares the answer and the whole queue after it.
-    pub fn turn(&mut self, run: &mut Run, part: &'static str, turn: Turn) -> Compared<u8> {
-        let entry = (self.places.clone(), self.count, self.largest);
-        let input = || format!("  queue: {entry:x?}\n  turn: {turn:x?}\n");
-        let mut queue = Queue {
-            places: &mut self.places,
-            count: self.count,
-            largest: self.largest,
-        };
-        let second = match turn {
-            Turn::Ask(asked) => queue.ask(asked),
-            Turn::Leave(desk) => queue.leave(desk),
-        };
-        (self.count, self.largest) = (queue.count, queue.largest);
-        let (number, fields) = match turn {
-            Turn::Ask(asked) => self.proved.ask(asked),
-            Turn::Leave(desk) => self.proved.leave(desk),
-        };
-        let told = [
-            second.holds.into(),
-            second.largest.s,
-            second.largest.x,
-            second.looked_at as u64,
-        ];
-        same(
-            "queue's answer",
-            (number, fields),
-            (second.number, told),
-            input,
-        )?;
-        let after = proved::Queue::new(&self.places, self.count as u64, self.largest);
-        same("queue after", self.proved, after, input)?;
-        run.case(part);
-        run.number(number);
-        if number == 0 && fields[0] == 1 {
-            run.seen("asks that hold the lock at once", 1);
-        }
-        Ok(number)
+/// Counts a queue that is bad for one reason alone.
+fn note_fault(run: &mut Run, queue: &Kept) {
+    let Kept {
+        places,
+        count,
+        largest,
+    } = queue;
+    let standing = &places[..places.len().min(*count)];
+    let twice = |(at, place): (usize, &Place)| {
+        let earlier = &standing[..at];
+        earlier.iter().any(|other| own(*other) == own(*place))
+    };
+    let faults = [
+        !(1..=32).contains(&places.len()),
+        *count > places.len(),
+        !is_valid(largest.s),
+        !is_valid(largest.x),
+        standing.iter().any(|place| place.desk().is_none()),
+        standing.iter().enumerate().any(twice),
+        standing.iter().any(|place| place.pair.s > largest.s),
+        standing.iter().any(|place| place.pair.x > largest.x),
+    ];
+    let mut found = (0..).zip(faults).filter(|(_, fault)| *fault);
+    if let (Some((at, _)), None) = (found.next(), found.next()) {
+        run.seen_at(Kind::BadQueues, at);
     }
 }
 
@@ -81,20 +59,21 @@ impl Both {
 pub fn any(run: &mut Run, random: &mut Random) -> Compared<()> {
     for _ in 0..40 {
         let length = random.index(34);
-        let (places, count, largest) = match random.one_in(3) {
+        let mut queue = match random.one_in(3) {
             true => generate::queue_of(random, length),
             false => generate::queue(random),
         };
-        let standing: Vec<u32> = places.iter().map(|place| own(*place)).collect();
-        let mut both = Both::new(places, count, largest);
+        note_fault(run, &queue);
+        let standing: Vec<u32> = queue.places.iter().map(|place| own(*place)).collect();
         for _ in 0..3 {
             let leaver = random.pick(&standing);
-            let turn = match random.below(4) {
+            let taken = match random.below(4) {
                 0 => Turn::Leave(desk_and_start(generate::any_stamp(random))),
                 1 => Turn::Leave(leaver),
                 _ => Turn::Ask(generate::place(random)),
             };
-            both.turn(run, "turns on any queue", turn)?;
+            turn(run, &mut queue, taken)?;
+            run.seen_at(Kind::Queues, queue.places.len());
         }
     }
     Ok(())
@@ -109,27 +88,26 @@ fn own(place: Place) -> u32 {
     })
 }
 
-/// Chains of asks and leaves on a queue that starts empty, with stamps that
-/// mostly rise.
-pub fn chains(run: &mut Run, random: &mut Random) -> Compared<()> {
-    let length = random.between(1, 33) as usize;
-    let mut both = Both::new(vec![Place::default(); length], 0, Pair::default());
+/// A chain of asks and leaves on a queue of so many places that starts empty,
+/// with stamps that mostly rise.
+pub fn chain(run: &mut Run, random: &mut Random, length: usize) -> Compared<()> {
+    let mut queue = Kept::new(length, &[]);
     let mut standing = vec![0];
     for time in 1..100 {
         let (desk, start) = (random.between(1, 50) as u16, random.pick(&[0, 0, 0, 1]));
         let earlier = random.below(3).saturating_sub(1) as u32;
-        let own = stamp(time - earlier.min(time), desk, start);
-        let largest = both.largest;
-        let turn = match random.below(5) {
+        let stamp = stamp(time - earlier.min(time), desk, start);
+        let taken = match random.below(5) {
             0 => Turn::Leave(random.pick(&standing)),
-            1 => Turn::Leave(desk_and_start(own)),
-            2 => Turn::Ask(Place::new(2, largest.s, own)),
+            1 => Turn::Leave(desk_and_start(stamp)),
+            2 => Turn::Ask(Place::new(2, queue.largest.s, stamp)),
             3 => Turn::Ask(generate::place(random)),
-            _ => Turn::Ask(Place::new(1, own, largest.x)),
+            _ => Turn::Ask(Place::new(1, stamp, queue.largest.x)),
         };
-        let number = both.turn(run, "turns in chains", turn)?;
-        if let (Turn::Ask(asked), 0) = (turn, number) {
-            standing.push(self::own(asked));
+        let (number, _) = turn(run, &mut queue, taken)?;
+        run.seen_at(Kind::Chains, length - 1);
+        if let (Turn::Ask(asked), 0) = (taken, number) {
+            standing.push(own(asked));
         }
     }
     Ok(())

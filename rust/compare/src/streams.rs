@@ -5,10 +5,11 @@ use second::generate;
 use second::random::Random;
 use second::{standing_at, walk, Standing};
 
+use crate::coverage::{Kind, Run};
 use crate::proved;
-use crate::run::{bytes, same, Compared, Run};
+use crate::run::{bytes, same, Compared};
 
-/// Streams of any sort.
+/// Streams of any sort, and one of them cut at every byte.
 pub fn any(run: &mut Run, random: &mut Random) -> Compared<()> {
     let image = generate::sound_image(random);
     for _ in 0..10 {
@@ -16,43 +17,29 @@ pub fn any(run: &mut Run, random: &mut Random) -> Compared<()> {
         let cut = random.index(stream.len() + 1);
         for stream in [&stream[..], &stream[..cut]] {
             walks(run, stream)?;
-            let any = random.number() as usize;
-            let length = stream.len();
-            for at in [
-                0,
-                1,
-                52,
-                length,
-                length + 1,
-                length.saturating_sub(52),
-                any,
-                usize::MAX,
-            ] {
+            let (length, any) = (stream.len(), random.number() as usize);
+            let far = [any, usize::MAX];
+            let near = [0, 1, 52, length, length + 1, length.saturating_sub(52)];
+            for at in near.into_iter().chain(far) {
                 steps(run, stream, at)?;
             }
         }
     }
+    let stream = generate::stream(random, &image);
+    for length in 0..=stream.len() {
+        walks(run, &stream[..length])?;
+    }
+    run.seen(Kind::EveryCut);
     Ok(())
 }
 
 /// The walk's end, and each step on the way.
 fn walks(run: &mut Run, stream: &[u8]) -> Compared<()> {
     let second = walk(stream, 0);
-    same(
-        "end of the walk",
-        proved::end(stream),
-        second.place as u64,
-        || bytes("stream", stream),
-    )?;
-    run.case("walks of a stream");
-    run.seen(
-        if second.cut {
-            "walks that end at a cut"
-        } else {
-            "walks that end at the end"
-        },
-        1,
-    );
+    let (proved, told) = (proved::end(stream), second.place as u64);
+    same("end of the walk", proved, told, || bytes("stream", stream))?;
+    run.case();
+    run.seen_at(Kind::Walks, usize::from(second.cut));
     let mut at = 0;
     for _ in 0..second.commands {
         at = steps(run, stream, at)?;
@@ -67,12 +54,9 @@ fn steps(run: &mut Run, stream: &[u8], at: usize) -> Compared<usize> {
         Standing::End | Standing::Cut => (false, at as u64),
     };
     let input = || bytes("stream", stream) + &format!("  at {at}\n");
-    same(
-        "what stands at a place",
-        proved::next(stream, at as u64),
-        second,
-        input,
-    )?;
-    run.case("places of a stream");
+    let proved = proved::next(stream, at as u64);
+    same("what stands at a place", proved, second, input)?;
+    run.case();
+    run.seen_at(Kind::Places, usize::from(!second.0));
     Ok(second.1 as usize)
 }

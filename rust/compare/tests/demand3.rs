@@ -2,7 +2,8 @@
 //! passes, and the same list with one answer or one shown byte changed does
 //! not.
 
-use compare::demand3::{holds, Event, Spoken};
+use compare::coverage::Run;
+use compare::demand3::{holds, Event};
 use compare::proved;
 use second::short::*;
 use second::Pair;
@@ -16,13 +17,7 @@ fn events(list: &[Vec<u8>]) -> Vec<Event> {
         let lent = vec![0xaa; 16];
         let mut reply = lent.clone();
         let answer = proved::answer(&mut image, command, &mut reply);
-        Event {
-            command: command.clone(),
-            lent,
-            number: answer.number,
-            length: answer.fields[6] as usize,
-            reply,
-        }
+        Event::new(command, lent, answer, &reply)
     };
     list.iter().map(event).collect()
 }
@@ -42,7 +37,7 @@ fn list() -> Vec<Vec<u8>> {
 }
 
 fn says(events: &[Event]) -> Result<(), String> {
-    holds(1, events, &mut Spoken::default())
+    holds(1, events, &mut Run::default())
 }
 
 #[test]

@@ -15,9 +15,9 @@ pub struct Held<'a> {
     /// The length of the translation.
     pub translation_length: u64,
     /// The edition.
-    pub edition: u64,
+    pub edition: u16,
     /// Translated-from.
-    pub translated_from: u64,
+    pub translated_from: u16,
 }
 
 /// The number 0, 6 or 8, and the first bytes of the buffer asked for: the

@@ -4,7 +4,7 @@
 #![allow(clippy::arithmetic_side_effects, clippy::indexing_slicing)]
 
 use crate::random::Random;
-use crate::short::{fresh, put_card};
+use crate::short::{fresh, put_card, Kept};
 use crate::{CommandFields, Entry, Layout, Mark, Pair, Place};
 
 /// A few stamps that are often equal or near, some of them not valid.
@@ -253,16 +253,16 @@ pub fn place(random: &mut Random) -> Place {
     }
 }
 
-/// A queue's places, count and largest pair: good, or damaged in one way.
-pub fn queue(random: &mut Random) -> (Vec<Place>, usize, Pair) {
+/// A queue: good, or damaged in one way.
+pub fn queue(random: &mut Random) -> Kept {
     let length = random.pick(&[1, 2, 3, 3, 4, 5, 8, 32]);
     queue_of(random, length)
 }
 
 /// A queue of so many places.
-pub fn queue_of(random: &mut Random, length: usize) -> (Vec<Place>, usize, Pair) {
+pub fn queue_of(random: &mut Random, length: usize) -> Kept {
     let mut places: Vec<Place> = (0..length).map(|_| place(random)).collect();
-    let mut count = random.pick(&[0, 1, 2, 3, 5, length]).min(length);
+    let count = random.pick(&[0, 1, 2, 3, 5, length]).min(length);
     let mut largest = Pair::default();
     for (at, standing) in places.iter_mut().take(count).enumerate() {
         let start = random.pick(&[0, 1]);
@@ -273,29 +273,34 @@ pub fn queue_of(random: &mut Random, length: usize) -> (Vec<Place>, usize, Pair)
         };
         largest = largest.larger(standing.pair);
     }
+    let mut queue = Kept {
+        places,
+        count,
+        largest,
+    };
     if random.one_in(4) {
-        damage_queue(random, &mut places, &mut count, &mut largest);
+        damage_queue(random, &mut queue);
     }
-    (places, count, largest)
+    queue
 }
 
-/// Changes the length, the count, the largest pair or one place.
-fn damage_queue(
-    random: &mut Random,
-    places: &mut Vec<Place>,
-    count: &mut usize,
-    largest: &mut Pair,
-) {
+/// Changes the length, the count, the largest pair or one entry.
+fn damage_queue(random: &mut Random, queue: &mut Kept) {
+    let places = &mut queue.places;
     if places.is_empty() {
         return;
     }
-    let at = random.index(places.len());
+    let at = random.index(queue.count.max(1));
+    // Above every stamp, and not valid: it has no desk.
+    let above = crate::stamp::stamp(u32::MAX, 0, 1);
+    let any = any_stamp(random);
+    let largest = random.pick(&[any, above]);
     match random.below(7) {
         0 => places.resize(33, Place::default()),
         1 => places.clear(),
-        2 => *count = random.pick(&[places.len() + 1, usize::MAX]),
-        3 => largest.s = any_stamp(random),
-        4 => largest.x = any_stamp(random),
+        2 => queue.count = random.pick(&[places.len() + 1, usize::MAX]),
+        3 => queue.largest.s = largest,
+        4 => queue.largest.x = largest,
         5 => places[at] = place(random),
         _ => places[at] = places[random.index(places.len())],
     }

@@ -14,8 +14,9 @@
 //! - [`queue`]: the lock queue of one card, numbers 10 to 13 and 15.
 //! - [`stream`], [`program`]: streams and the program's output.
 //! - [`number`]: the names of the numbers. [`endian`]: little-endian numbers.
-//!   [`random`]: random numbers for tests. [`short`], [`generate`]: short names
-//!   and random inputs for tests and the comparison.
+//!   [`random`]: random numbers for tests. [`short`], [`generate`], [`trials`]:
+//!   short names, random inputs and the sheet's trials, for tests and the
+//!   comparison.
 
 #![forbid(unsafe_code)]
 #![deny(missing_docs)]
@@ -43,6 +44,7 @@ pub mod short;
 pub mod stamp;
 pub mod store;
 pub mod stream;
+pub mod trials;
 
 pub use command::{Act, Command, CommandFields};
 pub use desk::{shown, Held};
@@ -50,7 +52,7 @@ pub use entry::Entry;
 pub use image::{is_sound, make_fresh, Layout};
 pub use language::Language;
 pub use program::output;
-pub use queue::{Place, Queue, QueueAnswer};
+pub use queue::{Place, Queue, QueueAnswer, Turn};
 pub use stamp::{Mark, Mode, Pair, Session};
 pub use store::{answer, Answer, ReplyFields};
 pub use stream::{standing_at, walk, Reader, Standing, Walk};

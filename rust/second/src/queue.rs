@@ -45,6 +45,15 @@ pub struct Queue<'a> {
     pub largest: Pair,
 }
 
+/// What a desk does.
+#[derive(Clone, Copy, Debug, PartialEq, Eq, Hash)]
+pub enum Turn {
+    /// Asks with this entry.
+    Ask(Place),
+    /// Leaves, by desk and start.
+    Leave(u32),
+}
+
 /// What asking and leaving answer.
 #[derive(Clone, Copy, Debug, Default, PartialEq, Eq, Hash)]
 pub struct QueueAnswer {
@@ -65,9 +74,23 @@ impl QueueAnswer {
             ..QueueAnswer::default()
         }
     }
+
+    /// Holds (1 or 0), the largest s and x, how many entries were looked at.
+    pub fn numbers(&self) -> [u64; 4] {
+        let looked_at = self.looked_at as u64;
+        [self.holds.into(), self.largest.s, self.largest.x, looked_at]
+    }
 }
 
 impl Queue<'_> {
+    /// A desk asks or leaves.
+    pub fn turn(&mut self, turn: Turn) -> QueueAnswer {
+        match turn {
+            Turn::Ask(asked) => self.ask(asked),
+            Turn::Leave(desk) => self.leave(desk),
+        }
+    }
+
     /// Asks for the lock. Every number but 0 leaves the queue as it was.
     pub fn ask(&mut self, asked: Place) -> QueueAnswer {
         let Some(standing) = self.standing() else {

@@ -5,7 +5,7 @@
 #![allow(clippy::expect_used, clippy::panic, clippy::indexing_slicing)]
 
 use crate::stamp::stamp;
-use crate::{make_fresh, CommandFields, Entry, Language, Layout, Mark, Pair, Place};
+use crate::{make_fresh, CommandFields, Entry, Language, Layout, Mark, Pair, Place, Queue};
 
 /// The original.
 pub const ORIGINAL: Language = Language::Original;
@@ -133,41 +133,40 @@ pub fn entry(edition: u16, translated_from: u16) -> Entry {
     }
 }
 
-/// N and C to run a trial with, and the card it is about.
-pub const STORES: [(u64, u64, u16); 4] = [(1, 16, 0), (3, 48, 1), (15, 1_024, 14), (64, 224, 63)];
-
-/// Trial a, as modes and pairs of verify commands.
-pub fn trial_a() -> Vec<(u8, Pair)> {
-    vec![
-        (SHARED, a()),
-        (SHARED, a()),
-        (EXCLUSIVE, a_prime()),
-        (SHARED, b()),
-        (EXCLUSIVE, b_prime()),
-        (EXCLUSIVE, b_prime()),
-    ]
+/// A queue that owns its places.
+#[derive(Clone, Debug, Default, PartialEq, Eq)]
+pub struct Kept {
+    /// The places that are lent.
+    pub places: Vec<Place>,
+    /// How many stand.
+    pub count: usize,
+    /// The largest s and x.
+    pub largest: Pair,
 }
 
-/// Trial c.
-pub fn trial_c() -> Vec<(u8, Pair)> {
-    vec![
-        (SHARED, a()),
-        (SHARED, Pair::new(at(2, 2), 0)),
-        (SHARED, a()),
-        (EXCLUSIVE, a_prime()),
-    ]
-}
+impl Kept {
+    /// A queue of so many places in which these stand; the largest pair is
+    /// that of the entries.
+    pub fn new(length: usize, standing: &[Place]) -> Kept {
+        let mut places = standing.to_vec();
+        places.resize(length.max(standing.len()), Place::default());
+        let largest = |pair: Pair, place: &Place| pair.larger(place.pair);
+        Kept {
+            places,
+            count: standing.len(),
+            largest: standing.iter().fold(Pair::default(), largest),
+        }
+    }
 
-/// Trial d, whose shared command breaks the premise of demand 3.
-pub fn trial_d() -> Vec<(u8, Pair)> {
-    vec![
-        (EXCLUSIVE, a_prime()),
-        (SHARED, Pair::new(at(0, 2), at(1, 1))),
-        (EXCLUSIVE, a_prime()),
-    ]
-}
-
-/// Who asks in trial n: its own desk, and the same times as all others.
-pub fn asker(desk: u16) -> Place {
-    Place::new(SHARED, at(1, desk), 0)
+    /// Lends the queue for one turn, and keeps its count and largest pair.
+    pub fn lend<T>(&mut self, turn: impl FnOnce(&mut Queue) -> T) -> T {
+        let mut queue = Queue {
+            places: &mut self.places,
+            count: self.count,
+            largest: self.largest,
+        };
+        let answer = turn(&mut queue);
+        (self.count, self.largest) = (queue.count, queue.largest);
+        answer
+    }
 }

@@ -131,8 +131,8 @@ fn a_translation_behind() {
         (2, 1, 6),
         (1, 2, 6),
         (1, 1, 0),
-        (u64::MAX, u64::MAX, 0),
-        (1 << 32 | 1, 1, 6),
+        (u16::MAX, u16::MAX, 0),
+        (257, 1, 6),
     ] {
         let held = Held {
             edition,

@@ -3,8 +3,7 @@
 
 mod common;
 
-use std::io::{Read, Write};
-use std::process::{Command, Stdio};
+use std::io::Read;
 
 use common::*;
 use second::output;
@@ -17,24 +16,6 @@ fn input(image: &[u8], stream: &[&[u8]]) -> Vec<u8> {
     let mut input = image.to_vec();
     stream.iter().for_each(|part| input.extend_from_slice(part));
     input
-}
-
-/// What the program prints, run as a program.
-fn printed(input: &[u8]) -> String {
-    let mut child = Command::new(env!("CARGO_BIN_EXE_second"))
-        .stdin(Stdio::piped())
-        .stdout(Stdio::piped())
-        .stderr(Stdio::piped())
-        .spawn()
-        .expect("the program starts");
-    let mut stdin = child.stdin.take().expect("standard input is piped");
-    // Of an input that is too long the program need not read the rest.
-    let _ = stdin.write_all(input);
-    drop(stdin);
-    let ended = child.wait_with_output().expect("the program ends");
-    assert!(ended.status.success());
-    assert!(ended.stderr.is_empty());
-    String::from_utf8(ended.stdout).expect("the output is text")
 }
 
 /// The library's output, which must be what the program prints.
@@ -243,12 +224,7 @@ fn the_largest_fields_are_printed_whole() {
 
 #[test]
 fn standard_output_that_is_closed_is_no_panic() {
-    let mut child = Command::new(env!("CARGO_BIN_EXE_second"))
-        .stdin(Stdio::piped())
-        .stdout(Stdio::piped())
-        .stderr(Stdio::piped())
-        .spawn()
-        .expect("the program starts");
+    let mut child = started();
     drop(child.stdout.take());
     drop(child.stdin.take());
     let mut errors = String::new();

@@ -4,43 +4,14 @@
 
 mod common;
 
-use common::check::{turn, Turn};
+use common::check::turn;
 use common::*;
 use second::stamp::stamp;
-use second::{Pair, Place, Queue, QueueAnswer};
+use second::{Pair, Place, QueueAnswer, Turn};
 
-/// A queue of these standing entries in so many places, the largest pair that
-/// of the entries.
-struct Kept {
-    places: Vec<Place>,
-    count: usize,
-    largest: Pair,
-}
-
-impl Kept {
-    fn new(length: usize, standing: &[Place]) -> Kept {
-        let mut places = standing.to_vec();
-        places.resize(length.max(standing.len()), Place::default());
-        let largest = standing.iter().fold(Pair::default(), |pair, place| {
-            Pair::new(pair.s.max(place.pair.s), pair.x.max(place.pair.x))
-        });
-        Kept {
-            places,
-            count: standing.len(),
-            largest,
-        }
-    }
-
-    fn turn(&mut self, taken: Turn) -> QueueAnswer {
-        let mut queue = Queue {
-            places: &mut self.places,
-            count: self.count,
-            largest: self.largest,
-        };
-        let answer = turn(&mut queue, taken);
-        (self.count, self.largest) = (queue.count, queue.largest);
-        answer
-    }
+/// Turns whose answer and queue are checked.
+trait Checked {
+    fn turn(&mut self, taken: Turn) -> QueueAnswer;
 
     fn ask(&mut self, asked: Place) -> QueueAnswer {
         self.turn(Turn::Ask(asked))
@@ -48,6 +19,12 @@ impl Kept {
 
     fn leave(&mut self, desk: u16) -> QueueAnswer {
         self.turn(Turn::Leave(u32::from(desk) << 16))
+    }
+}
+
+impl Checked for Kept {
+    fn turn(&mut self, taken: Turn) -> QueueAnswer {
+        self.lend(|queue| turn(queue, taken))
     }
 }
 

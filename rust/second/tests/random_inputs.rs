@@ -3,13 +3,13 @@
 
 mod common;
 
-use common::check::{self, turn, Turn};
+use common::check::{self, turn};
 use common::{generate, layout, put_card, ORIGINAL, TRANSLATION};
 use second::random::Random;
 use second::stamp::desk_and_start;
 use second::{
     endian, is_sound, make_fresh, output, shown, standing_at, stream, walk, Act, Command,
-    CommandFields, Entry, Held, Language, Layout, Mark, Mode, Pair, Place, Queue, Standing,
+    CommandFields, Entry, Held, Language, Layout, Mark, Mode, Place, Queue, Standing, Turn,
 };
 
 /// How often each number came.
@@ -219,15 +219,11 @@ fn turns_on_a_queue_of_any_sort() {
     let mut random = Random::new(8);
     let mut numbers = Numbers::default();
     for _ in 0..60_000 {
-        let (mut places, count, largest) = generate::queue(&mut random);
-        let mut queue = Queue {
-            places: &mut places,
-            count,
-            largest,
-        };
+        let mut queue = generate::queue(&mut random);
         for _ in 0..2 {
             let taken = random_turn(&mut random);
-            numbers.count(turn(&mut queue, taken).number);
+            let answer = queue.lend(|queue| turn(queue, taken));
+            numbers.count(answer.number);
         }
     }
     numbers.assert_all_came(&[0, 1, 10, 11, 12, 13, 15]);
@@ -246,16 +242,11 @@ fn chains_of_asks_and_leaves() {
     let mut random = Random::new(9);
     let mut numbers = Numbers::default();
     for _ in 0..3_000 {
-        let mut places = vec![Place::default(); random.pick(&[1, 2, 3, 5, 32])];
-        let mut queue = Queue {
-            places: &mut places,
-            count: 0,
-            largest: Pair::default(),
-        };
+        let mut queue = common::Kept::new(random.pick(&[1, 2, 3, 5, 32]), &[]);
         for step in 0..30 {
             let taken = chain_turn(&mut random, step);
             let count = queue.count;
-            let answer = turn(&mut queue, taken);
+            let answer = queue.lend(|queue| turn(queue, taken));
             numbers.count(answer.number);
             if answer.number != 1 {
                 assert_eq!(answer.holds, holds(&queue, taken));
@@ -264,7 +255,7 @@ fn chains_of_asks_and_leaves() {
                 assert_eq!(answer.looked_at, count);
             }
         }
-        assert!(exclusive_holds_alone(&mut queue));
+        assert!(queue.lend(exclusive_holds_alone));
     }
     numbers.assert_all_came(&[0, 1, 11, 12, 13, 15]);
 }
@@ -282,7 +273,7 @@ fn chain_turn(random: &mut Random, step: u32) -> Turn {
 }
 
 /// Whether the desk of this turn holds the lock, by the sheet's words.
-fn holds(queue: &Queue, taken: Turn) -> bool {
+fn holds(queue: &common::Kept, taken: Turn) -> bool {
     let desk = match taken {
         Turn::Ask(asked) => asked.desk(),
         Turn::Leave(desk) => Some(desk),
@@ -321,8 +312,8 @@ fn texts_shown_of_anything_held() {
             translation: &translation,
             original_length: random.pick(&[0, 1, first as u64, 7, any]),
             translation_length: random.pick(&[0, 1, second as u64, 7, any]),
-            edition: random.pick(&[0, 1, 2, any]),
-            translated_from: random.pick(&[0, 1, 2, any]),
+            edition: random.pick(&[0, 1, 2, any as u16]),
+            translated_from: random.pick(&[0, 1, 2, any as u16]),
         };
         for (language, buffer, length) in [
             (ORIGINAL, &original, held.original_length),

@@ -2,7 +2,8 @@
 //! after.
 
 use second::{
-    is_sound, Act, Answer, Command, Entry, Language, Layout, Place, Queue, QueueAnswer, ReplyFields,
+    is_sound, Act, Answer, Command, Entry, Language, Layout, Place, Queue, QueueAnswer,
+    ReplyFields, Turn,
 };
 
 /// Answers a command and checks the answer, the image and the reply buffer.
@@ -114,22 +115,12 @@ fn accepted(
     assert!(after == image_expected, "a byte elsewhere changed");
 }
 
-/// What a queue's owner asks of it.
-#[derive(Clone, Copy, Debug)]
-pub enum Turn {
-    Ask(Place),
-    Leave(u32),
-}
-
 /// Takes a turn and checks the answer and the queue.
 pub fn turn(queue: &mut Queue, turn: Turn) -> QueueAnswer {
     let before = queue.places.to_vec();
     let (count, largest) = (queue.count, queue.largest);
     let good = queue.standing().is_some();
-    let answer = match turn {
-        Turn::Ask(asked) => queue.ask(asked),
-        Turn::Leave(desk) => queue.leave(desk),
-    };
+    let answer = queue.turn(turn);
     assert_eq!(answer.number == 10, !good);
     assert_eq!(queue.standing().is_some(), good, "a good queue stays good");
     match answer.number {

@@ -3,6 +3,9 @@
 
 #![allow(dead_code, unused_imports)]
 
+use std::io::Write;
+use std::process::{Child, Command, Stdio};
+
 pub mod check;
 
 pub use second::generate;
@@ -24,4 +27,27 @@ pub fn number(image: &mut [u8], command: &[u8]) -> u8 {
 /// The number of the answer to a command, on a copy of the image.
 pub fn number_on(image: &[u8], command: &[u8]) -> u8 {
     number(&mut image.to_vec(), command)
+}
+
+/// The program, started with its three streams piped.
+pub fn started() -> Child {
+    Command::new(env!("CARGO_BIN_EXE_second"))
+        .stdin(Stdio::piped())
+        .stdout(Stdio::piped())
+        .stderr(Stdio::piped())
+        .spawn()
+        .expect("the program starts")
+}
+
+/// What the program prints, run as a program.
+pub fn printed(input: &[u8]) -> String {
+    let mut child = started();
+    let mut stdin = child.stdin.take().expect("standard input is piped");
+    // Of an input that is too long the program need not read the rest.
+    let _ = stdin.write_all(input);
+    drop(stdin);
+    let ended = child.wait_with_output().expect("the program ends");
+    assert!(ended.status.success());
+    assert!(ended.stderr.is_empty());
+    String::from_utf8(ended.stdout).expect("the output is text")
 }

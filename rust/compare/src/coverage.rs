@@ -1,0 +1,153 @@
+//! The coverage table: what was compared and how often, each kind with its
+//! own line. A run in which one of them never came has failed.
+
+use std::fmt::Write;
+
+/// Names the kinds: how many counts a line has, and its text, which names them
+/// in turn where there are few.
+macro_rules! kinds {
+    ($($kind:ident $counts:literal $text:literal)*) => {
+        /// A line of the table.
+        #[derive(Clone, Copy, Debug, PartialEq, Eq)]
+        pub enum Kind {
+            $(#[doc = $text] $kind),*
+        }
+
+        /// Each kind, how many counts it has, and its text.
+        const KINDS: &[(Kind, usize, &str)] = &[$((Kind::$kind, $counts, $text)),*];
+    };
+}
+
+kinds! {
+    Trials 18 "trials a to n, case P, slips 1 to 3"
+    Singles 1 "single commands on sound images"
+    Editions 4 ".. on a card of edition 0, 1, 65,534, 65,535"
+    TextsRead 3 ".. reading a text that is empty, one short of C, C"
+    TextsWritten 4 ".. writing a text that is empty, one short of C, C, one more"
+    Marks 3 ".. with the stored mark, its desk off by one, its transaction off by one"
+    SharedStamps 3 ".. with the stored s, one below, one above"
+    ExclusiveStamps 3 ".. with the stored x, one below, one above"
+    Replies 4 ".. reading into a buffer of no bytes, one short of the text, as long, one past"
+    TopBits 4 ".. accepted, with the top bit of a transaction, commit desk, stamp's T, stamp's desk"
+    Carrying 1 ".. refused with 1, non-writes that carry a payload"
+    EveryReply 2 "every reply buffer from 0 to one past the text: 8, accepted"
+    Largest 1 "commands on images of the largest shapes"
+    HeaderBytes 16 "images not sound by one header byte"
+    EntryFields 9 "images not sound by one field of an entry"
+    BodyBytes 1 "images not sound by a byte past a text"
+    ImageLengths 2 "images too short, too long"
+    StillSound 1 "images changed and still sound"
+    Made 2 "fresh images made, refused with 14"
+    CommandBytes 52 "commands refused with 1 or 2 by one byte of the 52"
+    CommandLengths 2 "commands too short, too long"
+    Lists 3 "lists from a fresh image, by strict desks, by loose desks, by anyone"
+    Listed 1 "commands in these lists"
+    Late 2 "demand 3: commands that come late, and that do not"
+    Behind 2 "demand 3: reads of a translation that is behind, and that is not"
+    Shown 2 "demand 3: accepted reads of a text written, of none"
+    Premise 2 "demand 3: cards with the premise, not idle, and without it"
+    Isolated 1 "demand 3: pairs of one session, isolated"
+    Between 2 "demand 3: .. a barred command between, refused; another desk's shared one"
+    LetIn 1 "demand 3: let in between a pair without the premise"
+    Queues 34 "turns on queues of 0 to 33 places"
+    BadQueues 8 "bad alone by length, count, largest s, largest x, entry, desk twice, s above, x above"
+    Chains 33 "turns in chains of asks and leaves, 1 to 33 places"
+    Holding 1 "asks that hold the lock at once"
+    Desks 4 "desks' texts: original, translation, refused with 6, with 8"
+    ThirdLanguage 1 "desks asked for a third language"
+    Walks 2 "walks of a stream, to its end, to a cut"
+    EveryCut 1 "streams cut at every byte"
+    Places 2 "places of a stream where a whole command stands, where none does"
+    Outputs 4 "the program: too long, bad store, runs to the end, to a cut"
+    InputLengths 2 "the program: inputs of 65,536 bytes, of 65,537"
+}
+
+/// What was run.
+pub struct Run {
+    /// Calls of the proved library that were compared.
+    pub cases: u64,
+    numbers: [u64; 16],
+    counts: Vec<Vec<u64>>,
+}
+
+impl Default for Run {
+    fn default() -> Run {
+        Run {
+            cases: 0,
+            numbers: [0; 16],
+            counts: KINDS.iter().map(|(_, size, _)| vec![0; *size]).collect(),
+        }
+    }
+}
+
+impl Run {
+    /// Counts a call of the proved library that was compared.
+    pub fn case(&mut self) {
+        self.cases += 1;
+    }
+
+    /// Counts a call that was compared, and its answer's number.
+    pub fn number(&mut self, number: u8) {
+        self.case();
+        self.numbers[usize::from(number)] += 1;
+    }
+
+    /// Counts one more of a kind.
+    pub fn seen(&mut self, kind: Kind) {
+        self.seen_at(kind, 0);
+    }
+
+    /// Counts one more of a kind that has several counts.
+    pub fn seen_at(&mut self, kind: Kind, at: usize) {
+        self.counts[kind as usize][at] += 1;
+    }
+
+    /// Adds what another run counted.
+    pub fn add(&mut self, other: &Run) {
+        self.cases += other.cases;
+        let ours = self.counts.iter_mut().flatten().chain(&mut self.numbers);
+        let theirs = other.counts.iter().flatten().chain(&other.numbers);
+        ours.zip(theirs).for_each(|(times, more)| *times += more);
+    }
+
+    /// The table: of a kind with many counts the sum and the least.
+    pub fn table(&self) -> String {
+        let mut table = String::new();
+        for ((_, size, text), counts) in KINDS.iter().zip(&self.counts) {
+            let sum: u64 = counts.iter().sum();
+            let least = counts.iter().min().copied().unwrap_or_default();
+            let each: Vec<String> = counts.iter().map(u64::to_string).collect();
+            let more = match size {
+                1 => String::new(),
+                2..=8 => format!(": {}", each.join(", ")),
+                _ => format!(": each of {size}, {least} times or more"),
+            };
+            let _ = writeln!(table, "{sum:>12}  {text}{more}");
+        }
+        for (number, times) in self.numbers.iter().enumerate() {
+            let _ = writeln!(table, "{times:>12}  answered {number}");
+        }
+        table
+    }
+
+    /// What never came: a number from 0 to 15, or a count of a kind.
+    pub fn missing(&self) -> Vec<String> {
+        let none = |counts: &[u64]| -> Vec<usize> {
+            let places = counts.iter().enumerate();
+            places
+                .filter(|(_, times)| **times == 0)
+                .map(|(at, _)| at)
+                .collect()
+        };
+        let numbers = none(&self.numbers);
+        let numbers = numbers.iter().map(|number| format!("number {number}"));
+        let kinds = KINDS
+            .iter()
+            .zip(&self.counts)
+            .flat_map(|((_, _, text), counts)| {
+                let name = |at| format!("\"{text}\", count {at}");
+                none(counts).into_iter().map(name).collect::<Vec<_>>()
+            });
+        numbers.chain(kinds).collect()
+    }
+}

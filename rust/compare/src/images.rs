@@ -1,0 +1,141 @@
+//! Images: damaged ones, and the making of fresh ones.
+
+use second::random::Random;
+use second::{generate, Layout};
+
+use crate::answers::{answer, reply_near};
+use crate::coverage::{Kind, Run};
+use crate::proved;
+use crate::run::{bytes, same, Compared};
+
+/// Compares whether bytes are a sound image.
+pub fn soundness(run: &mut Run, image: &[u8]) -> Compared<bool> {
+    let (proved, second) = (proved::sound(image), second::is_sound(image));
+    same("sound", proved, second, || bytes("image", image))?;
+    run.case();
+    Ok(proved)
+}
+
+/// The fields of an entry: where and how wide.
+const FIELDS: [(usize, usize); 9] = [
+    (0, 8),
+    (8, 8),
+    (16, 2),
+    (18, 2),
+    (20, 4),
+    (24, 2),
+    (26, 2),
+    (28, 2),
+    (30, 2),
+];
+
+/// Damaged images: every header byte and every field of an entry broken in
+/// turn, every other byte changed, bytes missing and bytes too many.
+pub fn damaged(run: &mut Run, random: &mut Random) -> Compared<()> {
+    let sound = generate::sound_image(random);
+    let cards = Layout::of_header(&sound).map_or(1, Layout::cards);
+    let card = random.index(cards);
+    let mut command = generate::fitting_command(random, &sound);
+    command[2..4].copy_from_slice(&(card as u16).to_le_bytes());
+    fields_broken(run, random, &sound, card, &command)?;
+    for at in 0..sound.len() {
+        for changed in [sound[at] ^ 1 << random.below(8), random.byte()] {
+            let mut image = sound.clone();
+            image[at] = changed;
+            match (one(run, random, image, &command)?, at) {
+                (true, _) => run.seen(Kind::StillSound),
+                (false, 0..16) => run.seen_at(Kind::HeaderBytes, at),
+                (false, _) if at >= 16 + 32 * cards => run.seen(Kind::BodyBytes),
+                (false, _) => {}
+            }
+        }
+    }
+    let whole = sound.len();
+    for length in [0, 1, 15, 16, 17, whole - 1, whole + 1, whole + 64] {
+        let mut image = sound.clone();
+        image.resize(length, 0);
+        one(run, random, image, &command)?;
+        run.seen_at(Kind::ImageLengths, usize::from(length > whole));
+    }
+    Ok(())
+}
+
+/// Each field of a card's entry with values at its edges.
+fn fields_broken(
+    run: &mut Run,
+    random: &mut Random,
+    sound: &[u8],
+    card: usize,
+    command: &[u8],
+) -> Compared<()> {
+    let room = Layout::of_header(sound).map_or(16, Layout::room) as u64;
+    for (field, (offset, width)) in FIELDS.into_iter().enumerate() {
+        let at = 16 + 32 * card + offset;
+        let stored = u64::from(second::endian::u16_at(sound, at).unwrap_or(0));
+        let (near, wide) = ([0, 1, stored + 1, room, room + 1], [16, 32, 64]);
+        let wide = wide.map(|bits: u32| u64::MAX >> (64 - bits));
+        let past = [1 << 16, 1 << 32];
+        for value in near.into_iter().chain(wide).chain(past) {
+            let mut image = sound.to_vec();
+            image[at..at + width].copy_from_slice(&value.to_le_bytes()[..width]);
+            if !one(run, random, image, command)? {
+                run.seen_at(Kind::EntryFields, field);
+            }
+        }
+    }
+    Ok(())
+}
+
+/// Whether an image is sound, and a command on it.
+fn one(run: &mut Run, random: &mut Random, mut image: Vec<u8>, command: &[u8]) -> Compared<bool> {
+    let sound = soundness(run, &image)?;
+    let mut reply = reply_near(random, &image, command);
+    answer(run, &mut image, command, &mut reply)?;
+    Ok(sound)
+}
+
+/// Commands on images of the largest shapes.
+pub fn large(run: &mut Run, random: &mut Random) -> Compared<()> {
+    let shapes = [(64, 224), (15, 1_024), (31, 496), (64, 16), (1, 1_024)];
+    let (cards, room) = random.pick(&shapes);
+    let mut image = generate::sound_image_of(random, cards, room);
+    for _ in 0..6 {
+        let command = generate::fitting_command(random, &image);
+        let mut reply = reply_near(random, &image, &command);
+        answer(run, &mut image, &command, &mut reply)?;
+        run.seen(Kind::Largest);
+    }
+    let at = random.index(image.len());
+    image[at] ^= 1 << random.below(8);
+    soundness(run, &image)?;
+    Ok(())
+}
+
+/// Makes a fresh image by both, and leaves it as both left it.
+pub fn make(run: &mut Run, image: &mut [u8], cards: u64, room: u64) -> Compared<u8> {
+    let lent = image.to_vec();
+    let mut second_image = lent.clone();
+    let input = || format!("  cards {cards}, room {room}\n") + &bytes("lent", &lent);
+    let proved = proved::make(image, cards, room);
+    let second = second::make_fresh(&mut second_image, cards, room);
+    same("make", proved, second, input)?;
+    same("made image", &*image, &second_image[..], input)?;
+    run.number(proved);
+    run.seen_at(Kind::Made, usize::from(proved != 0));
+    Ok(proved)
+}
+
+/// Making fresh images of any numbers in any number of bytes.
+pub fn making(run: &mut Run, random: &mut Random) -> Compared<()> {
+    let (step, past) = ([16, 32, 224, 1_008, 1_024], [0, 15, 17, 240, 1_040]);
+    for _ in 0..40 {
+        let any = random.number();
+        let cards = random.pick(&[0, 1, 2, 15, 16, 63, 64, 65, 1 << 16, (1 << 32) + 1, any]);
+        let (right, wrong) = (random.pick(&step), random.pick(&past));
+        let room = random.pick(&[right, right, wrong, (1 << 16) + 16, any]);
+        let right = Layout::new(cards, room).map_or(80, Layout::size);
+        let length = random.pick(&[0, 16, right, right, right, right + 1, right - 1]);
+        make(run, &mut random.bytes(length), cards, room)?;
+    }
+    Ok(())
+}

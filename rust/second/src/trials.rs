@@ -1,0 +1,445 @@
+//! The trials a to n, case P and the three slips, as data (sheet, "Trials at
+//! the desk", "Streams and the program", "Three slips we have seen"), and what
+//! runs them on any implementation. Where no act is named it is verify.
+
+// Nothing here is part of the store: a trial that is written wrong stops the
+// test.
+#![allow(clippy::arithmetic_side_effects, clippy::indexing_slicing)]
+
+use crate::short::*;
+use crate::{Entry, Mark, Pair, Place, Turn};
+
+/// Numbers that say what an answer is, and the fields that stand with it.
+pub type Told<const FIELDS: usize> = (u8, [u64; FIELDS]);
+
+/// What is tried: the second program, or the proved library. What goes wrong
+/// in a call itself is told as text.
+pub trait Tried {
+    /// Makes a fresh image.
+    fn make(&mut self, image: &mut [u8], cards: u64, room: u64) -> Result<u8, String>;
+    /// Answers a command: the number and the seven reply fields.
+    fn answer(
+        &mut self,
+        image: &mut [u8],
+        command: &[u8],
+        reply: &mut [u8],
+    ) -> Result<Told<7>, String>;
+    /// A turn on a queue: the number, whether it holds, the largest pair, how
+    /// many entries were looked at.
+    fn turn(&mut self, queue: &mut Kept, turn: Turn) -> Result<Told<4>, String>;
+    /// What the program prints.
+    fn output(&mut self, input: &[u8]) -> Result<String, String>;
+}
+
+/// The places of the reply fields that a trial names.
+const S: usize = 0;
+const X: usize = 1;
+const EDITION: usize = 4;
+const LENGTH: usize = 6;
+
+/// A store to run a trial in: N, C and the card that it is about.
+#[derive(Clone, Copy, Debug)]
+pub struct Store {
+    /// N.
+    pub cards: u64,
+    /// C.
+    pub room: u64,
+    /// The card.
+    pub card: u16,
+}
+
+/// The stores in which each trial is run.
+pub const STORES: [Store; 4] = [
+    store(1, 16, 0),
+    store(3, 48, 1),
+    store(15, 1_024, 14),
+    store(64, 224, 63),
+];
+
+const fn store(cards: u64, room: u64, card: u16) -> Store {
+    Store { cards, room, card }
+}
+
+/// A command, and what it is answered.
+pub struct Step {
+    /// Its bytes.
+    command: Vec<u8>,
+    /// How long the reply buffer is.
+    lent: usize,
+    /// The number.
+    number: u8,
+    /// Fields and their values.
+    fields: Vec<(usize, u64)>,
+    /// The text that an accepted read shows.
+    shown: Vec<u8>,
+}
+
+/// A command that gets this number, with a reply buffer of no bytes.
+fn step(command: Vec<u8>, number: u8) -> Step {
+    Step {
+        command,
+        lent: 0,
+        number,
+        fields: Vec::new(),
+        shown: Vec::new(),
+    }
+}
+
+impl Step {
+    /// With a reply buffer of so many bytes.
+    fn lent(self, lent: usize) -> Step {
+        Step { lent, ..self }
+    }
+
+    /// One of the reply fields has this value.
+    fn field(mut self, at: usize, value: u64) -> Step {
+        self.fields.push((at, value));
+        self
+    }
+
+    /// All of them have these values.
+    fn all_fields(mut self, values: [u64; 7]) -> Step {
+        self.fields = (0..).zip(values).collect();
+        self
+    }
+
+    /// The read shows this text.
+    fn shows(self, text: &[u8]) -> Step {
+        let shown = text.to_vec();
+        Step { shown, ..self }.field(LENGTH, text.len() as u64)
+    }
+}
+
+/// A list of commands for one card.
+pub struct Trial {
+    /// Its place in [`NAMES`].
+    pub name: &'static str,
+    /// What the card holds at first, its original with it; a fresh image if
+    /// none.
+    pub stored: Option<(Entry, &'static [u8])>,
+    /// Whether the list keeps demand 3's premise on shared stamps.
+    pub premise: bool,
+    steps: Vec<Step>,
+}
+
+impl Trial {
+    fn new(name: &'static str, steps: Vec<Step>) -> Trial {
+        Trial {
+            name,
+            stored: None,
+            premise: true,
+            steps,
+        }
+    }
+}
+
+/// All that is tried.
+pub const NAMES: [&str; 18] = [
+    "a", "b", "c", "d", "e", "f", "g", "h", "i", "j", "k", "l", "m", "n", "P", "slip 1", "slip 2",
+    "slip 3",
+];
+
+/// Verify commands, and the number of each.
+fn verified(list: &[(u8, Pair, u8)]) -> Vec<Step> {
+    list.iter()
+        .map(|&(mode, pair, number)| step(command(VERIFY, mode, pair), number))
+        .collect()
+}
+
+/// The trials that are commands in a store with room C.
+pub fn trials(room: u64) -> Vec<Trial> {
+    let mut all = guarded();
+    all.extend(nothing_written());
+    all.extend(full(room as usize));
+    all.extend(last_edition());
+    for length in [0, 1, 2, room as usize - 1, room as usize] {
+        all.extend(buffers(length));
+    }
+    all.push(Trial::new("P", case_p_steps()));
+    all.extend(slips());
+    all
+}
+
+/// Trials a to d.
+fn guarded() -> Vec<Trial> {
+    let a_list = [
+        (SHARED, a(), 0),
+        (SHARED, a(), 0),
+        (EXCLUSIVE, a_prime(), 0),
+        (SHARED, b(), 0),
+        (EXCLUSIVE, b_prime(), 0),
+        (EXCLUSIVE, b_prime(), 0),
+    ];
+    let b_list = [&a_list[..], &[(EXCLUSIVE, a_prime(), 3)]].concat();
+    let c_list = [
+        (SHARED, a(), 0),
+        (SHARED, Pair::new(at(2, 2), 0), 0),
+        (SHARED, a(), 0),
+        (EXCLUSIVE, a_prime(), 3),
+    ];
+    let d_list = [
+        (EXCLUSIVE, a_prime(), 0),
+        (SHARED, Pair::new(at(0, 2), at(1, 1)), 0),
+        (EXCLUSIVE, a_prime(), 0),
+    ];
+    let d = Trial {
+        premise: false,
+        ..Trial::new("d", verified(&d_list))
+    };
+    vec![
+        Trial::new("a", verified(&a_list)),
+        Trial::new("b", verified(&b_list)),
+        Trial::new("c", verified(&c_list)),
+        d,
+    ]
+}
+
+/// Trials e and f, in either mode.
+fn nothing_written() -> Vec<Trial> {
+    let reads = |act, number| {
+        let read = |mode| step(command(act, mode, a_prime()), number).shows(b"");
+        vec![read(SHARED), read(EXCLUSIVE)]
+    };
+    vec![
+        Trial::new("e", reads(READ_ORIGINAL, 0)),
+        Trial::new("f", reads(READ_TRANSLATION, 6)),
+    ]
+}
+
+/// Trials g and h, in either language.
+fn full(room: usize) -> Vec<Trial> {
+    let writes = |length: usize, number| {
+        let text = vec![b'x'; length];
+        [
+            step(write_original(a_prime(), &text), number),
+            step(write_translation(a_prime(), 1, &text), number),
+        ]
+    };
+    let mut too_long = Vec::from(writes(room + 1, 5));
+    too_long.push(step(command(VERIFY, EXCLUSIVE, b_prime()), 0));
+    too_long.extend(writes(room + 1, 3));
+    vec![
+        Trial::new("g", writes(room, 0).into()),
+        Trial::new("h", too_long),
+    ]
+}
+
+/// Trials i and j; what i wrote is there after j.
+fn last_edition() -> Vec<Trial> {
+    let write = |text, number| step(write_original(a_prime(), text), number).field(EDITION, 65_535);
+    let read = || step(command(READ_ORIGINAL, SHARED, a_prime()), 0).lent(5);
+    let trial = |name, steps| Trial {
+        stored: Some((entry(65_534, 0), b"before")),
+        ..Trial::new(name, steps)
+    };
+    let i = vec![write(b"after", 0), read().shows(b"after")];
+    let j = vec![
+        write(b"after", 0),
+        write(b"again", 7),
+        read().shows(b"after"),
+    ];
+    vec![trial("i", i), trial("j", j)]
+}
+
+/// Trials k and l, in either language, for texts of so many bytes.
+fn buffers(length: usize) -> Vec<Trial> {
+    let (original, translation) = (vec![b'o'; length], vec![b't'; length]);
+    let written = || {
+        vec![
+            step(write_original(a_prime(), &original), 0),
+            step(write_translation(a_prime(), 1, &translation), 0),
+        ]
+    };
+    let read = |act, number| step(command(act, SHARED, a_prime()), number);
+    let mut k = written();
+    for (act, text) in [(READ_ORIGINAL, &original), (READ_TRANSLATION, &translation)] {
+        k.push(read(act, 0).lent(length).shows(text));
+        k.push(read(act, 0).lent(length + 1).shows(text));
+    }
+    let mut all = vec![Trial::new("k", k)];
+    if let Some(short) = length.checked_sub(1) {
+        let mut l = written();
+        l.extend([READ_ORIGINAL, READ_TRANSLATION].map(|act| read(act, 8).lent(short).shows(b"")));
+        all.push(Trial::new("l", l));
+    }
+    all
+}
+
+/// The three slips.
+fn slips() -> Vec<Trial> {
+    let edition_decides = vec![
+        step(write_original(a_prime(), b"one"), 0),
+        step(write_translation(a_prime(), 1, b"un"), 0),
+        step(write_original(a_prime(), b"two"), 0),
+        step(command(READ_TRANSLATION, SHARED, a_prime()), 6)
+            .lent(16)
+            .shows(b""),
+    ];
+    let small = Pair::new(at(0, 2), at(2, 2));
+    let older = Pair::new(at(1, 1), at(2, 2));
+    let larger_of_each = vec![
+        step(command(VERIFY, EXCLUSIVE, b_prime()), 0),
+        step(command(VERIFY, SHARED, small), 0)
+            .field(S, at(2, 2))
+            .field(X, at(2, 2)),
+        step(command(VERIFY, EXCLUSIVE, older), 3),
+    ];
+    let mut read = fields(READ_ORIGINAL, EXCLUSIVE, b_prime());
+    read.next = Mark::new(1, 1);
+    let short_raises_nothing = vec![
+        step(write_original(a_prime(), b"text"), 0),
+        step(read.with_payload(b""), 8)
+            .lent(3)
+            .field(S, at(1, 1))
+            .field(X, at(1, 1)),
+        step(command(VERIFY, EXCLUSIVE, a_prime()), 0),
+    ];
+    vec![
+        Trial::new("slip 1", edition_decides),
+        Trial::new("slip 2", larger_of_each),
+        Trial::new("slip 3", short_raises_nothing),
+    ]
+}
+
+/// The commands of case P and their lines.
+fn case_p_steps() -> Vec<Step> {
+    let (older, newer) = (4_295_032_832, 8_590_065_664);
+    let first = |number| step(write_original(a_prime(), b"205"), number);
+    vec![
+        first(0).all_fields([older, older, 0, 0, 1, 0, 0]),
+        step(command(READ_TRANSLATION, SHARED, b()), 6)
+            .lent(16)
+            .all_fields([older, older, 0, 0, 1, 0, 0]),
+        step(write_translation(b_prime(), 1, b"401"), 0).all_fields([newer, newer, 0, 0, 1, 1, 0]),
+        first(3).all_fields([newer, newer, 0, 0, 1, 1, 0]),
+    ]
+}
+
+/// The whole output of case P.
+pub const CASE_P_OUTPUT: &str = "\
+cards 1
+1 0 4295032832 4295032832 0 0 1 0 0
+2 6 4295032832 4295032832 0 0 1 0 0
+3 0 8590065664 8590065664 0 0 1 1 0
+4 3 8590065664 8590065664 0 0 1 1 0
+cut 5
+";
+
+/// The standard input of case P, with five more bytes.
+pub fn case_p_input() -> Vec<u8> {
+    let mut input = fresh(1, 16);
+    for step in case_p_steps() {
+        input.extend(step.command);
+    }
+    input.extend([1, 2, 3, 4, 5]);
+    input
+}
+
+/// Trial m: N, C, the lent bytes, and the number.
+const MAKING: [(u64, u64, usize, u8); 2] = [(15, 1_024, 31_216, 0), (16, 1_024, 33_296, 14)];
+
+/// A turn, and its number, whether the desk holds the lock, and how many
+/// entries were looked at.
+type TurnStep = (Turn, u8, bool, u64);
+
+/// Trial n: 32 stand of 32; after one leaves, each row is looked at again.
+fn queue_trials() -> Vec<Vec<TurnStep>> {
+    let asker = |desk| Place::new(SHARED, at(1, desk), 0);
+    let ask = |desk| Turn::Ask(asker(desk));
+    let mut crowded: Vec<TurnStep> = (1..=32)
+        .map(|desk| (ask(desk), 0, true, u64::from(desk) - 1))
+        .collect();
+    crowded.push((ask(33), 13, false, 32));
+    crowded.push((Turn::Leave(5 << 16), 0, false, 5));
+    let next: [&[TurnStep]; 5] = [
+        &[
+            (ask(33), 0, true, 31),
+            (ask(34), 13, false, 32),
+            (Turn::Leave(40 << 16), 15, false, 32),
+        ],
+        &[(ask(5), 0, true, 31)],
+        &[(ask(6), 12, true, 5)],
+        &[(
+            Turn::Ask(Place::new(EXCLUSIVE, 0, at(9, 40))),
+            11,
+            false,
+            31,
+        )],
+        &[(Turn::Ask(Place::new(0, at(1, 33), 0)), 1, false, 0)],
+    ];
+    next.map(|turns| [&crowded[..], turns].concat()).into()
+}
+
+/// The two are the same, or what is wrong.
+fn same<T: PartialEq + std::fmt::Debug>(what: &str, found: T, wanted: T) -> Result<(), String> {
+    match found == wanted {
+        true => Ok(()),
+        false => Err(format!("{what}: {found:x?}, not {wanted:x?}")),
+    }
+}
+
+/// Runs the steps of a trial in a store.
+pub fn run(tried: &mut impl Tried, store: Store, trial: &Trial) -> Result<(), String> {
+    let Store { cards, room, card } = store;
+    let mut image = fresh(cards, room);
+    image.iter_mut().for_each(|byte| *byte = !*byte);
+    same("make", tried.make(&mut image, cards, room)?, 0)?;
+    if let Some((entry, original)) = trial.stored {
+        put_card(&mut image, card, entry, original, b"");
+    }
+    for (count, step) in (1..).zip(&trial.steps) {
+        let told = |wrong| format!("trial {}, {store:?}, command {count}: {wrong}", trial.name);
+        run_step(tried, &mut image, card, step).map_err(told)?;
+    }
+    Ok(())
+}
+
+/// Runs one command: its number, the fields, and each byte of the reply
+/// buffer.
+fn run_step(
+    tried: &mut impl Tried,
+    image: &mut [u8],
+    card: u16,
+    step: &Step,
+) -> Result<(), String> {
+    let command = on_card(card, step.command.clone());
+    let mut reply = vec![0xaa; step.lent];
+    let mut wanted = reply.clone();
+    wanted[..step.shown.len()].copy_from_slice(&step.shown);
+    let (number, fields) = tried.answer(image, &command, &mut reply)?;
+    same("number", number, step.number)?;
+    for &(at, value) in &step.fields {
+        same("field", (at, fields[at]), (at, value))?;
+    }
+    same("reply", reply, wanted)
+}
+
+/// Trial m.
+pub fn run_making(tried: &mut impl Tried) -> Result<(), String> {
+    for (cards, room, length, wanted) in MAKING {
+        let mut image = vec![0xee; length];
+        same("trial m", tried.make(&mut image, cards, room)?, wanted)?;
+        let kept = image.iter().all(|&byte| byte == 0xee);
+        same("trial m, nothing written", kept, wanted != 0)?;
+    }
+    Ok(())
+}
+
+/// Trial n.
+pub fn run_queues(tried: &mut impl Tried) -> Result<(), String> {
+    for turns in queue_trials() {
+        let mut queue = Kept::new(32, &[]);
+        for (turn, number, holds, looked_at) in turns {
+            let (found, fields) = tried.turn(&mut queue, turn)?;
+            let found = (found, fields[0], fields[3]);
+            same("trial n", found, (number, holds.into(), looked_at))?;
+        }
+    }
+    Ok(())
+}
+
+/// Case P through the program.
+pub fn run_case_p(tried: &mut impl Tried) -> Result<(), String> {
+    let printed = tried.output(&case_p_input())?;
+    same("case P", printed.as_str(), CASE_P_OUTPUT)
+}
