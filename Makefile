@@ -1,5 +1,5 @@
-# make run: the program's example. make test: exactly what the gate runs. make soak N=..: the comparison with a new seed, N cases.
-# make audit: the further must-fail edits.
+# make run: the program's example. make test: exactly what the gate runs. make soak N=..: the comparison with a new seed, N cases
+# (500,000 at the least). make audit: the further must-fail edits.
 .PHONY: run test soak audit
 N = 20000000
 

@@ -33,7 +33,9 @@ impl Program {
 
     /// What the binary prints.
     fn printed(&self, input: &[u8]) -> Compared<String> {
-        let failed = |error: std::io::Error| format!("{}: {error}", self.binary.display());
+        let failed = |error: std::io::Error| {
+            format!("{}: {error} (tools/build builds it)", self.binary.display())
+        };
         fs::write(&self.file, input).map_err(failed)?;
         let output = Command::new(&self.binary)
             .stdin(File::open(&self.file).map_err(failed)?)
@@ -141,10 +143,8 @@ fn worker(number: u64, seed: u64, inputs: u64) -> Compared<Run> {
         let input = input(&mut random, edge);
         program.output(&mut run, &input)?;
         if number == 1 && count % 5_000 == 4_999 {
-            println!(
-                "compare: the program, {} inputs of {inputs}, twice",
-                count + 1
-            );
+            let (done, all) = (2 * count + 2, 2 * inputs);
+            println!("compare: the program, {done} inputs of {all}");
         }
     }
     Ok(run)
