@@ -7,7 +7,8 @@ use lib.Seq.{take-at, take-length, length-take-le}
 use native.Mathlib.Omega.{arith}
 use Rattle.lists.specs.Parts.{part, splice}
 use Rattle.lists.proofs.Parts.{part-replicate}
-use Rattle.image.specs.Image.{mostRoom, roomOf}
+use Rattle.layout.specs.Layout.{mostRoom}
+use Rattle.image_read.specs.Read.{roomOf}
 use Rattle.lines.specs.Lines.{perLine}
 use Rattle.stream.specs.Stream.{commands}
 use Rattle.stream.proofs.Claims.{claims}

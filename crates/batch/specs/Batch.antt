@@ -4,7 +4,7 @@ use Prim.Native.Nat.{ℕ, _*_, _/_, _≤_}
 use mathlib.Core.List.{List}
 use lib.ListN.{length, take, drop, replicate}
 use Rattle.commands.specs.Command.{fixed}
-use Rattle.image.specs.Image.{mostBytes, mostRoom}
+use Rattle.layout.specs.Layout.{mostBytes, mostRoom}
 use Rattle.input.specs.Input.{mostInput}
 use Rattle.lines.specs.Lines.{perLine}
 use Rattle.runs.specs.Run.{Run, runs}

@@ -4,7 +4,6 @@ ghost use Rattle.batch.specs.Batch.{answered, Lent};
 ghost use Rattle.lists.specs.Parts.{splice};
 ghost use Rattle.runs.specs.Run.{printed};
 ghost use Rattle.stream.specs.Stream.{commands};
-use image::layout;
 
 // As many numbers as the lines of the longest input can have: 1,260 commands of 52 bytes.
 pub const MOST_NUMBERS: usize = 10080;

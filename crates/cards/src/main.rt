@@ -61,9 +61,9 @@ fn serve(input: &[u8])
         return;
     }
     io::write_all(STDOUT_FILENO, b"cards");
-    print_number(image::inner::count(input) as u64);
+    print_number(image_read::inner::count(input) as u64);
     io::write_all(STDOUT_FILENO, b"\n");
-    let room = image::inner::room(input) as usize;
+    let room = image_read::inner::room(input) as usize;
     let mut out = [0u64; MOST_NUMBERS];
     let count = batch::inner::answers(input, size, room, &mut out);
     print_lines(&out, count);

@@ -10,9 +10,11 @@ use native.Mathlib.Omega.{arith}
 use Rattle.endian.specs.Le.{le}
 use Rattle.lists.proofs.Parts.{part-take}
 use Rattle.lists.proofs.Tests.{to-T, and-left, and-right}
-use Rattle.image.specs.Image.{headerSize, mostBytes, mostRoom, countOf, roomOf, sound}
-use Rattle.image.proofs.Decode.{shape-holds}
-use Rattle.image.proofs.Shape.{shape}
+use Rattle.layout.specs.Layout.{headerSize, mostBytes, mostRoom}
+use Rattle.image_read.specs.Read.{countOf, roomOf}
+use Rattle.image.specs.Image.{sound}
+use Rattle.image_claims.proofs.Decode.{shape-holds}
+use Rattle.layout.proofs.Shape.{shape}
 use Rattle.input.specs.Input.{claimed, goodStore, storeSize}
 
 module _ (input : List ℕ) where

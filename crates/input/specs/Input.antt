@@ -5,7 +5,9 @@ use mathlib.Core.List.{List}
 use mathlib.Core.Bool.{Bool, cond, _&&_}
 use lib.Dec.{leb}
 use lib.ListN.{length, take}
-use Rattle.image.specs.Image.{headerSize, countOf, roomOf, sizeOf, sound}
+use Rattle.layout.specs.Layout.{headerSize, sizeOf}
+use Rattle.image_read.specs.Read.{countOf, roomOf}
+use Rattle.image.specs.Image.{sound}
 
 -- "Standard input, at most 65,536 bytes".
 abbrev pub mostInput : ℕ

@@ -4,7 +4,6 @@ ghost use Prim.Native.Nat.{_-_};
 ghost use lib.ListN.{length};
 ghost use Rattle.input.specs.Input.{storeSize};
 ghost use Rattle.stream.specs.Stream.{endOf};
-use image::layout;
 
 // How long the input may be.
 pub const MOST_INPUT: usize = 65536;
@@ -16,7 +15,10 @@ pub fn store_size(input: &[u8]) -> usize
     if input.len() < layout::HEADER {
         return 0;
     }
-    let size = layout::size_of(image::inner::count(input), image::inner::room(input));
+    let size = layout::size_of(
+        image_read::inner::count(input),
+        image_read::inner::room(input),
+    );
     if input.len() < size {
         return 0;
     }

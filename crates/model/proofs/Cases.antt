@@ -8,23 +8,11 @@ use Rattle.lists.specs.Tests.{all, allFrom}
 use Rattle.commands.specs.Command.{wellFormed, fieldsOf, payload, formed, commandBytes}
 use Rattle.guard.specs.Entry.{entrySound}
 use Rattle.guard.specs.Judge.{raise, replied}
-use Rattle.image.specs.Image.{
-  shapeOk,
-  header,
-  entryBytes,
-  pad,
-  bodies,
-  encode,
-  readEntry,
-  entryAt,
-  cardAt,
-  decode,
-  tailZero,
-  cardSound,
-  headerSound,
-  sound,
-  fresh,
-}
+use Rattle.layout.specs.Layout.{shapeOk}
+use Rattle.image_write.specs.Write.{header, entryBytes, pad}
+use Rattle.image.specs.Image.{bodies, encode, cardAt, decode, tailZero, cardSound, headerSound, sound}
+use Rattle.image_read.specs.Read.{readEntry, entryAt}
+use Rattle.fresh.specs.Fresh.{fresh}
 use Rattle.model.specs.Serve.{stepped, serveBy, serve}
 use Rattle.model.specs.Cases.{run, RunLogged, Trials}
 use Rattle.model.specs.Words.{Sent, eventOf, imageAfter, history}

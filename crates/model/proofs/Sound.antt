@@ -4,7 +4,7 @@ use mathlib.Core.List.{List}
 use Prim.Native.Nat.{ℕ}
 use Rattle.lists.proofs.Tests.{to-T, from-T}
 use Rattle.image.specs.Image.{Cards, encode, decode, sound}
-use Rattle.image.proofs.Claims.{soundReadsBack, goodEncodes}
+use Rattle.image_claims.proofs.Claims.{soundReadsBack, goodEncodes}
 use Rattle.model.specs.Serve.{serve}
 use Rattle.model.specs.Words.{Sent}
 use Rattle.model.specs.Claims.{StaysSound}

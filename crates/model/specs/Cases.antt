@@ -9,7 +9,8 @@ use Rattle.commands.specs.Command.{commandBytes}
 use Rattle.stamps.specs.Stamp.{stamp, shared, exclusive, noMark, noPair}
 use Rattle.guard.specs.declared.Answer.{Answer}
 use Rattle.stamps.specs.declared.Pair.{Pair}
-use Rattle.image.specs.Image.{encode, fresh}
+use Rattle.image.specs.Image.{encode}
+use Rattle.fresh.specs.Fresh.{fresh}
 use Rattle.model.specs.Serve.{serve}
 use Rattle.model.specs.Words.{Sent, Event, history}
 

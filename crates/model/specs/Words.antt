@@ -9,7 +9,7 @@ use Rattle.stamps.specs.Stamp.{shared, exclusive, deskStart, noMark, markFits}
 use Rattle.commands.specs.Command.{Language, original, translation, writes, verifier, update, fieldsOf, payload, formed, session}
 use Rattle.guard.specs.declared.Answer.{Answer}
 use Rattle.commands.specs.declared.Command.{Command}
-use Rattle.image.specs.Image.{fresh}
+use Rattle.fresh.specs.Fresh.{fresh}
 use Rattle.model.specs.Serve.{Outcome, serve}
 
 -- A request as it is sent: "any lent bytes .., with a reply buffer of any length and content".

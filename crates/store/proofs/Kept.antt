@@ -1,41 +1,24 @@
 -- What the writes of an accepted command make of the bytes of cards. Assumes nothing.
 use Prim.Native.Nat.{ℕ, _<_}
-use lib.Dec.{lit≤}
+use lib.Dec.{lit<}
 use mathlib.Core.Path.{_≡_, refl, sym, ap, _∙_}
 use mathlib.Core.List.{List}
 use mathlib.Core.Bool.{Bool, true, false}
 use borrow.Author.Tests.{eqb-true}
-use lib.ListN.{length, getD, set, length-set}
-use lib.Seq.{getD-set-same, set-set}
+use lib.ListN.{length}
 use Rattle.lists.specs.Parts.{splice}
-use Rattle.commands.specs.Command.{original, translation, writes}
+use Rattle.commands.specs.Command.{Language, original, translation, writes}
 use Rattle.guard.specs.Judge.{raise}
 use Rattle.commands.specs.declared.Command.{Command}
 use Rattle.guard.specs.declared.Entry.{Entry}
-use Rattle.image.specs.Image.{Card, Cards, withCard, withEntry, withText, noCard, entryPlace, bodyPlace, entryBytes, pad, countOf, entryAt, cardAt, encode, decode}
-use Rattle.image.proofs.Encode.{put-entry, put-text}
+use Rattle.image.specs.Image.{Card, sideOf, withCard, withEntry, withText, cardAt, encode, decode}
+use Rattle.layout.specs.Layout.{entryPlace}
+use Rattle.image_write.specs.Write.{entryBytes}
+use Rattle.image_read.specs.Read.{countOf, entryAt}
+use Rattle.image_claims.proofs.Encode.{put-entry, put-text-entry}
 use Rattle.store.specs.Effects.{bodyWritten, textWritten}
 use Rattle.model.specs.Serve.{stepped}
-use Rattle.image.proofs.Decode.{count-decode, card-decode}
-
--- ---- a text, then an entry, at card k
-
-module _ (cs : Cards) (k : ℕ) (h : k < length (cs .cards)) (e : Entry) where
-  -- An entry over a card that was put there.
-  entry-over : (card : Card) → splice (entryPlace k) (entryBytes e) (encode (withCard k card cs)) ≡ encode (withCard k (withEntry e card) cs)
-  entry-over card =
-      put-entry (withCard k card cs) k e (rw length-set h)
-      ∙ ap
-      (λ (l : List Card). encode (record { room = cs .room; cards = l }))
-      (ap (λ (a : Card). set (set (cs .cards) k card) k (withEntry e a)) (getD-set-same (cs .cards) k card noCard h)
-      ∙ set-set (cs .cards) k card (withEntry e card))
-
-  pub text-then-entry : (side : ℕ) (t : List ℕ) → side < 2 →
-      splice (entryPlace k) (entryBytes e)
-      (splice (bodyPlace (length (cs .cards)) (cs .room) k side) (pad (cs .room) t) (encode cs))
-      ≡ encode (withCard k (withEntry e (withText side t (getD (cs .cards) k noCard))) cs)
-  text-then-entry side t g =
-      ap (splice (entryPlace k) (entryBytes e)) (put-text cs k side t h g) ∙ entry-over (withText side t (getD (cs .cards) k noCard))
+use Rattle.image_claims.proofs.Decode.{count-decode, card-decode}
 
 -- ---- the card after an accepted command, by what it writes
 
@@ -44,13 +27,13 @@ one-write : (c : Command) → writes original c ≡ true → writes (translation
 one-write c h = rw (eqb-true (c .act) 3 h)
 
 module _ (card : Card) (c : Command) (t : List ℕ) where
-  stepped-original : writes original c ≡ true → stepped card c t ≡ withEntry (raise (card .entry) c) (withText 0 t card)
+  stepped-original : writes original c ≡ true → stepped card c t ≡ withEntry (raise (card .entry) c) (withText original t card)
   unfolding stepped
   stepped-original h = rw (h, one-write c h)
 
   stepped-translation :
       writes original c ≡ false → writes (translation 0) c ≡ true
-      → stepped card c t ≡ withEntry (raise (card .entry) c) (withText 1 t card)
+      → stepped card c t ≡ withEntry (raise (card .entry) c) (withText (translation 0) t card)
   unfolding stepped
   stepped-translation h g = rw (h, g)
 
@@ -70,12 +53,12 @@ module _ (image : List ℕ) (same : encode (decode image) ≡ image) (k : ℕ) (
   exists : k < length (decode image .cards)
   exists = rw (count-decode image) h
 
-  side-kept : (side : ℕ) (t : List ℕ) → side < 2 →
-      splice (entryPlace k) (entryBytes e) (bodyWritten image k side t)
-      ≡ encode (withCard k (withEntry e (withText side t (cardAt image k))) (decode image))
+  text-kept : (lang : Language) (t : List ℕ) → sideOf lang < 2 →
+      splice (entryPlace k) (entryBytes e) (bodyWritten image k (sideOf lang) t)
+      ≡ encode (withCard k (withEntry e (withText lang t (cardAt image k))) (decode image))
   unfolding decode
-  side-kept side t g =
-      rw (same, count-decode image, card-decode image k h) at (text-then-entry (decode image) k exists e side t g)
+  text-kept lang t g =
+      rw (same, count-decode image, card-decode image k h) at (put-text-entry (decode image) k lang e t exists g)
 
   entry-kept :
       splice (entryPlace k) (entryBytes e) image ≡ encode (withCard k (withEntry e (cardAt image k)) (decode image))
@@ -97,8 +80,8 @@ keeps image same c t {e} h p = go (writes original c) (writes (translation 0) c)
         splice (entryPlace (c .card)) (entryBytes e) (textWritten image c t)
         ≡ encode (withCard (c .card) (stepped (cardAt image (c .card)) c t) (decode image))
     go true b q r =
-        rw (stepped-original (cardAt image (c .card)) c t q, raised, q) (side-kept image same (c .card) h e 0 t (lit≤ tt))
+        rw (stepped-original (cardAt image (c .card)) c t q, raised, q) (text-kept image same (c .card) h e original t (lit< tt))
     go false true q r =
-        rw (stepped-translation (cardAt image (c .card)) c t q r, raised, q, r) (side-kept image same (c .card) h e 1 t (lit≤ tt))
+        rw (stepped-translation (cardAt image (c .card)) c t q r, raised, q, r) (text-kept image same (c .card) h e (translation 0) t (lit< tt))
     go false false q r =
         rw (stepped-none (cardAt image (c .card)) c t q r, raised, q, r) (entry-kept image same (c .card) h e)

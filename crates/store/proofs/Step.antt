@@ -22,8 +22,9 @@ use Rattle.commands.specs.declared.Parsed.the-variants.{Malformed, Formed}
 use Rattle.commands.proofs.CommandBytes.{parsed-formed, parsed-malformed, formed-short}
 use Rattle.guard.proofs.Judge.{Accepted, accepted, accepted-raises}
 use Rattle.lists.proofs.Table.{settled-old}
-use Rattle.image.specs.Image.{Card, withCard, cardAt, entryAt, countOf, roomOf, encode, decode, sound}
-use Rattle.image.proofs.Decode.{count-decode, card-decode}
+use Rattle.image.specs.Image.{Card, withCard, cardAt, encode, decode, sound}
+use Rattle.image_read.specs.Read.{entryAt, countOf, roomOf}
+use Rattle.image_claims.proofs.Decode.{count-decode, card-decode}
 use Rattle.store.specs.Effects.{judgedAt, carried}
 use Rattle.model.specs.Serve.{Outcome, cardOf, textRead, stepped, storeRows, serveBy, serve}
 use Rattle.model.proofs.Formed.{formed-well}

@@ -11,7 +11,10 @@ use Rattle.guard.specs.Judge.{judged, replied}
 use Rattle.lists.specs.Table.{settled}
 use Rattle.commands.specs.declared.Command.{Command}
 use Rattle.guard.specs.declared.Judged.{Judged}
-use Rattle.image.specs.Image.{bodyPlace, countOf, roomOf, pad, entryAt, cardAt, withCard, encode, decode}
+use Rattle.layout.specs.Layout.{bodyPlace}
+use Rattle.image_read.specs.Read.{countOf, roomOf, entryAt}
+use Rattle.image_write.specs.Write.{pad}
+use Rattle.image.specs.Image.{cardAt, withCard, encode, decode}
 use Rattle.model.specs.Serve.{Outcome, textRead, stepped}
 
 -- An image with a text in a body of card k, "writing zeroes the rest of that body": side 0 is the original, side 1 the translation.

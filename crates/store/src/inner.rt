@@ -4,7 +4,9 @@ ghost use Prim.Native.Nat.{_<_, _≤_};
 ghost use lib.ListN.{length};
 ghost use Rattle.lists.specs.Parts.{splice};
 ghost use Rattle.guard.specs.Judge.{raise, readLength};
-ghost use Rattle.image.specs.Image.{bodyPlace, countOf, roomOf, entryAt, cardAt, withCard, encode, decode, sound};
+ghost use Rattle.layout.specs.Layout.{bodyPlace};
+ghost use Rattle.image_read.specs.Read.{countOf, roomOf, entryAt};
+ghost use Rattle.image.specs.Image.{cardAt, withCard, encode, decode, sound};
 ghost use Rattle.store.specs.Effects.{textWritten, carried};
 ghost use Rattle.model.specs.Serve.{textRead, stepped, serve};
 use commands::Command;
@@ -14,7 +16,6 @@ use guard::Entry;
 use guard::entries::ACCEPTED;
 use guard::entries::MALFORMED;
 use guard::entries::NO_CARD;
-use image::layout;
 
 // The sides of a card's bodies.
 const ORIGINAL: u8 = 0;
@@ -27,8 +28,8 @@ fn body_at(image: &[u8], k: u16, side: u8) -> usize
     ensures { λ r. ⌜ r ≡ bodyPlace (countOf (now (image .entry))) (roomOf (now (image .entry))) k side ⌝ }
 {
     layout::body_place(
-        image::inner::count(image),
-        image::inner::room(image),
+        image_read::inner::count(image),
+        image_read::inner::room(image),
         k,
         side,
     )
@@ -40,11 +41,11 @@ fn show(image: &[u8], c: Command, e: Entry, reply: &mut [u8])
     ensures { λ _. ⌜ now (reply .exit) ≡ splice 0 (textRead (cardAt (now (image .entry)) (c .card)) c) (now (reply .entry)) ⌝ }
 {
     if c.reads_original() {
-        image::inner::read_text(image, body_at(image, c.card, ORIGINAL), e.original, reply);
+        image_read::inner::read_text(image, body_at(image, c.card, ORIGINAL), e.original, reply);
         return;
     }
     if c.reads_translation() {
-        image::inner::read_text(
+        image_read::inner::read_text(
             image,
             body_at(image, c.card, TRANSLATION),
             e.translation,
@@ -58,15 +59,15 @@ fn write(image: &mut [u8], c: Command, text: &[u8])
     requires { ⌜ (sound (now image) ≡ true) × (c .card < countOf (now image)) × (length (now text) ≤ roomOf (now image)) ⌝ }
     ensures { λ _. ⌜ now (image .exit) ≡ textWritten (now (image .entry)) c (now (text .entry)) ⌝ }
 {
-    let room = image::inner::room(image);
+    let room = image_read::inner::room(image);
     if c.writes_original() {
         let at = body_at(image, c.card, ORIGINAL);
-        image::inner::write_text(image, at, room, text);
+        image_write::inner::write_text(image, at, room, text);
         return;
     }
     if c.writes_translation() {
         let at = body_at(image, c.card, TRANSLATION);
-        image::inner::write_text(image, at, room, text);
+        image_write::inner::write_text(image, at, room, text);
     }
 }
 
@@ -77,7 +78,7 @@ fn keep(image: &mut [u8], c: Command, e: Entry, text: &[u8])
         ≡ encode (withCard (c .card) (stepped (cardAt (now (image .entry)) (c .card)) c (now (text .entry))) (decode (now (image .entry)))) ⌝ }
 {
     write(image, c, text);
-    image::inner::write_entry(image, c.card, e);
+    image_write::inner::write_entry(image, c.card, e);
 }
 
 // A command for a card that exists, on a sound image: its entry judges, and an accepted command is carried out.
@@ -87,8 +88,8 @@ fn carry(image: &mut [u8], c: Command, text: &[u8], reply: &mut [u8]) -> Answer
     ensures image { λ _. ⌜ now (image .exit) ≡ carried (now (image .entry)) c (now (text .entry)) (now (reply .entry)) .image ⌝ }
     ensures reply { λ _. ⌜ now (reply .exit) ≡ carried (now (image .entry)) c (now (text .entry)) (now (reply .entry)) .reply ⌝ }
 {
-    let e = image::inner::read_entry(image, c.card);
-    let judged = e.judge(c, image::inner::room(image), reply.len());
+    let e = image_read::inner::read_entry(image, c.card);
+    let judged = e.judge(c, image_read::inner::room(image), reply.len());
     if judged.number != ACCEPTED {
         return judged.reply(c);
     }
@@ -108,7 +109,7 @@ pub fn step(image: &mut [u8], command: &[u8], reply: &mut [u8]) -> Answer
     let Parsed::Formed(c) = commands::parse(command) else {
         return guard::refusal(MALFORMED);
     };
-    if image::inner::count(image) <= c.card {
+    if image_read::inner::count(image) <= c.card {
         return guard::refusal(NO_CARD);
     }
     carry(image, c, &command[commands::FIXED..], reply)

@@ -1,7 +1,7 @@
 -- The bytes past the text. Assumes nothing.
 use native.Mathlib.Omega.{arith}
 use Prim.Native.Nat.{_+_, _-_}
-use Rattle.image.proofs.Bytes.{cut}
+use Rattle.image_read.proofs.Parts.{cut}
 use borrow.Author.Needs.{needs}
 use Rattle.image.proofs.inner.tail_zero.Statement.{statement}
 use Rattle.image.proofs.inner.tail_zero.Tie as tie

@@ -3,7 +3,7 @@ use borrow.Author.Needs.{needs}
 use mathlib.Core.Path.{_≡_, refl}
 use lib.ListN.{length}
 use Rattle.lists.proofs.Tests.{to-T}
-use Rattle.image.proofs.Decode.{places}
+use Rattle.image_claims.proofs.Decode.{places}
 use Rattle.store.specs.Effects.{judgedAt}
 use Rattle.store.proofs.Step.{exits, refuses, accepts, payload-fits, lent-fits, raises}
 use Rattle.store.proofs.Texts.{header-in}

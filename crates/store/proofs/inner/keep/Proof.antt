@@ -2,8 +2,8 @@
 use borrow.Author.Needs.{needs}
 use native.Mathlib.Omega.{arith}
 use Rattle.lists.proofs.Tests.{to-T}
-use Rattle.image.proofs.Claims.{soundReadsBack}
-use Rattle.image.proofs.Decode.{places}
+use Rattle.image_claims.proofs.Claims.{soundReadsBack}
+use Rattle.image_claims.proofs.Decode.{places}
 use Rattle.store.proofs.Kept.{keeps}
 use Rattle.store.proofs.inner.keep.Statement.{statement}
 use Rattle.store.proofs.inner.keep.Tie as tie

@@ -1,4 +1,5 @@
 -- `store::inner::show` meets its contract. Assumes nothing.
+use lib.Dec.{lit<}
 use borrow.Author.Needs.{needs}
 use mathlib.Core.Path.{sym, _∙_}
 use Rattle.commands.specs.Command.{original, translation}
@@ -16,7 +17,7 @@ body-at-requires c κs = search needs
 read-text-requires : tie.Need-read-text-requires
 read-text-requires c κs =
     let start = c .before .before .before .before .before .before in
-    text-fits _ (start .pre .0) (start .args .c) (start .pre .1) original (c .before .body-at .ensures) (start .pre .2)
+    text-fits _ (start .pre .0) (start .args .c) (start .pre .1) original (lit< tt) (c .before .body-at .ensures) (start .pre .2)
     (sym (c .before .before .before .reads-original .ensures) ∙ c .before .before .if1 .taken)
     (start .pre .3)
 
@@ -26,7 +27,7 @@ same-length c = search needs
 returns : tie.Need-returns
 returns c =
     let start = c .before .before .before .before .before .before .before .before .before in
-    shows _ (start .pre .0) (start .args .c) (start .pre .1) original (c .before .before .before .before .body-at .ensures) (start .pre .2)
+    shows _ (start .pre .0) (start .args .c) (start .pre .1) original (lit< tt) (c .before .before .before .before .body-at .ensures) (start .pre .2)
     (sym (c .before .before .before .before .before .before .reads-original .ensures) ∙ c .before .before .before .before .before .if1 .taken)
     _
     (c .before .before .read-text .ensures)
@@ -40,7 +41,7 @@ body-at-requires-2 c κs = search needs
 read-text-requires-2 : tie.Need-read-text-requires-2
 read-text-requires-2 c κs =
     let start = c .before .before .before .before .before .before .before .before in
-    text-fits _ (start .pre .0) (start .args .c) (start .pre .1) (translation 0) (c .before .body-at2 .ensures) (start .pre .2)
+    text-fits _ (start .pre .0) (start .args .c) (start .pre .1) (translation 0) (lit< tt) (c .before .body-at2 .ensures) (start .pre .2)
     (sym (c .before .before .before .reads-translation .ensures) ∙ c .before .before .if2 .taken)
     (start .pre .3)
 
@@ -50,7 +51,7 @@ same-length-2 c = search needs
 returns-2 : tie.Need-returns-2
 returns-2 c =
     let start = c .before .before .before .before .before .before .before .before .before .before .before in
-    shows _ (start .pre .0) (start .args .c) (start .pre .1) (translation 0) (c .before .before .before .before .body-at2 .ensures) (start .pre .2)
+    shows _ (start .pre .0) (start .args .c) (start .pre .1) (translation 0) (lit< tt) (c .before .before .before .before .body-at2 .ensures) (start .pre .2)
     (sym (c .before .before .before .before .before .before .reads-translation .ensures)
     ∙ c .before .before .before .before .before .if2 .taken)
     _

@@ -1,4 +1,5 @@
 -- `store::inner::write` meets its contract. Assumes nothing.
+use lib.Dec.{lit<}
 use borrow.Author.Needs.{needs}
 use native.Mathlib.Omega.{arith}
 use mathlib.Core.Path.{sym, _∙_}
@@ -20,7 +21,7 @@ write-text-requires : tie.Need-write-text-requires
 write-text-requires c κs =
     let start = c .before .before .before .before .before .before .before .before .before in
     let whole = c .before .before .before .before .before .room .ensures in
-    (rw whole (start .pre .2), body-within _ (start .pre .0) (start .args .c) (start .pre .1) original (c .before .body-at .ensures) (omega (arith, whole)))
+    (rw whole (start .pre .2), body-within _ (start .pre .0) (start .args .c) (start .pre .1) original (lit< tt) (c .before .body-at .ensures) (omega (arith, whole)))
 
 same-length : tie.Need-same-length
 same-length c = search needs
@@ -44,7 +45,7 @@ write-text-requires-2 : tie.Need-write-text-requires-2
 write-text-requires-2 c κs =
     let start = c .before .before .before .before .before .before .before .before .before .before .before in
     let whole = c .before .before .before .before .before .before .before .room .ensures in
-    (rw whole (start .pre .2), body-within _ (start .pre .0) (start .args .c) (start .pre .1) (translation 0) (c .before .body-at2 .ensures) (omega (arith, whole)))
+    (rw whole (start .pre .2), body-within _ (start .pre .0) (start .args .c) (start .pre .1) (translation 0) (lit< tt) (c .before .body-at2 .ensures) (omega (arith, whole)))
 
 same-length-2 : tie.Need-same-length-2
 same-length-2 c = search needs

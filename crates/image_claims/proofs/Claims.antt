@@ -1,0 +1,118 @@
+-- The claims on images and cards, proved. Assumes nothing.
+use Prim.Native.Nat.{ℕ, zero, suc, _+_, _*_, _-_}
+use native.Mathlib.Omega.{arith}
+use mathlib.Core.Path.{_≡_, refl, sym, ap, _∙_, subst}
+use mathlib.Core.List.{List, append-assoc}
+use lib.Dec.{T, lit<, leb·zero}
+use lib.ListN.{length, drop, getD, replicate, length-replicate, getD-replicate, replicate-append-replicate}
+use lib.Seq.{drop-at}
+use Rattle.lists.specs.Parts.{Bytes}
+use Rattle.endian.specs.Le.{toLe}
+use Rattle.lists.proofs.Spread.{table-ext, spread-replicate}
+use Rattle.lists.proofs.Tests.{to-T}
+use Rattle.lists.specs.Tests.{all, allFrom}
+use Rattle.lists.proofs.Bytes.{Bytes-nil, zeros-at, zeros-replicate}
+use Rattle.commands.specs.Command.{Language, original, translation}
+use Rattle.guard.specs.Entry.{entrySound}
+use Rattle.image.specs.Image.{Card, text, noCard, bodies, encode, cardAt, decode, sound}
+use Rattle.layout.specs.Layout.{shapeOk, sizeOf, headerSize, entrySize}
+use Rattle.image_write.specs.Write.{header, entryBytes, pad}
+use Rattle.image_read.specs.Read.{countOf}
+use Rattle.fresh.specs.Fresh.{fresh}
+use Rattle.image_claims.specs.Claims.{freshCards}
+use Rattle.image_claims.specs.Claims.{SoundReadsBack, GoodCard, GoodCards, GoodEncodes, OneImage, FreshSound}
+use Rattle.image_claims.proofs.Cards.{Bytes-encode, sound-encode, decode-encode}
+use Rattle.image_claims.proofs.Encode.{length-header, length-encode}
+use Rattle.image_write.proofs.Written.{take-replicate}
+use Rattle.image_claims.proofs.Decode.{encode-decode, decode-good}
+
+pub soundReadsBack : SoundReadsBack
+soundReadsBack image b holds = record { good = decode-good image b holds; same = encode-decode image b holds }
+
+pub goodEncodes : GoodEncodes
+goodEncodes cs good = record { bytes = Bytes-encode cs good; sounds = to-T (sound-encode cs good); same = decode-encode cs good }
+
+pub oneImage : OneImage
+unfolding decode
+oneImage x y bx by sx sy n c same =
+    let cards : decode x ≡ decode y = rw (← n, ← c, table-ext (cardAt x) (cardAt y) (countOf x) same) in
+    sym (encode-decode x bx sx) ∙ ap encode cards ∙ encode-decode y by sy
+
+-- ---- a fresh image
+
+-- Pieces that are all zero.
+entry-zero : entryBytes (noCard .entry) ≡ replicate entrySize 0
+unfolding entryBytes toLe
+entry-zero = refl
+
+bodies-zero : (c : ℕ) → bodies c noCard ≡ replicate (2 * c) 0
+unfolding bodies pad
+bodies-zero c =
+    let both : c + c ≡ 2 * c = omega arith in
+    rw (take-replicate {A = ℕ} c c 0 (omega arith), replicate-append-replicate {A = ℕ} c c 0, both)
+
+fresh-cards : (n c : ℕ) → encode (freshCards n c) ≡ fresh n c
+unfolding encode freshCards fresh
+fresh-cards n c =
+    let rest : n * entrySize + n * (2 * c) ≡ sizeOf n c - headerSize = omega arith in
+    rw (
+      length-replicate n noCard,
+      spread-replicate (λ (card : Card). entryBytes (card .entry)) noCard entrySize 0 entry-zero n,
+      spread-replicate (bodies c) noCard (2 * c) 0 (bodies-zero c) n,
+      append-assoc (header n c) (replicate (n * entrySize) 0) (replicate (n * (2 * c)) 0),
+      replicate-append-replicate {A = ℕ} (n * entrySize) (n * (2 * c)) 0,
+      rest,
+    )
+
+no-card : (c : ℕ) → GoodCard c noCard
+unfolding entrySound all allFrom
+no-card c =
+    record {
+      fits =
+          record {
+            pair = record { s = lit< tt; x = lit< tt };
+            mark = record { desk = lit< tt; transaction = lit< tt };
+            edition = lit< tt;
+            from = lit< tt;
+            original = lit< tt;
+            translation = lit< tt;
+          };
+      rules = rw (leb·zero c) tt;
+      original = refl;
+      translation = refl;
+      bytes = none;
+    }
+  where
+    none : (l : Language) → Bytes (text l noCard)
+    none original = Bytes-nil
+    none (translation zero) = Bytes-nil
+    none (translation (suc t)) = Bytes-nil
+
+fresh-good : (n c : ℕ) → T (shapeOk n c) → GoodCards (freshCards n c)
+unfolding freshCards
+fresh-good n c ok =
+    record {
+      shape = rw (length-replicate n noCard) ok;
+      each = λ k below. rw (getD-replicate n k noCard noCard (rw (length-replicate n noCard) at below)) (no-card c);
+    }
+
+fresh-zero : (n c i : ℕ) → getD (drop headerSize (fresh n c)) i 0 ≡ 0
+unfolding fresh
+fresh-zero n c i =
+    let rest = sizeOf n c - headerSize in
+    rw (drop-at (header n c) (replicate rest 0) headerSize (length-header n c)) (zeros-at (replicate rest 0) (zeros-replicate rest) i)
+
+fresh-long : (n c : ℕ) → length (encode (freshCards n c)) ≡ sizeOf n c
+unfolding freshCards
+fresh-long n c = length-encode (freshCards n c) ∙ rw (length-replicate n noCard)
+
+pub freshSound : FreshSound
+freshSound n c ok =
+    let good = fresh-good n c ok in
+    record {
+      cards = fresh-cards n c;
+      good = good;
+      sounds = subst (λ (image : List ℕ). T (sound image)) (fresh-cards n c) (to-T (sound-encode (freshCards n c) good));
+      zero-after = fresh-zero n c;
+      long = ap length (sym (fresh-cards n c)) ∙ fresh-long n c;
+    }

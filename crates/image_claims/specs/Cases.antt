@@ -1,0 +1,135 @@
+-- Worked cases: trial m with the neighbours of every limit, and one image with one byte changed (the sheet, "Trials at the desk" and
+-- "The image").
+-- Assumes nothing.
+use Prim.Native.Nat.{ℕ}
+use mathlib.Core.Path.{_≡_}
+use mathlib.Core.List.{List, [], _∷_, map}
+use mathlib.Core.Bool.{Bool, true, false}
+use lib.ListN.{set}
+use Rattle.image.specs.Image.{Cards, encode, sound}
+use Rattle.fresh.specs.Fresh.{makeNumber}
+
+-- N, C, the lent length, and the number that making a fresh image gives.
+pub record Asked : Type 0 where
+  pub n : ℕ
+  pub c : ℕ
+  pub lent : ℕ
+  pub number : ℕ
+
+abbrev pub asked : ℕ → ℕ → ℕ → ℕ → Asked
+asked n c lent number = record { n = n; c = c; lent = lent; number = number }
+
+abbrev pub limits : List Asked
+limits =
+    -- "m: N 15, C 1,024 (31,216 bytes) is made; N 16 (33,296) gets 14"
+    asked 15 1024 31216 0
+    ∷ asked 16 1024 33296 14
+    -- "N is 1 to 64"
+    ∷ asked 0 16 16 14
+    ∷ asked 1 16 80 0
+    ∷ asked 64 16 4112 0
+    ∷ asked 65 16 4176 14
+    -- "C is 16 to 1,024"
+    ∷ asked 1 0 48 14
+    ∷ asked 1 15 78 14
+    ∷ asked 1 1024 2096 0
+    ∷ asked 1 1025 2098 14
+    ∷ asked 1 1040 2128 14
+    -- "in steps of 16"
+    ∷ asked 1 17 82 14
+    ∷ asked 1 24 96 14
+    ∷ asked 1 31 110 14
+    ∷ asked 1 32 112 0
+    -- "at most 32,768": the largest whole within it, and the next
+    ∷ asked 31 512 32752 0
+    ∷ asked 32 496 32784 14
+    -- "exactly the lent length"
+    ∷ asked 1 16 79 14
+    ∷ asked 1 16 81 14
+    ∷ asked 1 16 0 14
+    ∷ []
+
+abbrev pub Limits : Type 0
+Limits = map (λ (a : Asked). makeNumber (a .n) (a .c) (a .lent)) limits ≡ map (λ (a : Asked). a .number) limits
+
+-- One card with both stamps 1.1.0, the mark of desk 1 and transaction 7, edition 2, a translation from edition 1, and texts of 3 and 2 bytes.
+abbrev pub oneCard : Cards
+oneCard =
+    record {
+      room = 16;
+      cards =
+          record {
+            entry =
+                record {
+                  pair = record { s = 4295032832; x = 4295032832 };
+                  mark = record { desk = 1; transaction = 7 };
+                  edition = 2;
+                  from = 1;
+                  original = 3;
+                  translation = 2;
+                };
+            original = 50 ∷ 48 ∷ 53 ∷ [];
+            translation = 52 ∷ 48 ∷ [];
+          }
+          ∷ [];
+    }
+
+-- A place of its image, the byte put there, and whether the image is sound then.
+pub record Changed : Type 0 where
+  pub place : ℕ
+  pub byte : ℕ
+  pub sounds : Bool
+
+abbrev pub changed : ℕ → ℕ → Bool → Changed
+changed place byte sounds = record { place = place; byte = byte; sounds = sounds }
+
+abbrev pub changes : List Changed
+changes =
+    -- "52 43 31 00, version u16 = 1"
+    changed 0 0x52 true
+    ∷ changed 0 0x53 false
+    ∷ changed 3 1 false
+    ∷ changed 4 2 false
+    ∷ changed 4 0 false
+    ∷ changed 5 1 false
+    -- N and C that are not the lent length's
+    ∷ changed 6 2 false
+    ∷ changed 6 0 false
+    ∷ changed 8 32 false
+    -- "six zeros"
+    ∷ changed 10 1 false
+    ∷ changed 15 1 false
+    -- "stamps are valid"
+    ∷ changed 18 0 false
+    ∷ changed 18 2 true
+    ∷ changed 26 0 false
+    -- "commit desk and transaction are both zero or both not"
+    ∷ changed 32 0 false
+    ∷ changed 36 0 false
+    ∷ changed 36 1 true
+    -- "18 zero u16"
+    ∷ changed 34 1 false
+    ∷ changed 35 1 false
+    -- "edition 0 has length 0; translated-from is at most edition; translated-from 0 has translation length 0"
+    ∷ changed 40 0 false
+    ∷ changed 40 1 true
+    ∷ changed 42 2 true
+    ∷ changed 42 3 false
+    ∷ changed 42 0 false
+    -- "lengths are at most C; body bytes past the length are zero"
+    ∷ changed 44 2 false
+    ∷ changed 44 16 true
+    ∷ changed 44 17 false
+    ∷ changed 46 1 false
+    ∷ changed 46 16 true
+    ∷ changed 46 17 false
+    ∷ changed 50 255 true
+    ∷ changed 51 1 false
+    ∷ changed 63 1 false
+    ∷ changed 65 255 true
+    ∷ changed 66 1 false
+    ∷ changed 79 1 false
+    ∷ []
+
+abbrev pub Changes : Type 0
+Changes = map (λ (a : Changed). sound (set (encode oneCard) (a .place) (a .byte))) changes ≡ map (λ (a : Changed). a .sounds) changes

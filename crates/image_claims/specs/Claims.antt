@@ -1,0 +1,68 @@
+-- What holds of images and cards, as claims; the theorems stand in proofs/.
+-- Assumes nothing.
+use Prim.Native.Nat.{ℕ, _<_}
+use mathlib.Core.Path.{_≡_}
+use mathlib.Core.List.{List}
+use lib.ListN.{length, drop, getD, replicate}
+use lib.Dec.{T}
+use Rattle.lists.specs.Parts.{Bytes}
+use Rattle.commands.specs.Command.{Language, original, translation}
+use Rattle.guard.specs.Entry.{entrySound, FitsEntry}
+use Rattle.image.specs.Image.{Card, Cards, text, encode, decode, sound, noCard, cardAt}
+use Rattle.layout.specs.Layout.{shapeOk, sizeOf, headerSize}
+use Rattle.fresh.specs.Fresh.{fresh}
+use Rattle.image_read.specs.Read.{countOf, roomOf}
+
+-- A card by the rules: a sound entry, and two texts of bytes, as long as it says.
+pub record GoodCard (room : ℕ) (card : Card) : Type 0 where
+  pub fits : FitsEntry (card .entry)
+  pub rules : T (entrySound room (card .entry))
+  pub original : length (card .original) ≡ card .entry .original
+  pub translation : length (card .translation) ≡ card .entry .translation
+  pub bytes : (l : Language) → Bytes (text l card)
+
+-- Cards by the rules: N and C within the limits, and each card.
+pub record GoodCards (cs : Cards) : Type 0 where
+  pub shape : T (shapeOk (length (cs .cards)) (cs .room))
+  pub each : (k : ℕ) → k < length (cs .cards) → GoodCard (cs .room) (getD (cs .cards) k noCard)
+
+-- A sound image reads back to cards by the rules, and those encode to the same bytes.
+pub record ReadsBack (image : List ℕ) : Type 0 where
+  pub good : GoodCards (decode image)
+  pub same : encode (decode image) ≡ image
+
+abbrev pub SoundReadsBack : Type 0
+SoundReadsBack = (image : List ℕ) → Bytes image → T (sound image) → ReadsBack image
+
+-- Cards by the rules encode to a sound image of bytes that reads back to them.
+pub record Encodes (cs : Cards) : Type 0 where
+  pub bytes : Bytes (encode cs)
+  pub sounds : T (sound (encode cs))
+  pub same : decode (encode cs) ≡ cs
+
+abbrev pub GoodEncodes : Type 0
+GoodEncodes = (cs : Cards) → GoodCards cs → Encodes cs
+
+-- "Two sound images with the same N and C, equal entry fields and equal texts are the same bytes."
+abbrev pub OneImage : Type 0
+OneImage =
+    (a b : List ℕ) → Bytes a → Bytes b → T (sound a) → T (sound b)
+    → countOf a ≡ countOf b
+    → roomOf a ≡ roomOf b
+    → ((k : ℕ) → k < countOf a → cardAt a k ≡ cardAt b k)
+    → a ≡ b
+
+-- The cards of a fresh image.
+unfoldable pub freshCards : ℕ → ℕ → Cards
+freshCards n c = record { room = c; cards = replicate n noCard }
+
+-- A fresh image is the bytes of empty cards by the rules, is sound, and is all zero after its header.
+pub record Fresh (n c : ℕ) : Type 0 where
+  pub cards : encode (freshCards n c) ≡ fresh n c
+  pub good : GoodCards (freshCards n c)
+  pub sounds : T (sound (fresh n c))
+  pub zero-after : (i : ℕ) → getD (drop headerSize (fresh n c)) i 0 ≡ 0
+  pub long : length (fresh n c) ≡ sizeOf n c
+
+abbrev pub FreshSound : Type 0
+FreshSound = (n c : ℕ) → T (shapeOk n c) → Fresh n c

@@ -1,0 +1,2 @@
+// What the bytes of an image say: N and C, an entry, a text.
+pub mod inner;

@@ -1,0 +1,2 @@
+// Writing an entry and a text into an image.
+pub mod inner;
