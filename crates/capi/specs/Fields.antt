@@ -5,9 +5,9 @@ use mathlib.Core.Bool.{cond}
 use lib.ListN.{getD}
 use Rattle.lists.specs.Parts.{table}
 use Rattle.guard.specs.declared.Answer.{Answer}
-use Rattle.lock_queue.specs.Queue.{State, mostPlaces}
+use Rattle.queue_state.specs.Queue.{State, mostPlaces}
 use Rattle.lock_queue.specs.declared.Answer.{Answer as QueueAnswer}
-use Rattle.lock_queue.specs.declared.Waiting.{Waiting}
+use Rattle.queue_state.specs.declared.Waiting.{Waiting}
 
 -- "Reply fields: s, x, commit desk, transaction, edition, translated-from, length".
 abbrev pub fieldsOf : Answer → List ℕ

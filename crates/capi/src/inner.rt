@@ -1,12 +1,12 @@
 ghost use mathlib.Core.Path.{_≡_};
 ghost use lib.ListN.{length};
 ghost use Rattle.desk.specs.Show.{text, shownNumber, shownPart};
-ghost use Rattle.lock_queue.specs.Queue.{state};
+ghost use Rattle.queue_state.specs.Queue.{state};
 ghost use Rattle.capi.specs.Fields.{fieldsOf, placesOf, queueOf, modesOf, sharedOf, exclusiveOf, keptOf, answerOf};
 use desk::Language;
-use lock_queue::Places;
-use lock_queue::Queue;
-use lock_queue::Waiting;
+use queue_state::Places;
+use queue_state::Queue;
+use queue_state::Waiting;
 use stamps::Pair;
 
 // The seven reply fields as numbers.

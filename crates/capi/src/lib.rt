@@ -13,7 +13,7 @@ ghost use Rattle.capi.specs.Fields.{fieldsOf, waiting, queueOf, modesOf,
 ghost use Rattle.capi.specs.Shown.{askedNumber, shownLength};
 ghost use Rattle.capi.specs.Places.{stands};
 use desk::Language;
-use lock_queue::Waiting;
+use queue_state::Waiting;
 use stamps::Pair;
 use stream::Next;
 

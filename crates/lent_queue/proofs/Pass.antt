@@ -31,7 +31,7 @@ use denote.Triple.Statement.{Contract, Triple}
 use denote.Triple.Call.{calls-at}
 use denote.Triple.Spec.{tripleOf}
 use denote.Triple.Clauses.{ensured, lasts}
-use Rattle.lock_queue.specs.Queue.{mostPlaces}
+use Rattle.queue_state.specs.Queue.{mostPlaces}
 use Rattle.lent_queue.proofs.lent.within as within
 use Rattle.lent_queue.proofs.lent.within.Symbol.{name as #within}
 

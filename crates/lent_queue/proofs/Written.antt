@@ -9,9 +9,9 @@ use mathlib.Core.Logic.{_⊎_, inl, inr}
 use lib.Dec.{T, ltb, ltb→lt, nltb→le}
 use lib.ListN.{length, getD, set}
 use mir.Facts.{and-yes, and-no}
-use Rattle.lock_queue.specs.Queue.{mostPlaces}
+use Rattle.queue_state.specs.Queue.{mostPlaces}
 use Rattle.lent_queue.specs.Slice.{written}
-use Rattle.lock_queue.specs.declared.Waiting.{Waiting}
+use Rattle.queue_state.specs.declared.Waiting.{Waiting}
 
 one-more : (i : ℕ) → i + 1 ≡ suc i
 one-more i = add-suc i zero ∙ ap suc (add-zero i)

@@ -4,9 +4,9 @@
 use Prim.Native.Nat.{ℕ, zero, suc}
 use mathlib.Core.List.{List, [], _∷_}
 use lib.ListN.{replicate}
-use Rattle.lock_queue.specs.Queue.{State, mostPlaces, noWaiting}
+use Rattle.queue_state.specs.Queue.{State, mostPlaces, noWaiting}
 use Rattle.lock_queue.specs.declared.Outcome.{Outcome}
-use Rattle.lock_queue.specs.declared.Waiting.{Waiting}
+use Rattle.queue_state.specs.declared.Waiting.{Waiting}
 use Rattle.lent_queue.specs.declared.Kept.{Kept}
 use Rattle.lent_queue.specs.declared.Reply.{Reply}
 

@@ -4,17 +4,17 @@ ghost use mathlib.Core.Bool.{_&&_};
 ghost use Prim.Native.Nat.{_<_};
 ghost use lib.Dec.{ltb};
 ghost use lib.ListN.{replicate, getD};
-ghost use Rattle.lock_queue.specs.Queue.{state, mostPlaces, noWaiting};
+ghost use Rattle.queue_state.specs.Queue.{state, mostPlaces, noWaiting};
 ghost use Rattle.lock_queue.specs.Requests.{asks, leaves, answer, after};
 ghost use Rattle.lent_queue.specs.Slice.{held, written, loaded, replyOf};
 use crate::Kept;
 use crate::Reply;
-use lock_queue::MOST_PLACES;
 use lock_queue::Outcome;
-use lock_queue::Places;
-use lock_queue::Queue;
-use lock_queue::Waiting;
-use lock_queue::inner;
+use queue_effects::inner;
+use queue_state::MOST_PLACES;
+use queue_state::Places;
+use queue_state::Queue;
+use queue_state::Waiting;
 use stamps::Pair;
 
 // Whether place i is lent, and one of the 32.

@@ -8,7 +8,7 @@ use lent::left;
 use lent::load;
 use lent::store;
 use lock_queue::Answer;
-use lock_queue::Waiting;
+use queue_state::Waiting;
 use stamps::Pair;
 
 mod lent;

@@ -1,5 +1,1 @@
-pub mod Array
-pub mod Standing
 pub mod Judged
-pub mod Removed
-pub mod Claims

@@ -5,11 +5,27 @@ use Prim.Native.Nat.{ℕ}
 use mathlib.Core.List.{List, [], _∷_}
 use mathlib.Core.Bool.{Bool, cond, not, _&&_, _||_}
 use lib.Dec.{eqb}
-use Rattle.stamps.specs.Stamp.{noPair}
 use Rattle.lists.specs.Table.{Row, row, first, settled}
-use Rattle.lock_queue.specs.Queue.{State, standing, desk, desks, stands, already, looked, holds, formed, good, denied, full, joined, without}
+use Rattle.stamps.specs.Stamp.{stale, noPair}
+use Rattle.stamps.specs.declared.Pair.{Pair}
+use Rattle.queue_state.specs.Queue.{State, standing, desk, desks, stands, looked, holds}
+use Rattle.queue_good.specs.Checks.{formed, good}
+use Rattle.queue_effects.specs.Effects.{joined, without}
 use Rattle.lock_queue.specs.declared.Answer.{Answer}
-use Rattle.lock_queue.specs.declared.Waiting.{Waiting}
+use Rattle.queue_state.specs.declared.Waiting.{Waiting}
+
+-- "Asking shared is denied if its x is below the largest x; asking exclusive, if s or x is below its largest": as a command is stale. Minuet:
+-- UpgradeDenied.
+abbrev pub denied : Pair → Waiting → Bool
+denied largest new = stale (new .mode) largest (new .pair)
+
+-- "Full, exactly when count equals length".
+abbrev pub full : ℕ → ℕ → Bool
+full lent count = eqb count lent
+
+-- "This desk and start already stands". The mode that is asked for makes no difference.
+abbrev pub already : ℕ → ℕ → List ℕ → Bool
+already mode d es = stands d es
 
 -- The order for asking.
 abbrev pub asking : ℕ → State → Waiting → List Row

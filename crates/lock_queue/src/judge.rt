@@ -1,35 +1,19 @@
 ghost use mathlib.Core.Path.{_≡_};
 ghost use Prim.Native.Nat.{_≤_};
 ghost use lib.ListN.{take};
-ghost use Rattle.lock_queue.specs.Queue.{state, mostPlaces, desks, already, good, full};
-ghost use Rattle.lock_queue.specs.Requests.{asks, leaves, number};
-use crate::MOST_PLACES;
-use crate::Places;
-use crate::Queue;
-use crate::Waiting;
-use crate::inner;
-
-// Whether the queue is not bad.
-fn good(queue: Queue, lent: usize) -> bool
-    ensures { λ r. ⌜ r ≡ good lent (state queue) ⌝ }
-{
-    let count = queue.count;
-    if !((1 <= lent) & (lent <= MOST_PLACES) & (count <= lent)) {
-        return false;
-    }
-    let largest = queue.largest;
-    let stood = queue.places;
-    stamps::stamp_valid(largest.s)
-        & stamps::stamp_valid(largest.x)
-        & inner::entries_good(stood, count, largest)
-}
+ghost use Rattle.queue_state.specs.Queue.{state, mostPlaces, desks};
+ghost use Rattle.lock_queue.specs.Requests.{already, full, asks, leaves, number};
+use queue_state::Places;
+use queue_state::Queue;
+use queue_state::Waiting;
+use queue_state::inner::stands;
 
 // Number 12's test. The mode makes no difference.
 fn already(mode: u8, places: Places, count: usize, desk: u32) -> bool
     requires { ⌜ count ≤ mostPlaces ⌝ }
     ensures { λ r. ⌜ r ≡ already mode desk (desks (take count (places .at))) ⌝ }
 {
-    inner::stands(places, count, desk)
+    stands(places, count, desk)
 }
 
 // Number 13's test.
@@ -43,7 +27,7 @@ fn full(lent: usize, count: usize) -> bool
 pub fn ask_number(queue: Queue, lent: usize, new: Waiting) -> u8
     ensures { λ r. ⌜ r ≡ number lent (state queue) (asks new) ⌝ }
 {
-    if !good(queue, lent) {
+    if !queue_good::good(queue, lent) {
         return 10;
     }
     let pair = new.pair;
@@ -73,11 +57,11 @@ pub fn ask_number(queue: Queue, lent: usize, new: Waiting) -> u8
 pub fn leave_number(queue: Queue, lent: usize, desk: u32) -> u8
     ensures { λ r. ⌜ r ≡ number lent (state queue) (leaves desk) ⌝ }
 {
-    if !good(queue, lent) {
+    if !queue_good::good(queue, lent) {
         return 10;
     }
     let stood = queue.places;
-    if !inner::stands(stood, queue.count, desk) {
+    if !stands(stood, queue.count, desk) {
         return 15;
     }
     0

@@ -4,10 +4,12 @@ use Prim.Native.Nat.{ℕ, _+_, _*_}
 use borrow.Author.Tests.{eq-eqb}
 use Rattle.lists.specs.Parts.{table}
 use Rattle.lists.specs.Tests.{all, allFrom}
-use Rattle.lock_queue.specs.Queue.{mostPlaces, stands, distinct, good, joined, removed, without}
+use Rattle.queue_state.specs.Queue.{mostPlaces, stands}
+use Rattle.queue_good.specs.Checks.{distinct, good}
+use Rattle.queue_effects.specs.Effects.{joined, removed, without}
 use Rattle.lock_queue.specs.Requests.{asks, leaves, number, after}
-use Rattle.lock_queue.specs.Trials.{guest, crowded}
-use Rattle.lock_queue.specs.declared.Waiting.{Waiting}
+use Rattle.queue_claims.specs.Trials.{guest, crowded}
+use Rattle.queue_state.specs.declared.Waiting.{Waiting}
 use borrow.Author.Needs.{needs}
 use Rattle.queue_test.proofs.main.Statement.{statement}
 use Rattle.queue_test.proofs.main.Tie as tie

@@ -2,11 +2,11 @@
 use mathlib.Core.Path.{_≡_, ap, _∙_}
 use Prim.Native.Nat.{ℕ, _+_, _*_}
 use mathlib.Core.List.{List}
-use Rattle.lock_queue.specs.Queue.{State, mostPlaces}
+use Rattle.queue_state.specs.Queue.{State, mostPlaces}
 use Rattle.lock_queue.specs.Requests.{asks, leaves, answered, number, answer, after}
-use Rattle.lock_queue.specs.Trials.{guest, crowded}
+use Rattle.queue_claims.specs.Trials.{guest, crowded}
 use Rattle.lock_queue.specs.declared.Answer.{Answer}
-use Rattle.lock_queue.specs.declared.Waiting.{Waiting}
+use Rattle.queue_state.specs.declared.Waiting.{Waiting}
 use Rattle.lent_queue.specs.Slice.{held}
 use Rattle.lent_queue.specs.declared.Kept.{Kept}
 use Rattle.queue_test.specs.declared.Turn.{Turn}

@@ -50,16 +50,16 @@ use denote.Triple.Table.{entered, cited}
 use denote.Triple.Walked.{says, Stays, stay-none-slice, walkOf, goes-none-slice, Walks, ends-at, walked, walk-meets}
 use denote.Exit.{yes}
 use denote.Triple.Clauses.{ensured, lasts}
-use Rattle.lock_queue.specs.Queue.{mostPlaces, noWaiting}
+use Rattle.queue_state.specs.Queue.{mostPlaces, noWaiting}
 use Rattle.lent_queue.specs.Slice.{written, loaded}
-use Rattle.lock_queue.specs.declared.Waiting.{Waiting}
-use Rattle.lock_queue.specs.declared.Places.{Places}
+use Rattle.queue_state.specs.declared.Waiting.{Waiting}
+use Rattle.queue_state.specs.declared.Places.{Places}
 use Rattle.lent_queue.proofs.Pass.{Within, stands-for, tests}
 use Rattle.lent_queue.proofs.Written.{written-none, written-next, written-done, goes, stops}
-use Rattle.lock_queue.proofs.Waiting as T
-use Rattle.lock_queue.proofs.Waiting.Laws as T′
-use Rattle.lock_queue.proofs.Places as P
-use Rattle.lock_queue.proofs.Places.Laws as P′
+use Rattle.queue_state.proofs.Waiting as T
+use Rattle.queue_state.proofs.Waiting.Laws as T′
+use Rattle.queue_state.proofs.Places as P
+use Rattle.queue_state.proofs.Places.Laws as P′
 use Rattle.lent_queue.proofs.lent.empty as empty
 use Rattle.lent_queue.proofs.lent.empty.Symbol as empty-def
 use Rattle.lent_queue.proofs.lent.empty.Symbol.{name as #empty}
@@ -67,10 +67,10 @@ use Rattle.lent_queue.proofs.lent.empty.Met as empty-thm
 use Rattle.lent_queue.proofs.lent.within.Symbol as within-def
 use Rattle.lent_queue.proofs.lent.within.Symbol.{name as #within}
 use Rattle.lent_queue.proofs.lent.within.Met as within-thm
-use Rattle.lock_queue.proofs.inner.put as put
-use Rattle.lock_queue.proofs.inner.put.Symbol as put-def
-use Rattle.lock_queue.proofs.inner.put.Symbol.{name as #put}
-use Rattle.lock_queue.proofs.inner.put.Met as put-thm
+use Rattle.queue_effects.proofs.inner.put as put
+use Rattle.queue_effects.proofs.inner.put.Symbol as put-def
+use Rattle.queue_effects.proofs.inner.put.Symbol.{name as #put}
+use Rattle.queue_effects.proofs.inner.put.Met as put-thm
 use Rattle.lent_queue.proofs.lent.load.Key.{name as #load}
 use Rattle.lent_queue.proofs.lent.load as load′
 use Rattle.lent_queue.proofs.lent.load.Statement as stated
@@ -316,4 +316,4 @@ load-spec 𝓤 H 𝓜 𝓖 𝓡 =
     (load-meets 𝓤 H (𝓖 .A) (givenOf 𝓤 H 𝓜 𝓖) (𝓜 .mem) (𝓡 .run) (tablesOf 𝓤 H 𝓜 (tables 𝓤 H 𝓜 𝓡 code.env))
     (cited 𝓤 H (Empty 𝓤 H (𝓖 .A) (𝓜 .mem) (𝓡 .run)) 𝓜 𝓡 code.env #empty empty-def.routine code.calls-lent-queue·lent·empty (empty-thm.met 𝓤 H 𝓜 𝓖 𝓡))
     (cited 𝓤 H (Within 𝓤 H (𝓖 .A) (𝓜 .mem) (𝓡 .run)) 𝓜 𝓡 code.env #within within-def.routine code.calls-lent-queue·lent·within (within-thm.met 𝓤 H 𝓜 𝓖 𝓡))
-    (cited 𝓤 H (Put 𝓤 H (𝓖 .A) (𝓜 .mem) (𝓡 .run)) 𝓜 𝓡 code.env #put put-def.routine code.calls-lock-queue·inner·put (put-thm.met 𝓤 H 𝓜 𝓖 𝓡)))
+    (cited 𝓤 H (Put 𝓤 H (𝓖 .A) (𝓜 .mem) (𝓡 .run)) 𝓜 𝓡 code.env #put put-def.routine code.calls-queue-effects·inner·put (put-thm.met 𝓤 H 𝓜 𝓖 𝓡)))

@@ -53,15 +53,15 @@ use denote.Triple.Table.{entered, cited}
 use denote.Triple.Walked.{says, Stays, stay-slice, stay-none, walkOf, goes-slice, goes-none, Walks, ends-at, walked, walk-meets}
 use denote.Exit.{yes}
 use denote.Triple.Clauses.{ensured, lasts}
-use Rattle.lock_queue.specs.Queue.{mostPlaces, noWaiting}
+use Rattle.queue_state.specs.Queue.{mostPlaces, noWaiting}
 use Rattle.lent_queue.specs.Slice.{written, replyOf}
-use Rattle.lock_queue.specs.declared.Waiting.{Waiting}
+use Rattle.queue_state.specs.declared.Waiting.{Waiting}
 use Rattle.lock_queue.specs.declared.Outcome.{Outcome}
 use Rattle.lent_queue.specs.declared.Reply.{Reply}
 use Rattle.lent_queue.proofs.Pass.{Within, stands-for, tests}
 use Rattle.lent_queue.proofs.Written.{written-none, written-next, written-done, written-length, goes, stops}
-use Rattle.lock_queue.proofs.Waiting as T
-use Rattle.lock_queue.proofs.Waiting.Laws as T′
+use Rattle.queue_state.proofs.Waiting as T
+use Rattle.queue_state.proofs.Waiting.Laws as T′
 use Rattle.lock_queue.proofs.Outcome as O
 use Rattle.lock_queue.proofs.Outcome.Laws as O′
 use Rattle.lent_queue.proofs.Reply as Y

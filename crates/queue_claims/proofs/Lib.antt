@@ -1,0 +1,2 @@
+pub mod Removed
+pub mod Claims

@@ -1,0 +1,1 @@
+// What is claimed of the lock queue, and trial n: definitions in specs/, theorems in proofs/. There is no code here.
