@@ -42,8 +42,10 @@ pub record Front (input : List ℕ) : Type 0 where
   pub within : claimed input ≤ length input
   pub small : claimed input ≤ mostBytes
   pub room : roomOf input ≤ mostRoom
+  pub sounds : sound (take (claimed input) input) ≡ true
+  pub same : roomOf (take (claimed input) input) ≡ roomOf input
 
-good-front : (input : List ℕ) → goodStore input ≡ true → Front input
+pub good-front : (input : List ℕ) → goodStore input ≡ true → Front input
 unfolding goodStore
 good-front input e =
     let ab = and-left (leb headerSize (length input) && leb (claimed input) (length input)) (sound (take (claimed input) input)) e in
@@ -59,6 +61,8 @@ good-front input e =
       within = b;
       small = rw (n, r) at (w .size);
       room = rw r at (w .most);
+      sounds = s;
+      same = r;
     }
 
 pub front : (input : List ℕ) → (storeSize input ≡ 0 → ⊥) → Front input

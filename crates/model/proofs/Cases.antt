@@ -27,7 +27,7 @@ module _ (start : List ℕ) (s : Sent) where
   abbrev next : List ℕ
   next = serve start (s .command) (s .lent) .image
 
-  image-first : (l : List Sent) → imageAfter start (l ++ (s ∷ [])) ≡ imageAfter next l
+  pub image-first : (l : List Sent) → imageAfter start (l ++ (s ∷ [])) ≡ imageAfter next l
   unfolding imageAfter
   image-first [] = refl
   image-first (a ∷ l) = ap (λ (i : List ℕ). serve i (a .command) (a .lent) .image) (image-first l)

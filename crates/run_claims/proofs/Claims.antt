@@ -10,6 +10,8 @@ use Rattle.model.specs.Serve.{serve}
 use Rattle.lines.specs.Lines.{numbersOf, perLine}
 use Rattle.runs.specs.Run.{runs}
 use Rattle.run_claims.specs.Claims.{Claims}
+use Rattle.run_claims.proofs.Log.{logs}
+use Rattle.run_claims.proofs.Served.{guarded, serves}
 use Rattle.lines.proofs.Lines.{per-line}
 
 one-each : (image reply : List ℕ) (cs : List (List ℕ)) → length (runs image reply cs .answers) ≡ length cs
@@ -33,4 +35,7 @@ claims =
             each = each image reply cs;
             lines = λ i none h. part-spread numbersOf perLine per-line (runs image reply cs .answers) i none (rw (one-each image reply cs) h);
           };
+      logs = logs;
+      guarded = guarded;
+      serves = serves;
     }

@@ -1,1 +1,3 @@
+pub mod Log
+pub mod Served
 pub mod Claims
