@@ -4,9 +4,9 @@ ghost use Prim.Native.Nat.{_*_, _+_};
 ghost use Rattle.queue_state.specs.Queue.{mostPlaces};
 ghost use Rattle.lock_queue.specs.Requests.{asks, leaves, number, answer, after};
 ghost use Rattle.queue_claims.specs.Trials.{guest, crowded};
-ghost use Rattle.lent_queue.specs.Slice.{held};
-use lent_queue::Kept;
-use lent_queue::Reply;
+ghost use Rattle.lent_places.specs.Slice.{held};
+use lent_places::Kept;
+use lent_places::Reply;
 use queue_state::Waiting;
 use stamps::Pair;
 

@@ -10,8 +10,8 @@ use Rattle.lists.proofs.Spread.{getD-table}
 use Rattle.queue_state.specs.Queue.{mostPlaces}
 use Rattle.queue_claims.specs.Trials.{guest, crowded}
 use Rattle.queue_state.specs.declared.Waiting.{Waiting}
-use Rattle.lent_queue.specs.Slice.{written}
-use Rattle.lent_queue.proofs.Written.{written-none, written-next}
+use Rattle.lent_places.specs.Slice.{written}
+use Rattle.lent_places.proofs.Written.{written-none, written-next}
 use Rattle.queue_test.proofs.crowd.Statement.{statement}
 use Rattle.queue_test.proofs.crowd.Tie as tie
 

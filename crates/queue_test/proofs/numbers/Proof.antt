@@ -7,8 +7,8 @@ use Rattle.lock_queue.specs.Requests.{asks, leaves, answered, number, answer, a
 use Rattle.queue_claims.specs.Trials.{guest, crowded}
 use Rattle.lock_queue.specs.declared.Answer.{Answer}
 use Rattle.queue_state.specs.declared.Waiting.{Waiting}
-use Rattle.lent_queue.specs.Slice.{held}
-use Rattle.lent_queue.specs.declared.Kept.{Kept}
+use Rattle.lent_places.specs.Slice.{held}
+use Rattle.lent_places.specs.declared.Kept.{Kept}
 use Rattle.queue_test.specs.declared.Turn.{Turn}
 use borrow.Author.Needs.{needs}
 use Rattle.queue_test.proofs.numbers.Statement.{statement}

@@ -1,4 +1,4 @@
--- `lent_queue::lent::load` meets its contract: a walk of its MIR, by hand. The lent slice is looked into once for each place, and the entry found there is put into places by value by `put`.
+-- `lent_places::inner::load` meets its contract: a walk of its MIR, by hand. The lent slice is looked into once for each place, and the entry found there is put into places by value by `put`.
 -- All that the proof knows of `empty`, `within` and `put` is that each meets its contract.
 --     Place, At     the loop's invariant: how many places are loaded, that their machine value is typed, and the memory there
 --     more          a turn from where `within` has answered yes: one more place is loaded
@@ -51,30 +51,30 @@ use denote.Triple.Walked.{says, Stays, stay-none-slice, walkOf, goes-none-slice,
 use denote.Exit.{yes}
 use denote.Triple.Clauses.{ensured, lasts}
 use Rattle.queue_state.specs.Queue.{mostPlaces, noWaiting}
-use Rattle.lent_queue.specs.Slice.{written, loaded}
+use Rattle.lent_places.specs.Slice.{written, loaded}
 use Rattle.queue_state.specs.declared.Waiting.{Waiting}
 use Rattle.queue_state.specs.declared.Places.{Places}
-use Rattle.lent_queue.proofs.Pass.{Within, stands-for, tests}
-use Rattle.lent_queue.proofs.Written.{written-none, written-next, written-done, goes, stops}
+use Rattle.lent_places.proofs.Pass.{Within, stands-for, tests}
+use Rattle.lent_places.proofs.Written.{written-none, written-next, written-done, goes, stops}
 use Rattle.queue_state.proofs.Waiting as T
 use Rattle.queue_state.proofs.Waiting.Laws as T′
 use Rattle.queue_state.proofs.Places as P
 use Rattle.queue_state.proofs.Places.Laws as P′
-use Rattle.lent_queue.proofs.lent.empty as empty
-use Rattle.lent_queue.proofs.lent.empty.Symbol as empty-def
-use Rattle.lent_queue.proofs.lent.empty.Symbol.{name as #empty}
-use Rattle.lent_queue.proofs.lent.empty.Met as empty-thm
-use Rattle.lent_queue.proofs.lent.within.Symbol as within-def
-use Rattle.lent_queue.proofs.lent.within.Symbol.{name as #within}
-use Rattle.lent_queue.proofs.lent.within.Met as within-thm
+use Rattle.lent_places.proofs.inner.empty as empty
+use Rattle.lent_places.proofs.inner.empty.Symbol as empty-def
+use Rattle.lent_places.proofs.inner.empty.Symbol.{name as #empty}
+use Rattle.lent_places.proofs.inner.empty.Met as empty-thm
+use Rattle.lent_places.proofs.inner.within.Symbol as within-def
+use Rattle.lent_places.proofs.inner.within.Symbol.{name as #within}
+use Rattle.lent_places.proofs.inner.within.Met as within-thm
 use Rattle.queue_effects.proofs.inner.put as put
 use Rattle.queue_effects.proofs.inner.put.Symbol as put-def
 use Rattle.queue_effects.proofs.inner.put.Symbol.{name as #put}
 use Rattle.queue_effects.proofs.inner.put.Met as put-thm
-use Rattle.lent_queue.proofs.lent.load.Key.{name as #load}
-use Rattle.lent_queue.proofs.lent.load as load′
-use Rattle.lent_queue.proofs.lent.load.Statement as stated
-use Rattle.lent_queue.proofs.lent.load.Code as code
+use Rattle.lent_places.proofs.inner.load.Key.{name as #load}
+use Rattle.lent_places.proofs.inner.load as load′
+use Rattle.lent_places.proofs.inner.load.Statement as stated
+use Rattle.lent_places.proofs.inner.load.Code as code
 
 abbrev stayed : Stays (load′.ended .signature .params) (load′.ended .kept)
 stayed = (stay-none-slice (0 ∷ []) tt (plain (λ _. T.the-row)) yes, tt)
@@ -314,6 +314,6 @@ load-spec 𝓤 H 𝓜 𝓖 𝓡 =
     entered 𝓤 H (tripleOf 𝓤 H (𝓖 .A) load′.signature (load′.spec 𝓤 H (𝓖 .A) (𝓜 .mem) (𝓡 .run)))
     (tables 𝓤 H 𝓜 𝓡 code.env .C) (tables 𝓤 H 𝓜 𝓡 code.env .Λ) #load code.function (code.unfolded 𝓤 H 𝓜 𝓡)
     (load-meets 𝓤 H (𝓖 .A) (givenOf 𝓤 H 𝓜 𝓖) (𝓜 .mem) (𝓡 .run) (tablesOf 𝓤 H 𝓜 (tables 𝓤 H 𝓜 𝓡 code.env))
-    (cited 𝓤 H (Empty 𝓤 H (𝓖 .A) (𝓜 .mem) (𝓡 .run)) 𝓜 𝓡 code.env #empty empty-def.routine code.calls-lent-queue·lent·empty (empty-thm.met 𝓤 H 𝓜 𝓖 𝓡))
-    (cited 𝓤 H (Within 𝓤 H (𝓖 .A) (𝓜 .mem) (𝓡 .run)) 𝓜 𝓡 code.env #within within-def.routine code.calls-lent-queue·lent·within (within-thm.met 𝓤 H 𝓜 𝓖 𝓡))
+    (cited 𝓤 H (Empty 𝓤 H (𝓖 .A) (𝓜 .mem) (𝓡 .run)) 𝓜 𝓡 code.env #empty empty-def.routine code.calls-lent-places·inner·empty (empty-thm.met 𝓤 H 𝓜 𝓖 𝓡))
+    (cited 𝓤 H (Within 𝓤 H (𝓖 .A) (𝓜 .mem) (𝓡 .run)) 𝓜 𝓡 code.env #within within-def.routine code.calls-lent-places·inner·within (within-thm.met 𝓤 H 𝓜 𝓖 𝓡))
     (cited 𝓤 H (Put 𝓤 H (𝓖 .A) (𝓜 .mem) (𝓡 .run)) 𝓜 𝓡 code.env #put put-def.routine code.calls-queue-effects·inner·put (put-thm.met 𝓤 H 𝓜 𝓖 𝓡)))

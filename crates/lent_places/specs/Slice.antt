@@ -7,8 +7,8 @@ use lib.ListN.{replicate}
 use Rattle.queue_state.specs.Queue.{State, mostPlaces, noWaiting}
 use Rattle.lock_queue.specs.declared.Outcome.{Outcome}
 use Rattle.queue_state.specs.declared.Waiting.{Waiting}
-use Rattle.lent_queue.specs.declared.Kept.{Kept}
-use Rattle.lent_queue.specs.declared.Reply.{Reply}
+use Rattle.lent_places.specs.declared.Kept.{Kept}
+use Rattle.lent_places.specs.declared.Reply.{Reply}
 
 -- The state of a queue whose places are lent.
 abbrev pub held : List Waiting → Kept → State

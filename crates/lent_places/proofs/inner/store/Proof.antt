@@ -1,4 +1,4 @@
--- `lent_queue::lent::store` meets its contract: a walk of its MIR, by hand. For each place the entry is read by `entry`, the lent slice is opened, the entry is stored there, and the slice is closed again.
+-- `lent_places::inner::store` meets its contract: a walk of its MIR, by hand. For each place the entry is read by `entry`, the lent slice is opened, the entry is stored there, and the slice is closed again.
 -- All that the proof knows of `within`, `entry` and `replied` is that each meets its contract.
 --     Place, At     the loop's invariant: how many places are written, and the memory there. The lent list is then the outcome's first entries over the list passed
 --     more          a turn from where `within` has answered yes: one more place is written
@@ -54,33 +54,33 @@ use denote.Triple.Walked.{says, Stays, stay-slice, stay-none, walkOf, goes-slice
 use denote.Exit.{yes}
 use denote.Triple.Clauses.{ensured, lasts}
 use Rattle.queue_state.specs.Queue.{mostPlaces, noWaiting}
-use Rattle.lent_queue.specs.Slice.{written, replyOf}
+use Rattle.lent_places.specs.Slice.{written, replyOf}
 use Rattle.queue_state.specs.declared.Waiting.{Waiting}
 use Rattle.lock_queue.specs.declared.Outcome.{Outcome}
-use Rattle.lent_queue.specs.declared.Reply.{Reply}
-use Rattle.lent_queue.proofs.Pass.{Within, stands-for, tests}
-use Rattle.lent_queue.proofs.Written.{written-none, written-next, written-done, written-length, goes, stops}
+use Rattle.lent_places.specs.declared.Reply.{Reply}
+use Rattle.lent_places.proofs.Pass.{Within, stands-for, tests}
+use Rattle.lent_places.proofs.Written.{written-none, written-next, written-done, written-length, goes, stops}
 use Rattle.queue_state.proofs.Waiting as T
 use Rattle.queue_state.proofs.Waiting.Laws as T′
 use Rattle.lock_queue.proofs.Outcome as O
 use Rattle.lock_queue.proofs.Outcome.Laws as O′
-use Rattle.lent_queue.proofs.Reply as Y
-use Rattle.lent_queue.proofs.Reply.Laws as Y′
-use Rattle.lent_queue.proofs.lent.entry as entry
-use Rattle.lent_queue.proofs.lent.entry.Symbol as entry-def
-use Rattle.lent_queue.proofs.lent.entry.Symbol.{name as #entry}
-use Rattle.lent_queue.proofs.lent.entry.Met as entry-thm
-use Rattle.lent_queue.proofs.lent.within.Symbol as within-def
-use Rattle.lent_queue.proofs.lent.within.Symbol.{name as #within}
-use Rattle.lent_queue.proofs.lent.within.Met as within-thm
-use Rattle.lent_queue.proofs.lent.replied as replied
-use Rattle.lent_queue.proofs.lent.replied.Symbol as replied-def
-use Rattle.lent_queue.proofs.lent.replied.Symbol.{name as #replied}
-use Rattle.lent_queue.proofs.lent.replied.Met as replied-thm
-use Rattle.lent_queue.proofs.lent.store.Key.{name as #store}
-use Rattle.lent_queue.proofs.lent.store as store′
-use Rattle.lent_queue.proofs.lent.store.Statement as stated
-use Rattle.lent_queue.proofs.lent.store.Code as code
+use Rattle.lent_places.proofs.Reply as Y
+use Rattle.lent_places.proofs.Reply.Laws as Y′
+use Rattle.lent_places.proofs.inner.entry as entry
+use Rattle.lent_places.proofs.inner.entry.Symbol as entry-def
+use Rattle.lent_places.proofs.inner.entry.Symbol.{name as #entry}
+use Rattle.lent_places.proofs.inner.entry.Met as entry-thm
+use Rattle.lent_places.proofs.inner.within.Symbol as within-def
+use Rattle.lent_places.proofs.inner.within.Symbol.{name as #within}
+use Rattle.lent_places.proofs.inner.within.Met as within-thm
+use Rattle.lent_places.proofs.inner.replied as replied
+use Rattle.lent_places.proofs.inner.replied.Symbol as replied-def
+use Rattle.lent_places.proofs.inner.replied.Symbol.{name as #replied}
+use Rattle.lent_places.proofs.inner.replied.Met as replied-thm
+use Rattle.lent_places.proofs.inner.store.Key.{name as #store}
+use Rattle.lent_places.proofs.inner.store as store′
+use Rattle.lent_places.proofs.inner.store.Statement as stated
+use Rattle.lent_places.proofs.inner.store.Code as code
 
 abbrev stayed : Stays (store′.ended .signature .params) (store′.ended .kept)
 stayed = (stay-slice (0 ∷ []) tt (plain (λ _. T.the-row)), (stay-none (λ _. O.the-row) yes, tt))
@@ -337,6 +337,6 @@ store-spec 𝓤 H 𝓜 𝓖 𝓡 =
     entered 𝓤 H (tripleOf 𝓤 H (𝓖 .A) store′.signature (store′.spec 𝓤 H (𝓖 .A) (𝓜 .mem) (𝓡 .run)))
     (tables 𝓤 H 𝓜 𝓡 code.env .C) (tables 𝓤 H 𝓜 𝓡 code.env .Λ) #store code.function (code.unfolded 𝓤 H 𝓜 𝓡)
     (store-meets 𝓤 H (𝓖 .A) (givenOf 𝓤 H 𝓜 𝓖) (𝓜 .mem) (𝓡 .run) (tablesOf 𝓤 H 𝓜 (tables 𝓤 H 𝓜 𝓡 code.env))
-    (cited 𝓤 H (Entry 𝓤 H (𝓖 .A) (𝓜 .mem) (𝓡 .run)) 𝓜 𝓡 code.env #entry entry-def.routine code.calls-lent-queue·lent·entry (entry-thm.met 𝓤 H 𝓜 𝓖 𝓡))
-    (cited 𝓤 H (Within 𝓤 H (𝓖 .A) (𝓜 .mem) (𝓡 .run)) 𝓜 𝓡 code.env #within within-def.routine code.calls-lent-queue·lent·within (within-thm.met 𝓤 H 𝓜 𝓖 𝓡))
-    (cited 𝓤 H (Replied 𝓤 H (𝓖 .A) (𝓜 .mem) (𝓡 .run)) 𝓜 𝓡 code.env #replied replied-def.routine code.calls-lent-queue·lent·replied (replied-thm.met 𝓤 H 𝓜 𝓖 𝓡)))
+    (cited 𝓤 H (Entry 𝓤 H (𝓖 .A) (𝓜 .mem) (𝓡 .run)) 𝓜 𝓡 code.env #entry entry-def.routine code.calls-lent-places·inner·entry (entry-thm.met 𝓤 H 𝓜 𝓖 𝓡))
+    (cited 𝓤 H (Within 𝓤 H (𝓖 .A) (𝓜 .mem) (𝓡 .run)) 𝓜 𝓡 code.env #within within-def.routine code.calls-lent-places·inner·within (within-thm.met 𝓤 H 𝓜 𝓖 𝓡))
+    (cited 𝓤 H (Replied 𝓤 H (𝓖 .A) (𝓜 .mem) (𝓡 .run)) 𝓜 𝓡 code.env #replied replied-def.routine code.calls-lent-places·inner·replied (replied-thm.met 𝓤 H 𝓜 𝓖 𝓡)))

@@ -32,8 +32,8 @@ use denote.Triple.Call.{calls-at}
 use denote.Triple.Spec.{tripleOf}
 use denote.Triple.Clauses.{ensured, lasts}
 use Rattle.queue_state.specs.Queue.{mostPlaces}
-use Rattle.lent_queue.proofs.lent.within as within
-use Rattle.lent_queue.proofs.lent.within.Symbol.{name as #within}
+use Rattle.lent_places.proofs.inner.within as within
+use Rattle.lent_places.proofs.inner.within.Symbol.{name as #within}
 
 pub stands-for : (D : Declared) (L : LL.Laws D) (d r : D .D) (u : Val) → r ≡ d → Is (row D) r (u ∷ []) → (u ≡ LL.val D L d) × Is (row D) d (LL.vals D L d)
 stands-for D L d r u e is = (ap only told, subst (Is (row D) d) told here)

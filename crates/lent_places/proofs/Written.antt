@@ -10,7 +10,7 @@ use lib.Dec.{T, ltb, ltb→lt, nltb→le}
 use lib.ListN.{length, getD, set}
 use mir.Facts.{and-yes, and-no}
 use Rattle.queue_state.specs.Queue.{mostPlaces}
-use Rattle.lent_queue.specs.Slice.{written}
+use Rattle.lent_places.specs.Slice.{written}
 use Rattle.queue_state.specs.declared.Waiting.{Waiting}
 
 one-more : (i : ℕ) → i + 1 ≡ suc i
