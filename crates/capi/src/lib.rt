@@ -3,21 +3,17 @@
 ghost use mathlib.Core.Path.{_≡_};
 ghost use lib.ListN.{length};
 ghost use Rattle.lists.specs.Table.{settled};
-ghost use Rattle.image.specs.Image.{sound};
-ghost use Rattle.fresh.specs.Fresh.{makeNumber, fresh};
+ghost use Rattle.image.specs.Image.{sound, makeNumber, fresh};
 ghost use Rattle.model.specs.Serve.{serve};
 ghost use Rattle.lock_queue.specs.Requests.{Request, answer, after};
 ghost use Rattle.desk.specs.Show.{text};
 ghost use Rattle.stream.specs.Stream.{nextAt, endOf, onward};
-ghost use Rattle.capi.specs.Fields.{fieldsOf, waiting, queueOf, modesOf, sharedOf, exclusiveOf, keptOf, answerOf};
-ghost use Rattle.capi.specs.Shown.{askedNumber, shownLength};
+ghost use Rattle.marshal.specs.Fields.{fieldsOf};
+ghost use Rattle.marshal.specs.Shown.{askedNumber, shownLength};
+ghost use Rattle.queue_columns.specs.Columns.{waiting, modesOf, sharedOf, exclusiveOf};
+ghost use Rattle.array_queue.specs.Arrays.{queueOf, keptOf, answerOf};
 ghost use Rattle.capi.specs.Places.{stands};
-use desk::Language;
-use queue_state::Waiting;
-use stamps::Pair;
 use stream::Next;
-
-mod inner;
 
 // Makes a fresh image of `cards` cards with room `room`: 0, or 14 and nothing written.
 #[no_mangle]
@@ -26,7 +22,7 @@ pub extern "C" fn lupaniele_make(image: &mut [u8], cards: u64, room: u64) -> u8
     ensures bytes { λ _. ⌜ now (image .exit)
         ≡ settled (makeNumber cards room (length (now (image .entry)))) (fresh cards room) (now (image .entry)) ⌝ }
 {
-    fresh::make(image, cards as usize, room as usize)
+    image::make(image, cards as usize, room as usize)
 }
 
 // Whether the lent bytes are a sound image.
@@ -51,9 +47,7 @@ pub extern "C" fn lupaniele_answer(
     ensures image { λ _. ⌜ now (image .exit) ≡ serve (now (image .entry)) (now (command .entry)) (now (reply .entry)) .image ⌝ }
     ensures reply { λ _. ⌜ now (reply .exit) ≡ serve (now (image .entry)) (now (command .entry)) (now (reply .entry)) .reply ⌝ }
 {
-    let served = store::answer(image, command, reply);
-    inner::write_fields(fields, served);
-    served.number
+    marshal::inner::answer(image, command, reply, fields)
 }
 
 // A desk asks for the lock of one card. The queue is three arrays, with the mode, the s and the x of each place, of which the first `places`
@@ -78,20 +72,7 @@ pub extern "C" fn lupaniele_ask(
     ensures x { λ _. ⌜ now (x .exit) ≡ exclusiveOf (after places (queueOf (now (modes .entry)) (now (s .entry)) (now (x .entry)) (now (kept .entry))) (Request.asks (waiting mode «asked_s» «asked_x»)) .places) ⌝ }
     ensures kept { λ _. ⌜ now (kept .exit) ≡ keptOf (after places (queueOf (now (modes .entry)) (now (s .entry)) (now (x .entry)) (now (kept .entry))) (Request.asks (waiting mode «asked_s» «asked_x»))) ⌝ }
 {
-    let queue = inner::load(modes, s, x, kept);
-    let new = Waiting {
-        mode,
-        pair: Pair {
-            s: asked_s,
-            x: asked_x,
-        },
-    };
-    let outcome = lock_queue::ask(queue, places as usize, new);
-    let left = outcome.queue;
-    inner::store(modes, s, x, kept, left);
-    let given = outcome.answer;
-    inner::write_answer(fields, given);
-    given.number
+    array_queue::inner::ask(modes, s, x, kept, places, mode, asked_s, asked_x, fields)
 }
 
 // The desk and start `desk` leaves the queue. Everything else is as for asking.
@@ -112,13 +93,7 @@ pub extern "C" fn lupaniele_leave(
     ensures x { λ _. ⌜ now (x .exit) ≡ exclusiveOf (after places (queueOf (now (modes .entry)) (now (s .entry)) (now (x .entry)) (now (kept .entry))) (Request.leaves desk) .places) ⌝ }
     ensures kept { λ _. ⌜ now (kept .exit) ≡ keptOf (after places (queueOf (now (modes .entry)) (now (s .entry)) (now (x .entry)) (now (kept .entry))) (Request.leaves desk)) ⌝ }
 {
-    let queue = inner::load(modes, s, x, kept);
-    let outcome = lock_queue::leave(queue, places as usize, desk);
-    let rest = outcome.queue;
-    inner::store(modes, s, x, kept, rest);
-    let given = outcome.answer;
-    inner::write_answer(fields, given);
-    given.number
+    array_queue::inner::leave(modes, s, x, kept, places, desk, fields)
 }
 
 // The text that a desk shows, all at its own word: 0, and in `count` how many first bytes of the buffer asked for are the text; or a number
@@ -137,35 +112,16 @@ pub extern "C" fn lupaniele_shown<'a>(
     ensures number { λ r. ⌜ r ≡ askedNumber (text (now (original .entry)) «original_length») (text (now (translation .entry)) «translation_length») edition from asked ⌝ }
     ensures count { λ _. ⌜ now (count .exit) ≡ shownLength (text (now (original .entry)) «original_length») (text (now (translation .entry)) «translation_length») edition from asked ⌝ }
 {
-    let mut number: u8 = 0;
-    if asked == 0 {
-        *count = inner::length_shown(
-            original,
-            translation,
-            original_length,
-            translation_length,
-            edition,
-            from,
-            Language::Original,
-            &mut number,
-        );
-        return number;
-    }
-    if asked == 1 {
-        *count = inner::length_shown(
-            original,
-            translation,
-            original_length,
-            translation_length,
-            edition,
-            from,
-            Language::Translation,
-            &mut number,
-        );
-        return number;
-    }
-    *count = 0;
-    1
+    marshal::inner::shown(
+        original,
+        translation,
+        original_length,
+        translation_length,
+        edition,
+        from,
+        asked,
+        count,
+    )
 }
 
 // What stands at a place of a stream: true, and in `end` the place behind it, if a whole command does; else false, and the place itself.
