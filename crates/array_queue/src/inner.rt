@@ -3,12 +3,12 @@ ghost use Rattle.lock_queue.specs.Queue.{state};
 ghost use Rattle.lock_queue.specs.Requests.{Request, answer, after};
 ghost use Rattle.queue_columns.specs.Columns.{waiting, modesOf, sharedOf, exclusiveOf};
 ghost use Rattle.array_queue.specs.Arrays.{queueOf, keptOf, answerOf};
-use stamps::Pair;
 use lock_queue::Outcome;
 use lock_queue::Queue;
 use lock_queue::Waiting;
 use queue_columns::inner::columns_of;
 use queue_columns::inner::places_of;
+use stamps::Pair;
 
 // The queue that the arrays hold.
 pub fn load(modes: &[u8; 32], s: &[u64; 32], x: &[u64; 32], kept: &[u64; 3]) -> Queue

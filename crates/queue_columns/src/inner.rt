@@ -1,8 +1,8 @@
 ghost use mathlib.Core.Path.{_≡_};
 ghost use Rattle.queue_columns.specs.Columns.{placesOf, modesOf, sharedOf, exclusiveOf};
-use stamps::Pair;
 use lock_queue::Places;
 use lock_queue::Waiting;
+use stamps::Pair;
 
 // The places that three arrays hold.
 pub fn places_of(modes: &[u8; 32], s: &[u64; 32], x: &[u64; 32]) -> Places

@@ -1,6 +1,6 @@
 -- The end is within the stream. Assumes nothing.
 use native.Mathlib.Omega.{arith}
-use Rattle.stream.proofs.Claims.{claims}
+use Rattle.stream_claims.proofs.Claims.{claims}
 use borrow.Author.Needs.{needs}
 use Rattle.input.proofs.left_over.Statement.{statement}
 use Rattle.input.proofs.left_over.Tie as tie

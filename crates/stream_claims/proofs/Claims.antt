@@ -11,13 +11,13 @@ use denote.Ref.{RefT, now}
 use Rattle.lists.specs.Parts.{part, spread}
 use Rattle.lists.proofs.Spread.{spread-append}
 use Rattle.commands.specs.Command.{fixed}
 use Rattle.stream.specs.Stream.{extent, whole, nextAt, onward, commands, endOf, endToEnd, placeOf}
-use Rattle.stream.specs.Claims.{OneCommand, Parts, First, Back, Stepping, Visits, Reads, Claims}
+use Rattle.stream_claims.specs.Claims.{OneCommand, Parts, First, Back, Stepping, Visits, Reads, Claims}
 use Rattle.stream.specs.Reader.{begun, movedTo, passed, steps}
 use Rattle.stream.specs.declared.Next.{Next}
 use Rattle.stream.specs.declared.Next.the-variants.{Whole}
 use Rattle.stream.proofs.Place.{extent-fixed, extent-take, extent-append, whole-in, whole-out, next-whole, next-cut, says-whole, says-cut}
 use Rattle.stream.proofs.Commands.{commands-whole, commands-cut, end-length, end-whole, end-cut, along}
 
 -- ---- the parts of a stream
 

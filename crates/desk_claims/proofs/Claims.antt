@@ -6,11 +6,11 @@ use lib.ListN.{drop, take-append-drop}
 use lib.Seq.{length-take-le}
 use Rattle.lists.specs.Table.{first, settled}
 use Rattle.lists.proofs.Table.{given, unapplied, settled-old}
 use Rattle.desk.specs.Show.{Text, of, beyond, behindAsked, showRows, rows, shownNumber}
-use Rattle.desk.specs.Claims.{Exactly, Prefix, Alike, Independent, Claims}
+use Rattle.desk_claims.specs.Claims.{Exactly, Prefix, Alike, Independent, Claims}
 use Rattle.desk.specs.declared.Language.{Language}
 use Rattle.desk.specs.declared.Language.the-variants.{Original, Translation}
 use Rattle.desk.proofs.Show.{fits}
 
 module _ (o t : Text) (edition from : ℕ) (asked : Language) where
   exactly : Exactly o t edition from asked

@@ -1,0 +1,1 @@
+// What is claimed of a stream: definitions and proofs, no function.
