@@ -2,7 +2,7 @@
 use Prim.Native.Nat.{ℕ}
 use mathlib.Core.Path.{_≡_, ap, _∙_}
 use mathlib.Core.List.{List}
-use Rattle.lock_queue.specs.Queue.{State}
+use Rattle.queue_state.specs.Queue.{State}
 use Rattle.lock_queue.specs.Requests.{Request, answer, after}
 use Rattle.lock_queue.specs.declared.Answer.{Answer}
 use Rattle.queue_columns.specs.Columns.{modesOf, sharedOf, exclusiveOf}

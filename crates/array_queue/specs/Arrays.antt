@@ -3,7 +3,7 @@ use Prim.Native.Nat.{ℕ}
 use mathlib.Core.List.{List, [], _∷_}
 use mathlib.Core.Bool.{cond}
 use lib.ListN.{getD}
-use Rattle.lock_queue.specs.Queue.{State}
+use Rattle.queue_state.specs.Queue.{State}
 use Rattle.lock_queue.specs.declared.Answer.{Answer}
 use Rattle.queue_columns.specs.Columns.{placesOf}
 

@@ -1,13 +1,13 @@
 ghost use mathlib.Core.Path.{_≡_};
-ghost use Rattle.lock_queue.specs.Queue.{state};
+ghost use Rattle.queue_state.specs.Queue.{state};
 ghost use Rattle.lock_queue.specs.Requests.{Request, answer, after};
 ghost use Rattle.queue_columns.specs.Columns.{waiting, modesOf, sharedOf, exclusiveOf};
 ghost use Rattle.array_queue.specs.Arrays.{queueOf, keptOf, answerOf};
 use lock_queue::Outcome;
-use lock_queue::Queue;
-use lock_queue::Waiting;
 use queue_columns::inner::columns_of;
 use queue_columns::inner::places_of;
+use queue_state::Queue;
+use queue_state::Waiting;
 use stamps::Pair;
 
 // The queue that the arrays hold.

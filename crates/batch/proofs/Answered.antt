@@ -11,7 +11,7 @@ use Rattle.layout.specs.Layout.{mostRoom}
 use Rattle.image_read.specs.Read.{roomOf}
 use Rattle.lines.specs.Lines.{perLine}
 use Rattle.stream.specs.Stream.{commands}
-use Rattle.stream.proofs.Claims.{claims}
+use Rattle.stream_claims.proofs.Claims.{claims}
 use Rattle.input.specs.Input.{mostInput, storeSize}
 use Rattle.input.proofs.Front.{Front}
 use Rattle.runs.specs.Run.{runs, printed}

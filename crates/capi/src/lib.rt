@@ -3,7 +3,8 @@
 ghost use mathlib.Core.Path.{_≡_};
 ghost use lib.ListN.{length};
 ghost use Rattle.lists.specs.Table.{settled};
-ghost use Rattle.image.specs.Image.{sound, makeNumber, fresh};
+ghost use Rattle.image.specs.Image.{sound};
+ghost use Rattle.fresh.specs.Fresh.{makeNumber, fresh};
 ghost use Rattle.model.specs.Serve.{serve};
 ghost use Rattle.lock_queue.specs.Requests.{Request, answer, after};
 ghost use Rattle.desk.specs.Show.{text};
@@ -22,7 +23,7 @@ pub extern "C" fn lupaniele_make(image: &mut [u8], cards: u64, room: u64) -> u8
     ensures bytes { λ _. ⌜ now (image .exit)
         ≡ settled (makeNumber cards room (length (now (image .entry)))) (fresh cards room) (now (image .entry)) ⌝ }
 {
-    image::make(image, cards as usize, room as usize)
+    fresh::make(image, cards as usize, room as usize)
 }
 
 // Whether the lent bytes are a sound image.

@@ -3,8 +3,8 @@ use Prim.Native.Nat.{ℕ}
 use mathlib.Core.List.{List, map}
 use lib.ListN.{getD}
 use Rattle.lists.specs.Parts.{table}
-use Rattle.lock_queue.specs.Queue.{mostPlaces}
-use Rattle.lock_queue.specs.declared.Waiting.{Waiting}
+use Rattle.queue_state.specs.Queue.{mostPlaces}
+use Rattle.queue_state.specs.declared.Waiting.{Waiting}
 
 -- An entry of the queue by its three numbers.
 abbrev pub waiting : ℕ → ℕ → ℕ → Waiting

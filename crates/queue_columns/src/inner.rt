@@ -1,7 +1,7 @@
 ghost use mathlib.Core.Path.{_≡_};
 ghost use Rattle.queue_columns.specs.Columns.{placesOf, modesOf, sharedOf, exclusiveOf};
-use lock_queue::Places;
-use lock_queue::Waiting;
+use queue_state::Places;
+use queue_state::Waiting;
 use stamps::Pair;
 
 // The places that three arrays hold.

@@ -14,7 +14,7 @@ use Rattle.model.specs.Serve.{serve}
 use Rattle.stream.specs.Stream.{commands, nextAt}
 use Rattle.stream.specs.declared.Next.the-variants.{Whole, Cut}
 use Rattle.stream.proofs.Commands.{Walked, walked-none, walked-more}
-use Rattle.stream.proofs.Claims.{claims}
+use Rattle.stream_claims.proofs.Claims.{claims}
 use Rattle.runs.specs.Run.{runs, printed}
 
 -- A run that has come to a place of the stream, after so many commands: what is left to run from there on leaves what the whole run leaves.

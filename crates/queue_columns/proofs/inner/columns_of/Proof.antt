@@ -3,8 +3,8 @@ use Prim.Native.Nat.{ℕ, _≤_, _<_, _-_}
 use native.Mathlib.Omega.{arith}
 use mathlib.Core.Path.{_≡_, refl, _∙_}
 use lib.ListN.{length, length-map}
-use Rattle.lock_queue.specs.Queue.{noWaiting}
-use Rattle.lock_queue.proofs.Array.{places-long}
+use Rattle.queue_state.specs.Queue.{noWaiting}
+use Rattle.queue_state.proofs.Array.{places-long}
 use Rattle.queue_columns.specs.Columns.{modesOf, sharedOf, exclusiveOf}
 use Rattle.queue_columns.proofs.Arrays.{Filling, filling-none, filling-more, filling-done, getD-map}
 use Rattle.queue_columns.proofs.inner.columns_of.Statement.{statement}

@@ -3,7 +3,7 @@ use Prim.Native.Nat.{ℕ, _≤_, _-_}
 use native.Mathlib.Omega.{arith}
 use lib.ListN.{length}
 use Rattle.lists.proofs.Spread.{length-table, getD-table}
-use Rattle.lock_queue.specs.Queue.{noWaiting}
+use Rattle.queue_state.specs.Queue.{noWaiting}
 use Rattle.queue_columns.specs.Columns.{placesOf}
 use Rattle.queue_columns.proofs.Arrays.{Filling, filling-none, filling-more, filling-done}
 use Rattle.queue_columns.proofs.inner.places_of.Statement.{statement}
