@@ -1,13 +1,13 @@
 // The program: an image and a stream of commands from standard input, an answer to each on standard output.
 ghost use Prim.Native.Nat.{_+_, _*_, _≤_};
 ghost use lib.ListN.{length};
-ghost use Rattle.input.specs.Input.{mostInput};
 ghost use Rattle.lines.specs.Lines.{perLine};
 use batch::inner::MOST_NUMBERS;
-use input::MOST_INPUT;
 use libc::STDIN_FILENO;
 use libc::STDOUT_FILENO;
 use lines::PER_LINE;
+use report::Report;
+use report::Summary;
 
 // A number behind a space.
 fn print_number(n: u64) {
@@ -51,32 +51,36 @@ fn print_end(left: usize) {
     io::write_all(STDOUT_FILENO, b"\n");
 }
 
-// The whole output for an input that is not too long.
-fn serve(input: &[u8])
-    requires { ⌜ length (now input) ≤ mostInput ⌝ }
+// The lines of a good store: how many cards it has, one for each command, and the last.
+fn print_summary(s: Summary, out: &[u64])
+    requires { ⌜ s .lines * perLine ≤ length (now out) ⌝ }
 {
-    let size = input::store_size(input);
-    if size == 0 {
-        io::write_all(STDOUT_FILENO, b"bad store\n");
-        return;
-    }
     io::write_all(STDOUT_FILENO, b"cards");
-    print_number(image_read::inner::count(input) as u64);
+    print_number(s.cards as u64);
     io::write_all(STDOUT_FILENO, b"\n");
-    let room = image_read::inner::room(input) as usize;
+    print_lines(out, s.lines);
+    print_end(s.left);
+}
+
+// The whole output for an input.
+fn serve(input: &[u8]) {
     let mut out = [0u64; MOST_NUMBERS];
-    let count = batch::inner::answers(input, size, room, &mut out);
-    print_lines(&out, count);
-    print_end(input::left_over(&input[size..]));
+    match report::inner::report(input, &mut out) {
+        Report::TooLong => {
+            io::write_all(STDOUT_FILENO, b"too long\n");
+        }
+        Report::BadStore => {
+            io::write_all(STDOUT_FILENO, b"bad store\n");
+        }
+        Report::Lines(summary) => {
+            print_summary(summary, &out);
+        }
+    }
 }
 
 fn main() {
-    // One byte more than the input may have, to tell that it is longer.
+    // One byte more than an input may have, to tell that it is longer.
     let mut input = [0u8; 65537];
     let got = io::read_full(STDIN_FILENO, &mut input);
-    if MOST_INPUT < got {
-        io::write_all(STDOUT_FILENO, b"too long\n");
-        return;
-    }
     serve(&input[..got]);
 }

@@ -9,7 +9,6 @@ use lib.ListN.{length, take, getD, replicate}
 use Rattle.lists.specs.Parts.{part, Bytes}
 use Rattle.guard.specs.declared.Answer.{Answer}
 use Rattle.layout.specs.Layout.{shapeOk}
-use Rattle.image_read.specs.Read.{roomOf}
 use Rattle.image.specs.Image.{sound}
 use Rattle.fresh.specs.Fresh.{fresh}
 use Rattle.model.specs.Serve.{serve}
@@ -17,9 +16,9 @@ use Rattle.model.specs.Words.{Sent, Event, imageAfter, history, none}
 use Rattle.model.specs.Claims.{Claim}
 use Rattle.stream.specs.Stream.{commands}
 use Rattle.lines.specs.Lines.{numbersOf, perLine}
-use Rattle.runs.specs.Run.{Run, runs, printed}
-use Rattle.input.specs.Input.{goodStore, storeSize}
-use Rattle.batch.specs.Batch.{answered}
+use Rattle.runs.specs.Run.{runs, printed}
+use Rattle.input.specs.Input.{goodStore}
+use Rattle.report.specs.Report.{runOf}
 
 -- The answers of a run are those of judging command by command: one for each command, and each is the store's, on the image and the reply
 -- buffer as the commands before leave them.
@@ -64,10 +63,6 @@ Guarded =
     → Claim n (requests (fresh n c) (replicate c 0) (commands stream)) (logged (fresh n c) (replicate c 0) (commands stream))
 
 -- ---- the program on a good store
-
--- The program's run of an input: "its reply buffer has C bytes".
-abbrev pub runOf : List ℕ → Run
-runOf input = answered (storeSize input) (roomOf input) input
 
 -- Once the store is good, it stays sound: no command is answered 9. Nor is any answered 8: a text has at most C bytes, and so many has the reply
 -- buffer.
