@@ -1,3 +1,4 @@
 pub mod Log
 pub mod Served
 pub mod Claims
+pub mod Cases

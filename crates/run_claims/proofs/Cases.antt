@@ -1,0 +1,24 @@
+-- Case P, by computation on bytes. Assumes nothing.
+use mathlib.Core.Path.{refl}
+use Rattle.lists.specs.Parts.{part, splice, table, spread, every, zeros}
+use Rattle.lists.specs.Tests.{all, allFrom}
+use Rattle.endian.specs.Le.{le, toLe}
+use Rattle.commands.specs.Command.{wellFormed, fieldsOf, payload, formed, commandBytes}
+use Rattle.guard.specs.Entry.{entrySound}
+use Rattle.guard.specs.Judge.{raise, replied}
+use Rattle.layout.specs.Layout.{shapeOk}
+use Rattle.image_write.specs.Write.{header, entryBytes, pad}
+use Rattle.image_read.specs.Read.{readEntry, entryAt}
+use Rattle.image.specs.Image.{bodies, encode, cardAt, decode, tailZero, cardSound, headerSound, sound}
+use Rattle.fresh.specs.Fresh.{fresh}
+use Rattle.model.specs.Serve.{stepped, serveBy, serve}
+use Rattle.stream.specs.Stream.{extent, whole, commandsWithin, commands, endWithin, endOf}
+use Rattle.lines.specs.Lines.{numbersOf}
+use Rattle.input.specs.Input.{goodStore}
+use Rattle.runs.specs.Run.{runs}
+use Rattle.report.specs.Report.{reportOf}
+use Rattle.run_claims.specs.Cases.{CaseP}
+
+pub case-p : CaseP
+unfolding reportOf runs numbersOf goodStore commands commandsWithin endOf endWithin whole extent serve serveBy stepped sound headerSound cardSound tailZero decode cardAt entryAt readEntry encode bodies pad entryBytes header shapeOk fresh replied raise entrySound commandBytes formed payload fieldsOf wellFormed all allFrom le toLe part splice table spread every zeros
+case-p = record { report = refl; lines = refl }
