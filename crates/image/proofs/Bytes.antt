@@ -10,12 +10,12 @@ use lib.ListN.{length}
 use Rattle.lists.specs.Parts.{every}
 use Rattle.lists.specs.Tests.{all, allFrom}
 use Rattle.lists.proofs.Every.{every-fail}
-use Rattle.lists.proofs.Tests.{all-out}
+use Rattle.lists.proofs.Tests.{all-out, all-fails-at}
 use Rattle.commands.specs.Command.{field}
 use Rattle.guard.specs.Entry.{entrySound}
 use Rattle.guard.specs.declared.Entry.{Entry}
 use Rattle.layout.specs.Layout.{sizeOf, headerSize, bodyPlace, entryPlace}
-use Rattle.layout.proofs.Shape.{all-fails-at, body-within}
+use Rattle.layout.proofs.Shape.{body-within}
 use Rattle.image_read.specs.Read.{countOf, roomOf, entryAt}
 use Rattle.image.specs.Image.{headerSound, tailZero, cardSound, sound}
 

@@ -3,25 +3,13 @@ use Prim.Native.Nat.{ℕ, _+_, _*_, _%_, _≤_, _<_}
 use native.Mathlib.Omega.{arith}
 use native.Mathlib.Nat.{mul-le-mul, mul-le-mul-right}
 use mathlib.Core.Path.{_≡_, refl}
-use mathlib.Core.Logic.{_⊎_, inl, inr}
-use mathlib.Core.List.{List, [], _∷_}
+use mathlib.Core.List.{[], _∷_}
 use mathlib.Core.Bool.{Bool, true, false, _&&_}
 use borrow.Author.Tests.{le-leb, lt-leb, leb-true, eqb-true}
 use lib.Dec.{leb, eqb}
-use lib.ListN.{getD}
 use Rattle.lists.specs.Tests.{all, allFrom}
-use Rattle.lists.proofs.Tests.{cases, never-both, all-out}
+use Rattle.lists.proofs.Tests.{all-out, all-fails-at}
 use Rattle.layout.specs.Layout.{sizeOf, shapeOk, entryPlace, entrySize, bodyPlace, mostCards, mostRoom, leastRoom, roomStep, mostBytes}
-
--- ---- lists of tests
-
--- One test that fails.
-pub all-fails-at : (ts : List Bool) (i : ℕ) → getD ts i true ≡ false → all ts ≡ false
-all-fails-at ts i h = go (cases (all ts))
-  where
-    go : (all ts ≡ true) ⊎ (all ts ≡ false) → all ts ≡ false
-    go (inl e) = absurd (never-both (all-out ts e i) h)
-    go (inr e) = e
 
 -- ---- the limits
 

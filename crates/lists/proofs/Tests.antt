@@ -169,3 +169,11 @@ unfolding allFrom all
 all-fails [] e = absurd (true≢false e)
 all-fails (false ∷ ts) e = (0, refl)
 all-fails (true ∷ ts) e = let rest = all-fails ts e in (suc (rest .0), rest .1)
+
+-- Where one fails, not all hold.
+pub all-fails-at : (ts : List Bool) (i : ℕ) → getD ts i true ≡ false → all ts ≡ false
+all-fails-at ts i h = go (cases (all ts))
+  where
+    go : (all ts ≡ true) ⊎ (all ts ≡ false) → all ts ≡ false
+    go (inl e) = absurd (never-both (all-out ts e i) h)
+    go (inr e) = e
