@@ -1,2 +1,1 @@
 pub mod Stream
-pub mod Reader

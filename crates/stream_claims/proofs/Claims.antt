@@ -13,7 +13,7 @@ use Rattle.lists.proofs.Spread.{spread-append}
 use Rattle.commands.specs.Command.{fixed}
 use Rattle.stream.specs.Stream.{extent, whole, nextAt, onward, commands, endOf, endToEnd, placeOf}
 use Rattle.stream_claims.specs.Claims.{OneCommand, Parts, First, Back, Stepping, Visits, Reads, Claims}
-use Rattle.stream.specs.Reader.{begun, movedTo, passed, steps}
+use Rattle.reader.specs.Reader.{begun, movedTo, passed, steps}
 use Rattle.stream.specs.declared.Next.{Next}
 use Rattle.stream.specs.declared.Next.the-variants.{Whole}
 use Rattle.stream.proofs.Place.{extent-fixed, extent-take, extent-append, whole-in, whole-out, next-whole, next-cut, says-whole, says-cut}

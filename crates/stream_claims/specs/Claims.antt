@@ -9,7 +9,7 @@ use denote.Ref.{RefT, now}
 use Rattle.lists.specs.Parts.{part}
 use Rattle.commands.specs.Command.{fixed, field}
 use Rattle.stream.specs.Stream.{whole, nextAt, commands, endOf, endToEnd, placeOf}
-use Rattle.stream.specs.Reader.{begun, movedTo, steps}
+use Rattle.reader.specs.Reader.{begun, movedTo, steps}
 use Rattle.stream.specs.declared.Next.the-variants.{Whole, Cut}
 
 -- A list of bytes is one whole command, by its own length field.

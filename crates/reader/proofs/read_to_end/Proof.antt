@@ -1,4 +1,4 @@
--- `stream::read_to_end` meets its contract: a walk of its MIR, by hand. A reader is held in a local, asked for its next command and moved on behind it, in a loop that is left at the first command that is not whole.
+-- `reader::read_to_end` meets its contract: a walk of its MIR, by hand. A reader is held in a local, asked for its next command and moved on behind it, in a loop that is left at the first command that is not whole.
 -- All that the proof knows of `new`, `next` and `moved` is that each meets its contract. What a reader owns is made anew for each call, of what the slice owns and the place's facts, so that the loop carries the slice alone.
 --     Place, At     the loop's invariant: the place that the reader has come to, as for the walk over plain parameters (`Walked`), and the memory there
 --     found         a turn from where `next` has answered, by cases on the answer: the reader is moved on, or the loop is left and the function returns
@@ -48,32 +48,32 @@ use denote.Triple.Table.{entered, cited}
 use denote.Triple.Walked.{says, Stays, stay-none-slice, walkOf, goes-none-slice, Walks, ends-at, walked, walk-meets}
 use denote.Exit.{yes}
 use denote.Triple.Clauses.{ensured, lasts}
 use Rattle.stream.specs.Stream.{nextAt, endOf}
-use Rattle.stream.specs.Reader.{begun, movedTo}
-use Rattle.stream.specs.declared.Reader.{Reader}
+use Rattle.reader.specs.Reader.{begun, movedTo}
+use Rattle.reader.specs.declared.Reader.{Reader}
 use Rattle.stream.specs.declared.Next.{Next as Found}
 use Rattle.stream.specs.declared.Next.the-variants.{Whole, Cut}
 use Rattle.stream.proofs.Commands.{Walked, walked-none, walked-more, walked-done}
-use Rattle.stream.proofs.Reader as T
-use Rattle.stream.proofs.Reader.Laws as T′
+use Rattle.reader.proofs.Reader as T
+use Rattle.reader.proofs.Reader.Laws as T′
 use Rattle.stream.proofs.Next as S
 use Rattle.stream.proofs.Next.Laws as S′
-use Rattle.stream.proofs.Reader.new as new
-use Rattle.stream.proofs.Reader.new.Symbol as new-def
-use Rattle.stream.proofs.Reader.new.Symbol.{name as #stream·new}
-use Rattle.stream.proofs.Reader.new.Met as new-thm
-use Rattle.stream.proofs.Reader.moved as moved
-use Rattle.stream.proofs.Reader.moved.Symbol as moved-def
-use Rattle.stream.proofs.Reader.moved.Symbol.{name as #stream·moved}
-use Rattle.stream.proofs.Reader.moved.Met as moved-thm
-use Rattle.stream.proofs.Reader.next as next
-use Rattle.stream.proofs.Reader.next.Symbol as next-def
-use Rattle.stream.proofs.Reader.next.Symbol.{name as #stream·next}
-use Rattle.stream.proofs.Reader.next.Met as next-thm
-use Rattle.stream.proofs.read_to_end.Key.{name as #stream·read-to-end}
-use Rattle.stream.proofs.read_to_end as read
-use Rattle.stream.proofs.read_to_end.Statement as stated
-use Rattle.stream.proofs.read_to_end.Code as code
+use Rattle.reader.proofs.Reader.new as new
+use Rattle.reader.proofs.Reader.new.Symbol as new-def
+use Rattle.reader.proofs.Reader.new.Symbol.{name as #reader·new}
+use Rattle.reader.proofs.Reader.new.Met as new-thm
+use Rattle.reader.proofs.Reader.moved as moved
+use Rattle.reader.proofs.Reader.moved.Symbol as moved-def
+use Rattle.reader.proofs.Reader.moved.Symbol.{name as #reader·moved}
+use Rattle.reader.proofs.Reader.moved.Met as moved-thm
+use Rattle.reader.proofs.Reader.next as next
+use Rattle.reader.proofs.Reader.next.Symbol as next-def
+use Rattle.reader.proofs.Reader.next.Symbol.{name as #reader·next}
+use Rattle.reader.proofs.Reader.next.Met as next-thm
+use Rattle.reader.proofs.read_to_end.Key.{name as #reader·read-to-end}
+use Rattle.reader.proofs.read_to_end as read
+use Rattle.reader.proofs.read_to_end.Statement as stated
+use Rattle.reader.proofs.read_to_end.Code as code
 
 -- the struct's type, over the signature's lifetimes
 abbrev B : Lfts 1 → RattleType
@@ -101,10 +101,10 @@ the-match = switch (copy (place 5 (variant 0 ∷ field 0 ∷ []))) (arm (0 ∷ [
 
 -- the reader is moved on
 abbrev moves : Body
-moves = seq (assign (place 7 []) (rvOpd (copy (place 2 [])))) (call #stream·moved (copy (place 7 []) ∷ copy (place 3 []) ∷ []) (place 2 []))
+moves = seq (assign (place 7 []) (rvOpd (copy (place 2 [])))) (call #reader·moved (copy (place 7 []) ∷ copy (place 3 []) ∷ []) (place 2 []))
 
 abbrev turn : Body
-turn = seq (assign (place 6 []) (rvOpd (copy (place 2 [])))) (seq (call #stream·next (copy (place 6 []) ∷ []) (place 5 [])) (seq the-match moves))
+turn = seq (assign (place 6 []) (rvOpd (copy (place 2 [])))) (seq (call #reader·next (copy (place 6 []) ∷ []) (place 5 [])) (seq the-match moves))
 
 abbrev rest : Body
 rest = seq (assign (place 0 []) (rvOpd (copy (place 4 [])))) return
@@ -228,7 +228,7 @@ module _ {M : Type 1} (𝓤 : URA M) (H : Heap 𝓤) (A : Atoms 𝓤) (W : Given
   Nearer-wf : WellFounded Nearer
   Nearer-wf = InvImage·wf (λ (i : Place). length (now s) - i .0) (Nat·lt-wfRel .wf)
 
-  module _ (𝓣 : Tables 𝓤 H) (known-new : Triple 𝓤 (𝓣 .C #stream·new) (New 𝓤 H A mem run)) (known-moved : Triple 𝓤 (𝓣 .C #stream·moved) (Moved 𝓤 H A mem run)) (known-next : Triple 𝓤 (𝓣 .C #stream·next) (Next 𝓤 H A mem run)) where
+  module _ (𝓣 : Tables 𝓤 H) (known-new : Triple 𝓤 (𝓣 .C #reader·new) (New 𝓤 H A mem run)) (known-moved : Triple 𝓤 (𝓣 .C #reader·moved) (Moved 𝓤 H A mem run)) (known-next : Triple 𝓤 (𝓣 .C #reader·next) (Next 𝓤 H A mem run)) where
     abbrev C : Calls 𝓤 H
     C = 𝓣 .C
 
@@ -314,7 +314,7 @@ module _ {M : Type 1} (𝓤 : URA M) (H : Heap 𝓤) (A : Atoms 𝓤) (W : Given
         land ! (from ! (stop !)) (init ! 12 refl (LL.lawful (T.the-type αᵉ) (T′.the-laws αᵉ) 𝓤 H A W .typed r _ is .0)) $
         rewrite ! 12 (λ (x : Val). ‵ (fat fullShare (T′.mir erased) l₂ 0 x)) (mach-is 0 r u e is) refl $ looped l₀ l₁ l₂ l₃ l₄ l₅ l₆ l₇))))))))))))
 
-module _ {M : Type 1} (𝓤 : URA M) (H : Heap 𝓤) (A : Atoms 𝓤) (W : Given 𝓤 H A) (mem : Memory → SProp 𝓤) (run : Routine → Fun 𝓤) (𝓣 : Tables 𝓤 H) (known-new : Triple 𝓤 (𝓣 .C #stream·new) (New 𝓤 H A mem run)) (known-moved : Triple 𝓤 (𝓣 .C #stream·moved) (Moved 𝓤 H A mem run)) (known-next : Triple 𝓤 (𝓣 .C #stream·next) (Next 𝓤 H A mem run)) where
+module _ {M : Type 1} (𝓤 : URA M) (H : Heap 𝓤) (A : Atoms 𝓤) (W : Given 𝓤 H A) (mem : Memory → SProp 𝓤) (run : Routine → Fun 𝓤) (𝓣 : Tables 𝓤 H) (known-new : Triple 𝓤 (𝓣 .C #reader·new) (New 𝓤 H A mem run)) (known-moved : Triple 𝓤 (𝓣 .C #reader·moved) (Moved 𝓤 H A mem run)) (known-next : Triple 𝓤 (𝓣 .C #reader·next) (Next 𝓤 H A mem run)) where
   read-walks : Walks 𝓤 H A read.ended stayed (WpFn 𝓤 H (𝓣 .C) (𝓣 .Λ) code.function) (read.clauses 𝓤 H A mem run)
   read-walks = walked 𝓤 H A read.ended stayed (read.clauses 𝓤 H A mem run) (WpFn 𝓤 H (𝓣 .C) (𝓣 .Λ) code.function) (λ κs. (slice-vals, tt)) (λ κs. (shr-slice-tells (named 0) (κs .0) u8, tt))
       (λ κs qs bounds a g are. via 𝓤 _ (fst∗ 𝓤 _ (emp 𝓤)) (walk 𝓤 H A W mem run (κs .0) (qs .0) (a .0) (are .0) 𝓣 known-new known-moved known-next))
@@ -326,8 +326,8 @@ pub read-to-end-spec : {M : Type 1} → stated.statement M
 unfolding code.routine tablesOf
 read-to-end-spec 𝓤 H 𝓜 𝓖 𝓡 =
     entered 𝓤 H (tripleOf 𝓤 H (𝓖 .A) read.signature (read.spec 𝓤 H (𝓖 .A) (𝓜 .mem) (𝓡 .run)))
-    (tables 𝓤 H 𝓜 𝓡 code.env .C) (tables 𝓤 H 𝓜 𝓡 code.env .Λ) #stream·read-to-end code.function (code.unfolded 𝓤 H 𝓜 𝓡)
+    (tables 𝓤 H 𝓜 𝓡 code.env .C) (tables 𝓤 H 𝓜 𝓡 code.env .Λ) #reader·read-to-end code.function (code.unfolded 𝓤 H 𝓜 𝓡)
     (read-meets 𝓤 H (𝓖 .A) (givenOf 𝓤 H 𝓜 𝓖) (𝓜 .mem) (𝓡 .run) (tablesOf 𝓤 H 𝓜 (tables 𝓤 H 𝓜 𝓡 code.env))
-    (cited 𝓤 H (New 𝓤 H (𝓖 .A) (𝓜 .mem) (𝓡 .run)) 𝓜 𝓡 code.env #stream·new new-def.routine code.calls-stream·Reader·new (new-thm.met 𝓤 H 𝓜 𝓖 𝓡))
-    (cited 𝓤 H (Moved 𝓤 H (𝓖 .A) (𝓜 .mem) (𝓡 .run)) 𝓜 𝓡 code.env #stream·moved moved-def.routine code.calls-stream·Reader·moved (moved-thm.met 𝓤 H 𝓜 𝓖 𝓡))
-    (cited 𝓤 H (Next 𝓤 H (𝓖 .A) (𝓜 .mem) (𝓡 .run)) 𝓜 𝓡 code.env #stream·next next-def.routine code.calls-stream·Reader·next (next-thm.met 𝓤 H 𝓜 𝓖 𝓡)))
+    (cited 𝓤 H (New 𝓤 H (𝓖 .A) (𝓜 .mem) (𝓡 .run)) 𝓜 𝓡 code.env #reader·new new-def.routine code.calls-reader·Reader·new (new-thm.met 𝓤 H 𝓜 𝓖 𝓡))
+    (cited 𝓤 H (Moved 𝓤 H (𝓖 .A) (𝓜 .mem) (𝓡 .run)) 𝓜 𝓡 code.env #reader·moved moved-def.routine code.calls-reader·Reader·moved (moved-thm.met 𝓤 H 𝓜 𝓖 𝓡))
+    (cited 𝓤 H (Next 𝓤 H (𝓖 .A) (𝓜 .mem) (𝓡 .run)) 𝓜 𝓡 code.env #reader·next next-def.routine code.calls-reader·Reader·next (next-thm.met 𝓤 H 𝓜 𝓖 𝓡)))

@@ -3,8 +3,8 @@
 use Prim.Native.Nat.{ℕ, zero, suc}
 use mathlib.Core.List.{List}
 use denote.Ref.{RefT, now}
 use Rattle.stream.specs.Stream.{nextAt, onward}
-use Rattle.stream.specs.declared.Reader.{Reader}
+use Rattle.reader.specs.declared.Reader.{Reader}
 
 -- A reader at the first byte of a lent stream.
 abbrev pub begun : RefT (List ℕ) → Reader

@@ -1,4 +1,4 @@
--- `stream::Reader::next` meets its contract: a walk of its MIR, by hand. The struct is taken apart, and `next_at` is called on the slice and the number. All that the proof knows of `next_at` is that it meets its contract.
+-- `reader::Reader::next` meets its contract: a walk of its MIR, by hand. The struct is taken apart, and `next_at` is called on the slice and the number. All that the proof knows of `next_at` is that it meets its contract.
 -- The struct is Copy: what it owns is had twice, one copy is kept whole for the exit, and of the other what stream owns goes to the callee, beside the lifetime's token, which comes back.
 -- Assumes nothing.
 use mathlib.Core.Path.{_≡_, refl}
@@ -43,21 +43,21 @@ use denote.Triple.Table.{entered, cited}
 use denote.Triple.Walked.{says, Stays, stay-none, walkOf, goes-none, Walks, ends-at, walked, walk-meets}
 use denote.Exit.{yes}
 use denote.Triple.Clauses.{ensured, lasts}
 use Rattle.stream.specs.Stream.{nextAt}
-use Rattle.stream.specs.declared.Reader.{Reader}
+use Rattle.reader.specs.declared.Reader.{Reader}
 use Rattle.stream.specs.declared.Next.{Next}
-use Rattle.stream.proofs.Reader as T
-use Rattle.stream.proofs.Reader.Laws as T′
+use Rattle.reader.proofs.Reader as T
+use Rattle.reader.proofs.Reader.Laws as T′
 use Rattle.stream.proofs.Next as S
 use Rattle.stream.proofs.Next.Laws as S′
 use Rattle.stream.proofs.next_at as next-at
 use Rattle.stream.proofs.next_at.Symbol as next-at-def
 use Rattle.stream.proofs.next_at.Symbol.{name as #stream·next-at}
 use Rattle.stream.proofs.next_at.Met as next-at-thm
-use Rattle.stream.proofs.Reader.next.Key.{name as #stream·next}
-use Rattle.stream.proofs.Reader.next as next
-use Rattle.stream.proofs.Reader.next.Statement as stated
-use Rattle.stream.proofs.Reader.next.Code as code
+use Rattle.reader.proofs.Reader.next.Key.{name as #reader·next}
+use Rattle.reader.proofs.Reader.next as next
+use Rattle.reader.proofs.Reader.next.Statement as stated
+use Rattle.reader.proofs.Reader.next.Code as code
 
 -- the struct's type, over the signature's lifetimes
 abbrev B : Lfts 1 → RattleType
@@ -161,6 +161,6 @@ pub next-spec : {M : Type 1} → stated.statement M
 unfolding code.routine tablesOf
 next-spec 𝓤 H 𝓜 𝓖 𝓡 =
     entered 𝓤 H (tripleOf 𝓤 H (𝓖 .A) next.signature (next.spec 𝓤 H (𝓖 .A) (𝓜 .mem) (𝓡 .run)))
-    (tables 𝓤 H 𝓜 𝓡 code.env .C) (tables 𝓤 H 𝓜 𝓡 code.env .Λ) #stream·next code.function (code.unfolded 𝓤 H 𝓜 𝓡)
+    (tables 𝓤 H 𝓜 𝓡 code.env .C) (tables 𝓤 H 𝓜 𝓡 code.env .Λ) #reader·next code.function (code.unfolded 𝓤 H 𝓜 𝓡)
     (next-meets 𝓤 H (𝓖 .A) (givenOf 𝓤 H 𝓜 𝓖) (𝓜 .mem) (𝓡 .run) (tablesOf 𝓤 H 𝓜 (tables 𝓤 H 𝓜 𝓡 code.env))
     (cited 𝓤 H (NextAt 𝓤 H (𝓖 .A) (𝓜 .mem) (𝓡 .run)) 𝓜 𝓡 code.env #stream·next-at next-at-def.routine code.calls-stream·next-at (next-at-thm.met 𝓤 H 𝓜 𝓖 𝓡)))
