@@ -3,7 +3,7 @@
 use Prim.Native.Nat.{ℕ, _*_, _/_, _≤_}
 use mathlib.Core.List.{List}
 use lib.ListN.{length, take, drop, replicate}
-use Rattle.commands.specs.Command.{fixed}
+use Rattle.command_bytes.specs.CommandBytes.{fixed}
 use Rattle.layout.specs.Layout.{mostBytes, mostRoom}
 use Rattle.input.specs.Input.{mostInput}
 use Rattle.lines.specs.Lines.{perLine}

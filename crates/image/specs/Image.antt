@@ -8,7 +8,8 @@ use lib.Dec.{eqb}
 use Rattle.lists.specs.Parts.{part, spread, table, every, zeros}
 use Rattle.endian.specs.Le.{le}
 use Rattle.lists.specs.Tests.{all}
-use Rattle.commands.specs.Command.{Language, original, translation, field}
+use Rattle.commands.specs.Command.{Language, original, translation}
+use Rattle.command_bytes.specs.CommandBytes.{field}
 use Rattle.guard.specs.Entry.{entrySound, noEntry}
 use Rattle.guard.specs.declared.Entry.{Entry}
 use Rattle.layout.specs.Layout.{sizeOf, shapeOk, entryPlace, bodyPlace}

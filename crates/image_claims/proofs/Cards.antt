@@ -18,7 +18,8 @@ use Rattle.lists.proofs.Every.{every-in}
 use Rattle.endian.proofs.Le.{Bytes-toLe}
 use Rattle.lists.proofs.Spread.{Bytes-spread, table-is}
 use Rattle.lists.proofs.Tests.{cases, from-T}
-use Rattle.commands.specs.Command.{Language, original, translation, field}
+use Rattle.commands.specs.Command.{Language, original, translation}
+use Rattle.command_bytes.specs.CommandBytes.{field}
 use Rattle.guard.specs.Entry.{entrySound}
 use Rattle.guard.specs.declared.Entry.{Entry}
 use Rattle.image.specs.Image.{Card, Cards, text, sideOf, withCard, noCard, bodies, encode, bodyAt, cardAt, decode, tailZero, cardSound, headerSound, sound}

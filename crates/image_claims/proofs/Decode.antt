@@ -16,7 +16,8 @@ use Rattle.endian.proofs.Le.{le-injective, le-part-bound, Bytes-toLe}
 use Rattle.lists.proofs.Parts.{length-part, part-part, part-join}
 use Rattle.lists.proofs.Spread.{spread-parts, length-table, getD-table}
 use Rattle.lists.proofs.Tests.{and-left, and-right, all-out, from-T, to-T}
-use Rattle.commands.specs.Command.{Language, original, translation, field}
+use Rattle.commands.specs.Command.{Language, original, translation}
+use Rattle.command_bytes.specs.CommandBytes.{field}
 use Rattle.guard.specs.Entry.{entrySound, FitsEntry}
 use Rattle.image.specs.Image.{Card, noCard, bodies, encode, bodyAt, text, cardAt, decode, tailZero, cardSound, headerSound, sound}
 use Rattle.layout.specs.Layout.{shapeOk, sizeOf, mostBytes, headerSize, entrySize, entryPlace, bodyPlace}

@@ -11,7 +11,7 @@ use Rattle.endian.specs.Le.{toLe}
 use Rattle.lists.proofs.Bytes.{Bytes-part, zeros-means}
 use Rattle.endian.proofs.Le.{le-toLe, toLe-le}
 use Rattle.lists.proofs.Parts.{length-part, part-join}
-use Rattle.commands.specs.Command.{field}
+use Rattle.command_bytes.specs.CommandBytes.{field}
 use Rattle.guard.specs.Entry.{FitsEntry}
 use Rattle.guard.specs.declared.Entry.{Entry}
 use Rattle.image_write.specs.Write.{entryBytes, pad}

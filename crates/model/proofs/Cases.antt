@@ -5,7 +5,8 @@ use mathlib.Core.List.{List, [], _∷_, _++_, reverse, reverse-cons, reverse-app
 use Rattle.lists.specs.Parts.{part, splice, table, spread, every, zeros}
 use Rattle.endian.specs.Le.{le, toLe}
 use Rattle.lists.specs.Tests.{all, allFrom}
-use Rattle.commands.specs.Command.{wellFormed, fieldsOf, payload, formed, commandBytes}
+use Rattle.commands.specs.Command.{wellFormed}
+use Rattle.command_bytes.specs.CommandBytes.{fieldsOf, payload, formed, commandBytes}
 use Rattle.guard.specs.Entry.{entrySound}
 use Rattle.guard.specs.Judge.{raise, replied}
 use Rattle.layout.specs.Layout.{shapeOk}

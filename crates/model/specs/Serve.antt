@@ -6,7 +6,8 @@ use mathlib.Core.Bool.{Bool, cond, not}
 use lib.ListN.{length, getD}
 use lib.Dec.{ltb}
 use Rattle.lists.specs.Parts.{splice}
-use Rattle.commands.specs.Command.{original, translation, reads, writes, fieldsOf, payload, formed}
+use Rattle.commands.specs.Command.{original, translation, reads, writes}
+use Rattle.command_bytes.specs.CommandBytes.{fieldsOf, payload, formed}
 use Rattle.lists.specs.Table.{Row, row, first, settled}
 use Rattle.guard.specs.Judge.{entryRows, raise, replied}
 use Rattle.guard.specs.declared.Answer.{Answer}

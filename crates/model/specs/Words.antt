@@ -6,7 +6,8 @@ use mathlib.Core.List.{List, [], _∷_, reverse}
 use mathlib.Core.Bool.{Bool, true, false, cond, not, _&&_, _||_}
 use lib.Dec.{ltb, eqb}
 use Rattle.stamps.specs.Stamp.{shared, exclusive, deskStart, noMark, markFits}
-use Rattle.commands.specs.Command.{Language, original, translation, writes, verifier, update, fieldsOf, payload, formed, session}
+use Rattle.commands.specs.Command.{Language, original, translation, writes, verifier, update, session}
+use Rattle.command_bytes.specs.CommandBytes.{fieldsOf, payload, formed}
 use Rattle.guard.specs.declared.Answer.{Answer}
 use Rattle.commands.specs.declared.Command.{Command}
 use Rattle.fresh.specs.Fresh.{fresh}

@@ -14,7 +14,8 @@ use Rattle.lists.proofs.Bytes.{Bytes-nil, Bytes-take, Bytes-drop, Bytes-replica
 use Rattle.lists.proofs.Parts.{length-splice}
 use Rattle.lists.proofs.Table.{given, first-all}
 use Rattle.lists.proofs.Tests.{to-T, from-T, cases, or-none, or-cases, and-right, not-in}
-use Rattle.commands.specs.Command.{Language, original, translation, reads, fieldsOf, formed}
+use Rattle.commands.specs.Command.{Language, original, translation, reads}
+use Rattle.command_bytes.specs.CommandBytes.{fieldsOf, formed}
 use Rattle.commands.specs.declared.Command.{Command}
 use Rattle.guard.specs.Judge.{overruns, replied}
 use Rattle.guard.specs.declared.Answer.{Answer}

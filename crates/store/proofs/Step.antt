@@ -11,15 +11,16 @@ use lib.Seq.{take-all}
 use lib.Dec.{ltb}
 use Rattle.lists.specs.Parts.{splice}
 use Rattle.lists.proofs.Tests.{cases, never-both}
-use Rattle.commands.specs.Command.{Language, original, translation, reads, fieldsOf, payload, formed, parsed, fixed}
+use Rattle.commands.specs.Command.{Language, original, translation, reads}
+use Rattle.command_bytes.specs.CommandBytes.{fieldsOf, payload, formed, parsed, fixed}
 use Rattle.lists.specs.Table.{first}
 use Rattle.guard.specs.Judge.{rows, readLength, overruns, raise, replied, judged, refused}
 use Rattle.guard.specs.declared.Answer.{Answer}
 use Rattle.commands.specs.declared.Command.{Command}
 use Rattle.guard.specs.declared.Entry.{Entry}
 use Rattle.guard.specs.declared.Judged.{Judged}
-use Rattle.commands.specs.declared.Parsed.the-variants.{Malformed, Formed}
-use Rattle.commands.proofs.CommandBytes.{parsed-formed, parsed-malformed, formed-short}
+use Rattle.command_bytes.specs.declared.Parsed.the-variants.{Malformed, Formed}
+use Rattle.command_bytes.proofs.CommandBytes.{parsed-formed, parsed-malformed, formed-short}
 use Rattle.guard.proofs.Judge.{Accepted, accepted, accepted-raises}
 use Rattle.lists.proofs.Table.{settled-old}
 use Rattle.image.specs.Image.{Card, withCard, cardAt, encode, decode, sound}

@@ -9,8 +9,8 @@ ghost use Rattle.image_read.specs.Read.{countOf, roomOf, entryAt};
 ghost use Rattle.image.specs.Image.{cardAt, withCard, encode, decode, sound};
 ghost use Rattle.store.specs.Effects.{textWritten, carried};
 ghost use Rattle.model.specs.Serve.{textRead, stepped, serve};
+use command_bytes::Parsed;
 use commands::Command;
-use commands::Parsed;
 use guard::Answer;
 use guard::Entry;
 use guard::entries::ACCEPTED;
@@ -106,11 +106,11 @@ pub fn step(image: &mut [u8], command: &[u8], reply: &mut [u8]) -> Answer
     ensures reply { λ _. ⌜ now (reply .exit) ≡ serve (now (image .entry)) (now (command .entry)) (now (reply .entry)) .reply ⌝ }
     ensures kept { λ _. ⌜ sound (now (image .exit)) ≡ true ⌝ }
 {
-    let Parsed::Formed(c) = commands::parse(command) else {
+    let Parsed::Formed(c) = command_bytes::parse(command) else {
         return guard::refusal(MALFORMED);
     };
     if image_read::inner::count(image) <= c.card {
         return guard::refusal(NO_CARD);
     }
-    carry(image, c, &command[commands::FIXED..], reply)
+    carry(image, c, &command[command_bytes::FIXED..], reply)
 }

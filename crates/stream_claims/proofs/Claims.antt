@@ -10,7 +10,7 @@ use lib.Seq.{length-take-le, drop-drop, take-at, drop-at, take-suc, take-length,
 use denote.Ref.{RefT, now}
 use Rattle.lists.specs.Parts.{part, spread}
 use Rattle.lists.proofs.Spread.{spread-append}
-use Rattle.commands.specs.Command.{fixed}
+use Rattle.command_bytes.specs.CommandBytes.{fixed}
 use Rattle.stream.specs.Stream.{extent, whole, nextAt, onward, commands, endOf, endToEnd, placeOf}
 use Rattle.stream_claims.specs.Claims.{OneCommand, Parts, First, Back, Stepping, Visits, Reads, Claims}
 use Rattle.reader.specs.Reader.{begun, movedTo, passed, steps}

@@ -3,9 +3,9 @@ use borrow.Author.Needs.{needs}
 use borrow.Author.Tests.{le-ltb}
 use mathlib.Core.Path.{_≡_, refl, sym, ap, _∙_}
 use mathlib.Core.Bool.{true}
-use Rattle.commands.specs.Command.{fieldsOf, formed}
+use Rattle.command_bytes.specs.CommandBytes.{fieldsOf, formed}
 use Rattle.image.specs.Image.{sound}
-use Rattle.commands.proofs.CommandBytes.{length-payload}
+use Rattle.command_bytes.proofs.CommandBytes.{length-payload}
 use Rattle.model.proofs.Sound.{stays-sound}
 use Rattle.store.proofs.Step.{
   exits,

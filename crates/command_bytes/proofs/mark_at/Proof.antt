@@ -1,6 +1,6 @@
 use borrow.Author.Needs.{needs}
-use Rattle.commands.proofs.mark_at.Statement.{statement}
-use Rattle.commands.proofs.mark_at.Tie as tie
+use Rattle.command_bytes.proofs.mark_at.Statement.{statement}
+use Rattle.command_bytes.proofs.mark_at.Tie as tie
 
 read-u16-requires : tie.Need-read-u16-requires
 read-u16-requires c κs = search needs

@@ -1,7 +1,7 @@
 use borrow.Author.Needs.{needs}
-use Rattle.commands.specs.Command.{fieldsOf}
-use Rattle.commands.proofs.fields.Statement.{statement}
-use Rattle.commands.proofs.fields.Tie as tie
+use Rattle.command_bytes.specs.CommandBytes.{fieldsOf}
+use Rattle.command_bytes.proofs.fields.Statement.{statement}
+use Rattle.command_bytes.proofs.fields.Tie as tie
 
 shared-slice-read-t3 : tie.Need-shared-slice-read-t3
 shared-slice-read-t3 c = search needs

@@ -14,11 +14,12 @@ use Rattle.lists.proofs.Tests.{and-in, and-left, and-right}
 use Rattle.lists.proofs.Bytes.{Bytes-cons, Bytes-nil, Bytes-append, Bytes-replicate, Bytes-drop, Bytes-part, zeros-means}
 use Rattle.endian.proofs.Le.{le-toLe, toLe-le, le-part-bound, Bytes-toLe}
 use Rattle.lists.proofs.Parts.{length-part, drop-left}
-use Rattle.commands.specs.Command.{fixed, field, markAt, markBytes, fieldsOf, payload, formed, parsed, wellFormed, commandBytes, FitsCommand}
+use Rattle.commands.specs.Command.{wellFormed, FitsCommand}
+use Rattle.command_bytes.specs.CommandBytes.{fixed, field, markAt, markBytes, fieldsOf, payload, formed, parsed, commandBytes}
 use Rattle.stamps.specs.Stamp.{FitsMark}
 use Rattle.commands.specs.declared.Command.{Command}
 use Rattle.stamps.specs.declared.Mark.{Mark}
-use Rattle.commands.specs.declared.Parsed.the-variants.{Malformed, Formed}
+use Rattle.command_bytes.specs.declared.Parsed.the-variants.{Malformed, Formed}
 
 -- A parse by the one test of the bytes.
 pub parsed-formed : (bytes : List ℕ) → formed bytes ≡ true → parsed bytes ≡ Formed (fieldsOf bytes)

@@ -1,7 +1,7 @@
 use borrow.Author.Needs.{needs}
-use Rattle.commands.specs.Command.{fieldsOf}
-use Rattle.commands.proofs.pair_of.Statement.{statement}
-use Rattle.commands.proofs.pair_of.Tie as tie
+use Rattle.command_bytes.specs.CommandBytes.{fieldsOf}
+use Rattle.command_bytes.proofs.pair_of.Statement.{statement}
+use Rattle.command_bytes.proofs.pair_of.Tie as tie
 
 read-u64-requires : tie.Need-read-u64-requires
 read-u64-requires c κs = search needs

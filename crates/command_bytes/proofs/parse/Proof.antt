@@ -2,10 +2,10 @@
 use borrow.Author.Needs.{needs}
 use mathlib.Core.Path.{sym, ap, _∙_}
 use Rattle.lists.specs.Parts.{part}
-use Rattle.commands.specs.declared.Parsed.the-variants.{Formed}
-use Rattle.commands.proofs.CommandBytes.{parsed-formed, parsed-malformed, formed-short, formed-by}
-use Rattle.commands.proofs.parse.Statement.{statement}
-use Rattle.commands.proofs.parse.Tie as tie
+use Rattle.command_bytes.specs.declared.Parsed.the-variants.{Formed}
+use Rattle.command_bytes.proofs.CommandBytes.{parsed-formed, parsed-malformed, formed-short, formed-by}
+use Rattle.command_bytes.proofs.parse.Statement.{statement}
+use Rattle.command_bytes.proofs.parse.Tie as tie
 
 returns : tie.Need-returns
 returns c = sym (parsed-malformed _ (formed-short _ (c .if1 .taken)))
