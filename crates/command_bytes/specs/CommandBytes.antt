@@ -6,7 +6,7 @@ use mathlib.Core.Bool.{Bool, cond, _&&_}
 use lib.ListN.{length, drop, getD, replicate}
 use lib.Dec.{eqb}
 use Rattle.lists.specs.Parts.{part, zeros}
-use Rattle.endian.specs.Le.{le, toLe}
+use Rattle.lists.specs.Le.{le, toLe}
 use Rattle.stamps.specs.Stamp.{noPair, noMark}
 use Rattle.stamps.specs.declared.Mark.{Mark}
 use Rattle.commands.specs.declared.Command.{Command}

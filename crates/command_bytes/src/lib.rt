@@ -42,8 +42,8 @@ fn mark_at(bytes: &[u8], at: usize) -> Mark
     ensures { λ r. ⌜ r ≡ markAt at (now (bytes .entry)) ⌝ }
 {
     Mark {
-        desk: endian::inner::read_u16(bytes, at),
-        transaction: endian::inner::read_u32(bytes, at + 2),
+        desk: fixed_width::inner::read_u16(bytes, at),
+        transaction: fixed_width::inner::read_u32(bytes, at + 2),
     }
 }
 
@@ -53,8 +53,8 @@ fn pair_of(bytes: &[u8]) -> Pair
     ensures { λ r. ⌜ r ≡ fieldsOf (now (bytes .entry)) .pair ⌝ }
 {
     Pair {
-        s: endian::inner::read_u64(bytes, S),
-        x: endian::inner::read_u64(bytes, X),
+        s: fixed_width::inner::read_u64(bytes, S),
+        x: fixed_width::inner::read_u64(bytes, X),
     }
 }
 
@@ -66,12 +66,12 @@ fn fields(bytes: &[u8]) -> Command
     Command {
         act: bytes[ACT],
         mode: bytes[MODE],
-        card: endian::inner::read_u16(bytes, CARD),
+        card: fixed_width::inner::read_u16(bytes, CARD),
         pair: pair_of(bytes),
         expected: mark_at(bytes, EXPECTED),
         next: mark_at(bytes, NEXT),
-        edition: endian::inner::read_u16(bytes, EDITION),
-        length: endian::inner::read_u16(bytes, LENGTH),
+        edition: fixed_width::inner::read_u16(bytes, EDITION),
+        length: fixed_width::inner::read_u16(bytes, LENGTH),
     }
 }
 

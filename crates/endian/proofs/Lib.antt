@@ -1,3 +1,1 @@
-pub mod Le
-pub mod Claims
 pub mod Loops

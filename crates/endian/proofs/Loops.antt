@@ -8,9 +8,9 @@ use mathlib.Core.Bool.{true, _&&_}
 use lib.Dec.{eqb, lit<}
 use lib.ListN.{length, take, drop, getD, set, replicate, length-set, length-take, drop-of-length-le}
 use Rattle.lists.specs.Parts.{part, splice, zeros}
-use Rattle.endian.specs.Le.{le}
+use Rattle.lists.specs.Le.{le}
 use Rattle.lists.proofs.Parts.{drop-left, splice-nil, splice-cons}
-use Rattle.endian.proofs.Le.{le-from, digit}
+use Rattle.lists.proofs.Le.{le-from, digit}
 
 -- A loop that writes v over s₀ from place `at` on, one element after the other: it has made `s` when it has written i elements,
 -- and `rest` is what is left to write.

@@ -1,4 +1,4 @@
-// Little-endian numbers in byte slices, and the loops over parts of byte slices that the layers above share.
+// Little-endian numbers of any byte count in byte slices, and the loops over parts of byte slices that the layers above share.
 pub mod inner;
 
 ghost use mathlib.Core.Path.{_≡_};

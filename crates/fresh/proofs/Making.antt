@@ -7,7 +7,7 @@ use mathlib.Core.Bool.{true, false}
 use borrow.Author.Tests.{eq-eqb, ne-eqb}
 use lib.ListN.{length, replicate, length-append, length-replicate, replicate-append-replicate}
 use Rattle.lists.specs.Parts.{splice}
-use Rattle.endian.specs.Le.{toLe}
+use Rattle.lists.specs.Le.{toLe}
 use Rattle.lists.proofs.Parts.{splice-adjacent, splice-whole}
 use Rattle.layout.specs.Layout.{sizeOf, shapeOk, headerSize}
 use Rattle.image_write.specs.Write.{header, headerNumbers}

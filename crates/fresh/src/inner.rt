@@ -5,7 +5,7 @@ ghost use Rattle.lists.specs.Parts.{splice};
 ghost use Rattle.image_write.specs.Write.{headerNumbers};
 ghost use Rattle.layout.specs.Layout.{sizeOf};
 ghost use Rattle.fresh.specs.Fresh.{fresh};
-use endian::inner as le;
+use fixed_width::inner as le;
 use layout::CARDS_AT;
 use layout::MAGIC;
 use layout::ROOM_AT;
@@ -31,5 +31,5 @@ pub fn write_fresh(image: &mut [u8], n: u16, c: u16)
 {
     let size = image.len();
     write_header(image, n, c);
-    le::clear(image, ZEROS_AT, size - ZEROS_AT);
+    endian::inner::clear(image, ZEROS_AT, size - ZEROS_AT);
 }

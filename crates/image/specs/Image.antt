@@ -6,7 +6,7 @@ use mathlib.Core.Bool.{Bool, _&&_}
 use lib.ListN.{length, set}
 use lib.Dec.{eqb}
 use Rattle.lists.specs.Parts.{part, spread, table, every, zeros}
-use Rattle.endian.specs.Le.{le}
+use Rattle.lists.specs.Le.{le}
 use Rattle.lists.specs.Tests.{all}
 use Rattle.commands.specs.Command.{Language, original, translation}
 use Rattle.command_bytes.specs.CommandBytes.{field}

@@ -5,7 +5,7 @@ ghost use Rattle.lists.specs.Parts.{part, zeros};
 ghost use Rattle.image_read.specs.Read.{countOf, roomOf};
 ghost use Rattle.layout.specs.Layout.{sizeOf};
 ghost use Rattle.image.specs.Image.{headerSound, cardSound};
-use endian::inner as le;
+use fixed_width::inner as le;
 use image_read::inner as read;
 use layout::HEADER;
 use layout::MAGIC;

@@ -11,11 +11,11 @@ use lib.Dec.{eqb, lit≤, lit<}
 use lib.ListN.{length, take, getD, set, replicate, length-set}
 use lib.Seq.{getD-set-same, getD-set-other}
 use Rattle.lists.specs.Parts.{part, spread, zeros, Bytes}
-use Rattle.endian.specs.Le.{le, toLe}
+use Rattle.lists.specs.Le.{le, toLe}
 use Rattle.lists.specs.Tests.{all, allFrom}
 use Rattle.lists.proofs.Bytes.{Bytes-append, Bytes-replicate, Bytes-take, zeros-replicate}
 use Rattle.lists.proofs.Every.{every-in}
-use Rattle.endian.proofs.Le.{Bytes-toLe}
+use Rattle.lists.proofs.Le.{Bytes-toLe}
 use Rattle.lists.proofs.Spread.{Bytes-spread, table-is}
 use Rattle.lists.proofs.Tests.{cases, from-T}
 use Rattle.commands.specs.Command.{Language, original, translation}

@@ -1,6 +1,6 @@
 -- The worked cases, by computation. Assumes nothing.
 use mathlib.Core.Path.{refl}
-use Rattle.endian.specs.Le.{le, toLe}
+use Rattle.lists.specs.Le.{le, toLe}
 use Rattle.lists.specs.Parts.{part, spread, every, zeros}
 use Rattle.lists.specs.Tests.{all, allFrom}
 use Rattle.guard.specs.Entry.{entrySound}

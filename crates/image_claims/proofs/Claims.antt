@@ -7,7 +7,7 @@ use lib.Dec.{T, lit<, leb·zero}
 use lib.ListN.{length, drop, getD, replicate, length-replicate, getD-replicate, replicate-append-replicate}
 use lib.Seq.{drop-at}
 use Rattle.lists.specs.Parts.{Bytes}
-use Rattle.endian.specs.Le.{toLe}
+use Rattle.lists.specs.Le.{toLe}
 use Rattle.lists.proofs.Spread.{table-ext, spread-replicate}
 use Rattle.lists.proofs.Tests.{to-T}
 use Rattle.lists.specs.Tests.{all, allFrom}

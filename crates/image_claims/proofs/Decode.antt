@@ -9,10 +9,10 @@ use borrow.Author.Tests.{eqb-true}
 use lib.Dec.{T, lit≤, lit<}
 use lib.ListN.{length, getD, replicate}
 use Rattle.lists.specs.Parts.{part, spread, table, every, Bytes}
-use Rattle.endian.specs.Le.{le, toLe}
+use Rattle.lists.specs.Le.{le, toLe}
 use Rattle.lists.proofs.Bytes.{Bytes-nil, Bytes-part, zeros-means}
 use Rattle.lists.proofs.Every.{every-out}
-use Rattle.endian.proofs.Le.{le-injective, le-part-bound, Bytes-toLe}
+use Rattle.lists.proofs.Le.{le-injective, le-part-bound, Bytes-toLe}
 use Rattle.lists.proofs.Parts.{length-part, part-part, part-join}
 use Rattle.lists.proofs.Spread.{spread-parts, length-table, getD-table}
 use Rattle.lists.proofs.Tests.{and-left, and-right, all-out, from-T, to-T}

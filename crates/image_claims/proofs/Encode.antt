@@ -8,8 +8,8 @@ use mathlib.Core.List.{List, _++_}
 use lib.ListN.{length, getD, set, length-append, length-take, length-replicate, length-set}
 use lib.Seq.{set-set, getD-set-same}
 use Rattle.lists.specs.Parts.{part, splice, spread}
-use Rattle.endian.specs.Le.{le, toLe}
-use Rattle.endian.proofs.Le.{le-toLe}
+use Rattle.lists.specs.Le.{le, toLe}
+use Rattle.lists.proofs.Le.{le-toLe}
 use Rattle.lists.proofs.Parts.{part-part, part-append-left, part-append-right, splice-append-left, splice-append-right, splice-within, splice-part, splice-whole, part-all}
 use Rattle.lists.proofs.Spread.{length-spread, part-spread, splice-spread}
 use Rattle.commands.specs.Command.{Language, original, translation}

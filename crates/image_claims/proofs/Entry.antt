@@ -7,9 +7,9 @@ use mathlib.Core.Bool.{true}
 use lib.ListN.{length, take, drop, replicate}
 use lib.Seq.{take-at, drop-at}
 use Rattle.lists.specs.Parts.{part, zeros, Bytes}
-use Rattle.endian.specs.Le.{toLe}
+use Rattle.lists.specs.Le.{toLe}
 use Rattle.lists.proofs.Bytes.{Bytes-part, zeros-means}
-use Rattle.endian.proofs.Le.{le-toLe, toLe-le}
+use Rattle.lists.proofs.Le.{le-toLe, toLe-le}
 use Rattle.lists.proofs.Parts.{length-part, part-join}
 use Rattle.command_bytes.specs.CommandBytes.{field}
 use Rattle.guard.specs.Entry.{FitsEntry}

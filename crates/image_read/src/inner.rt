@@ -5,7 +5,7 @@ ghost use Rattle.lists.specs.Parts.{part, splice};
 ghost use Rattle.guard.specs.Entry.{entrySound};
 ghost use Rattle.layout.specs.Layout.{entryPlace};
 ghost use Rattle.image_read.specs.Read.{countOf, roomOf, readEntry, entryAt};
-use endian::inner as le;
+use fixed_width::inner as le;
 use guard::Entry;
 use layout::CARDS_AT;
 use layout::ENTRY;
@@ -80,5 +80,5 @@ pub fn read_text(image: &[u8], at: usize, count: u16, reply: &mut [u8])
     ensures { λ _. ⌜ now (reply .exit) ≡ splice 0 (part at count (now (image .entry))) (now (reply .entry)) ⌝ }
 {
     let end = at + (count as usize);
-    le::put(reply, 0, &image[at..end]);
+    endian::inner::put(reply, 0, &image[at..end]);
 }

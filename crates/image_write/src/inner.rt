@@ -4,7 +4,7 @@ ghost use lib.ListN.{length};
 ghost use Rattle.lists.specs.Parts.{splice};
 ghost use Rattle.layout.specs.Layout.{entryPlace};
 ghost use Rattle.image_write.specs.Write.{entryPair, entryMark, entryCounts, entryBytes, pad};
-use endian::inner as le;
+use fixed_width::inner as le;
 use guard::Entry;
 use stamps::Mark;
 use stamps::Pair;
@@ -56,6 +56,6 @@ pub fn write_text(image: &mut [u8], at: usize, room: u16, text: &[u8])
     ensures { λ _. ⌜ now (image .exit) ≡ splice at (pad room (now (text .entry))) (now (image .entry)) ⌝ }
 {
     let room = room as usize;
-    le::put(image, at, text);
-    le::clear(image, at + text.len(), room - text.len());
+    endian::inner::put(image, at, text);
+    endian::inner::clear(image, at + text.len(), room - text.len());
 }

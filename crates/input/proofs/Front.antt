@@ -7,7 +7,7 @@ use lib.ListN.{length, take}
 use lib.Dec.{leb, leb→le}
 use borrow.Author.Tests.{le-leb, lt-leb}
 use native.Mathlib.Omega.{arith}
-use Rattle.endian.specs.Le.{le}
+use Rattle.lists.specs.Le.{le}
 use Rattle.lists.proofs.Parts.{part-take}
 use Rattle.lists.proofs.Tests.{to-T, and-left, and-right}
 use Rattle.layout.specs.Layout.{headerSize, mostBytes, mostRoom}

@@ -4,4 +4,6 @@ pub mod Bytes
 pub mod Spread
 pub mod Every
 pub mod Table
+pub mod Le
+pub mod Claims
 pub mod Cases

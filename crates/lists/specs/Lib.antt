@@ -1,3 +1,5 @@
 pub mod Parts
 pub mod Tests
 pub mod Table
+pub mod Le
+pub mod Claims

@@ -3,7 +3,7 @@ use Prim.Native.Nat.{ℕ}
 use mathlib.Core.Path.{_≡_, refl, ap}
 use mathlib.Core.List.{List, [], _∷_, _++_, reverse, reverse-cons, reverse-append}
 use Rattle.lists.specs.Parts.{part, splice, table, spread, every, zeros}
-use Rattle.endian.specs.Le.{le, toLe}
+use Rattle.lists.specs.Le.{le, toLe}
 use Rattle.lists.specs.Tests.{all, allFrom}
 use Rattle.commands.specs.Command.{wellFormed}
 use Rattle.command_bytes.specs.CommandBytes.{fieldsOf, payload, formed, commandBytes}

@@ -2,7 +2,7 @@
 use mathlib.Core.Path.{refl}
 use mathlib.Core.List.{[]}
 use Rattle.lists.specs.Parts.{part, splice, table, spread, every, zeros}
-use Rattle.endian.specs.Le.{le, toLe}
+use Rattle.lists.specs.Le.{le, toLe}
 use Rattle.lists.specs.Tests.{all, allFrom}
 use Rattle.commands.specs.Command.{wellFormed}
 use Rattle.command_bytes.specs.CommandBytes.{fieldsOf, payload, formed, commandBytes}

@@ -9,7 +9,7 @@ use borrow.Author.Tests.{leb-true, le-leb}
 use lib.Dec.{leb}
 use lib.ListN.{length, take, drop, length-drop}
 use Rattle.lists.specs.Parts.{part}
-use Rattle.endian.specs.Le.{le}
+use Rattle.lists.specs.Le.{le}
 use Rattle.lists.proofs.Parts.{part-drop, part-take, part-append-left}
 use Rattle.lists.proofs.Tests.{and-in, and-right}
 use Rattle.command_bytes.specs.CommandBytes.{fixed}

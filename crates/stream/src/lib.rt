@@ -3,7 +3,7 @@ ghost use mathlib.Core.Path.{_≡_};
 ghost use Rattle.stream.specs.Stream.{nextAt, endOf};
 use command_bytes::FIXED;
 use command_bytes::LENGTH;
-use endian::inner::read_u16;
+use fixed_width::inner::read_u16;
 
 // What stands at a place of a stream: a whole command, and the place behind it; or none that is whole.
 pub enum Next {

@@ -3,7 +3,7 @@ use mathlib.Core.Path.{_≡_, refl, _∙_}
 use borrow.Author.Needs.{needs}
 use borrow.Author.Tests.{eq-eqb}
 use lib.ListN.{set, replicate}
-use Rattle.endian.specs.Le.{le}
+use Rattle.lists.specs.Le.{le}
 use Rattle.lists.specs.Parts.{part}
 use Rattle.stream.specs.Stream.{extent, whole, endWithin, endOf}
 use Rattle.stream_test.proofs.main.Statement.{statement}

@@ -2,7 +2,7 @@
 use Prim.Native.Nat.{_+_, _-_}
 use native.Mathlib.Omega.{arith}
 use mathlib.Core.Path.{_≡_}
-use Rattle.endian.proofs.Le.{fewer}
+use Rattle.lists.proofs.Le.{fewer}
 use Rattle.endian.proofs.Loops.{Reading, reading-none, reading-more, reading-done}
 use Rattle.endian.proofs.inner.read.Statement.{statement}
 use Rattle.endian.proofs.inner.read.Tie as tie

@@ -1,7 +1,7 @@
 -- The numbers end to end. Assumes nothing.
 use Rattle.image_write.specs.Write.{magic, version}
 use native.Mathlib.Omega.{arith}
-use Rattle.endian.specs.Le.{toLe}
+use Rattle.lists.specs.Le.{toLe}
 use Rattle.image_write.proofs.Written.{splice-four}
 use borrow.Author.Needs.{needs}
 use Rattle.fresh.proofs.inner.write_header.Statement.{statement}

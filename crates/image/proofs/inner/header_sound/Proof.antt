@@ -1,6 +1,6 @@
 -- The tests in their order, by what each call ensures. Assumes nothing.
 use Rattle.image.specs.Image.{headerSound}
-use Rattle.endian.specs.Le.{le}
+use Rattle.lists.specs.Le.{le}
 use Rattle.lists.specs.Parts.{part}
 use Rattle.lists.specs.Tests.{all, allFrom}
 use borrow.Author.Needs.{needs}

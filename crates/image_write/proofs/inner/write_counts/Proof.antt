@@ -1,6 +1,6 @@
 -- The numbers end to end. Assumes nothing.
 use native.Mathlib.Omega.{arith}
-use Rattle.endian.specs.Le.{toLe}
+use Rattle.lists.specs.Le.{toLe}
 use Rattle.image_write.proofs.Written.{splice-four}
 use borrow.Author.Needs.{needs}
 use Rattle.image_write.proofs.inner.write_counts.Statement.{statement}

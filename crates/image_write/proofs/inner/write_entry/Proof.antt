@@ -1,7 +1,7 @@
 -- The three groups end to end. Assumes nothing.
 use Rattle.image_write.specs.Write.{entryBytes, entryPair, entryMark, entryCounts}
 use native.Mathlib.Omega.{arith}
-use Rattle.endian.specs.Le.{toLe}
+use Rattle.lists.specs.Le.{toLe}
 use Rattle.image_write.proofs.Written.{splice-three}
 use borrow.Author.Needs.{needs}
 use Rattle.image_write.proofs.inner.write_entry.Statement.{statement}

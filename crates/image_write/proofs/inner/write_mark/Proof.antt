@@ -1,7 +1,7 @@
 -- The numbers end to end. Assumes nothing.
 use Rattle.image_write.proofs.Written.{splice-three}
 use native.Mathlib.Omega.{arith}
-use Rattle.endian.specs.Le.{toLe}
+use Rattle.lists.specs.Le.{toLe}
 use borrow.Author.Needs.{needs}
 use Rattle.image_write.proofs.inner.write_mark.Statement.{statement}
 use Rattle.image_write.proofs.inner.write_mark.Tie as tie

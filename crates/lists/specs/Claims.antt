@@ -4,8 +4,8 @@ use mathlib.Core.Path.{_≡_}
 use Prim.Native.Nat.{ℕ, _^_, _<_}
 use mathlib.Core.List.{List}
 use lib.ListN.{length}
 use Rattle.lists.specs.Parts.{Bytes}
-use Rattle.endian.specs.Le.{le, toLe}
+use Rattle.lists.specs.Le.{le, toLe}
 
 -- A number that fits in `count` bytes is what its bytes stand for.
 abbrev pub NumberComesBack : Type 0

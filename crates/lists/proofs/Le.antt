@@ -9,11 +9,11 @@ use lib.ListN.{length, drop, getD, replicate, length-take}
 use lib.Seq.{drop-cons}
 use lib.Arith.{digits-lt, digits-div, digits-mod}
 use lib.Dec.{T, eqb, lit<, eqb→eq}
 use Rattle.lists.specs.Parts.{part, splice, zeros, Bytes}
-use Rattle.endian.specs.Le.{le, toLe}
+use Rattle.lists.specs.Le.{le, toLe}
 use Rattle.lists.proofs.Bytes.{Bytes-nil, Bytes-cons, Bytes-part}
 use Rattle.lists.proofs.Parts.{drop-left, length-part, getD-part, splice-here, splice-part}
 use Rattle.lists.proofs.Tests.{same, T-and, T-and-left, T-and-right, eq→eqb}
 
 -- One more byte below, and fewer bytes than k.
 pub digit : (k : ℕ) {n b : ℕ} → n < 256 ^ k → b < 256 → n * 256 + b < 256 ^ suc k

@@ -1,9 +1,9 @@
 -- The claims on little-endian numbers, and worked cases. Assumes nothing.
 use mathlib.Core.Path.{_≡_, refl}
 use mathlib.Core.List.{[], _∷_}
-use Rattle.endian.specs.Le.{le, toLe}
-use Rattle.endian.specs.Claims.{NumberComesBack, BytesComeBack, NumberFits}
-use Rattle.endian.proofs.Le.{le-toLe, toLe-le, le-bound}
+use Rattle.lists.specs.Le.{le, toLe}
+use Rattle.lists.specs.Claims.{NumberComesBack, BytesComeBack, NumberFits}
+use Rattle.lists.proofs.Le.{le-toLe, toLe-le, le-bound}
 
 pub number-comes-back : NumberComesBack
 number-comes-back = le-toLe

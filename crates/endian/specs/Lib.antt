@@ -1,2 +1,0 @@
-pub mod Le
-pub mod Claims
