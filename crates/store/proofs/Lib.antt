@@ -1,3 +1,1 @@
 pub mod Step
-pub mod Texts
-pub mod Kept

@@ -4,9 +4,9 @@ use mathlib.Core.Path.{_≡_, refl}
 use lib.ListN.{length}
 use Rattle.lists.proofs.Tests.{to-T}
 use Rattle.image_claims.proofs.Decode.{places}
-use Rattle.store.specs.Effects.{judgedAt}
+use Rattle.store.specs.Carried.{judgedAt}
 use Rattle.store.proofs.Step.{exits, refuses, accepts, payload-fits, lent-fits, raises}
-use Rattle.store.proofs.Texts.{header-in}
+use Rattle.effects.proofs.Texts.{header-in}
 use Rattle.store.proofs.inner.carry.Statement.{statement}
 use Rattle.store.proofs.inner.carry.Tie as tie
 

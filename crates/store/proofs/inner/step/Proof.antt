@@ -18,7 +18,7 @@ use Rattle.store.proofs.Step.{
   serve-no-card,
   serve-found,
 }
-use Rattle.store.proofs.Texts.{header-in}
+use Rattle.effects.proofs.Texts.{header-in}
 use Rattle.store.proofs.inner.step.Statement.{statement}
 use Rattle.store.proofs.inner.step.Tie as tie
 

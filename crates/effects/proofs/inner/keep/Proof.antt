@@ -4,9 +4,9 @@ use native.Mathlib.Omega.{arith}
 use Rattle.lists.proofs.Tests.{to-T}
 use Rattle.image_claims.proofs.Claims.{soundReadsBack}
 use Rattle.image_claims.proofs.Decode.{places}
-use Rattle.store.proofs.Kept.{keeps}
-use Rattle.store.proofs.inner.keep.Statement.{statement}
-use Rattle.store.proofs.inner.keep.Tie as tie
+use Rattle.effects.proofs.Kept.{keeps}
+use Rattle.effects.proofs.inner.keep.Statement.{statement}
+use Rattle.effects.proofs.inner.keep.Tie as tie
 
 write-requires : tie.Need-write-requires
 write-requires c κs = search needs

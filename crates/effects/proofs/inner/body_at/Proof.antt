@@ -1,8 +1,8 @@
 -- `store::inner::body_at` meets its contract. Assumes nothing.
 use borrow.Author.Needs.{needs}
-use Rattle.store.proofs.Texts.{header-in}
-use Rattle.store.proofs.inner.body_at.Statement.{statement}
-use Rattle.store.proofs.inner.body_at.Tie as tie
+use Rattle.effects.proofs.Texts.{header-in}
+use Rattle.effects.proofs.inner.body_at.Statement.{statement}
+use Rattle.effects.proofs.inner.body_at.Tie as tie
 
 count-requires : tie.Need-count-requires
 count-requires c κs = header-in _ (c .before .pre)

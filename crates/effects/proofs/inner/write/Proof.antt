@@ -4,9 +4,9 @@ use borrow.Author.Needs.{needs}
 use native.Mathlib.Omega.{arith}
 use mathlib.Core.Path.{sym, _∙_}
 use Rattle.commands.specs.Command.{original, translation}
-use Rattle.store.proofs.Texts.{header-in, body-within, written, written-none}
-use Rattle.store.proofs.inner.write.Statement.{statement}
-use Rattle.store.proofs.inner.write.Tie as tie
+use Rattle.effects.proofs.Texts.{header-in, body-within, written, written-none}
+use Rattle.effects.proofs.inner.write.Statement.{statement}
+use Rattle.effects.proofs.inner.write.Tie as tie
 
 room-requires : tie.Need-room-requires
 room-requires c κs = header-in _ (c .before .before .before .pre .0)

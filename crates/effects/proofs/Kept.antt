@@ -16,7 +16,7 @@ use Rattle.layout.specs.Layout.{entryPlace}
 use Rattle.image_write.specs.Write.{entryBytes}
 use Rattle.image_read.specs.Read.{countOf, entryAt}
 use Rattle.image_claims.proofs.Encode.{put-entry, put-text-entry}
-use Rattle.store.specs.Effects.{bodyWritten, textWritten}
+use Rattle.effects.specs.Effects.{bodyWritten, textWritten}
 use Rattle.model.specs.Serve.{stepped}
 use Rattle.image_claims.proofs.Decode.{count-decode, card-decode}
 

@@ -4,9 +4,9 @@ use borrow.Author.Needs.{needs}
 use mathlib.Core.Path.{sym, _∙_}
 use Rattle.commands.specs.Command.{original, translation}
 use Rattle.image.specs.Image.{cardAt}
-use Rattle.store.proofs.Texts.{text-fits, shows, shows-none}
-use Rattle.store.proofs.inner.show.Statement.{statement}
-use Rattle.store.proofs.inner.show.Tie as tie
+use Rattle.effects.proofs.Texts.{text-fits, shows, shows-none}
+use Rattle.effects.proofs.inner.show.Statement.{statement}
+use Rattle.effects.proofs.inner.show.Tie as tie
 
 reads-original-requires : tie.Need-reads-original-requires
 reads-original-requires c κs = search needs

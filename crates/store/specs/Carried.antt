@@ -1,33 +1,17 @@
--- One well-formed command for a card that exists, on a sound image, in the terms of the step's own functions: the judging entry, the bytes while
--- an accepted command is carried out, and what is left. A request as a whole is `serve`.
+-- One well-formed command for a card that exists, on a sound image, in the terms of the step's own functions: the judging entry, and what is
+-- left. A request as a whole is `serve`.
 -- Assumes nothing.
 use Prim.Native.Nat.{ℕ}
 use mathlib.Core.List.{List}
-use mathlib.Core.Bool.{cond}
 use lib.ListN.{length}
 use Rattle.lists.specs.Parts.{splice}
-use Rattle.commands.specs.Command.{original, translation, writes}
 use Rattle.guard.specs.Judge.{judged, replied}
 use Rattle.lists.specs.Table.{settled}
 use Rattle.commands.specs.declared.Command.{Command}
 use Rattle.guard.specs.declared.Judged.{Judged}
-use Rattle.layout.specs.Layout.{bodyPlace}
-use Rattle.image_read.specs.Read.{countOf, roomOf, entryAt}
-use Rattle.image_write.specs.Write.{pad}
+use Rattle.image_read.specs.Read.{roomOf, entryAt}
 use Rattle.image.specs.Image.{cardAt, withCard, encode, decode}
 use Rattle.model.specs.Serve.{Outcome, textRead, stepped}
-
--- An image with a text in a body of card k, "writing zeroes the rest of that body": side 0 is the original, side 1 the translation.
-abbrev pub bodyWritten : List ℕ → ℕ → ℕ → List ℕ → List ℕ
-bodyWritten image k side text = splice (bodyPlace (countOf image) (roomOf image) k side) (pad (roomOf image) text) image
-
--- An image with a command's payload in place of the text that it writes, if it writes one.
-unfoldable pub textWritten : List ℕ → Command → List ℕ → List ℕ
-textWritten image c text =
-    cond
-    (writes original c)
-    (bodyWritten image (c .card) 0 text)
-    (cond (writes (translation 0) c) (bodyWritten image (c .card) 1 text) image)
 
 -- The entry of the card that a command names judges it.
 abbrev pub judgedAt : List ℕ → Command → ℕ → Judged

@@ -19,7 +19,7 @@ use Rattle.image_read.specs.Read.{countOf, roomOf, entryAt}
 use Rattle.image_write.specs.Write.{pad}
 use Rattle.image.proofs.Bytes.{Lengths}
 use Rattle.image_claims.proofs.Decode.{Places, places, long}
-use Rattle.store.specs.Effects.{bodyWritten, textWritten}
+use Rattle.effects.specs.Effects.{bodyWritten, textWritten}
 use Rattle.model.specs.Serve.{textRead}
 
 module _ (c : Command) where

@@ -1,0 +1,2 @@
+// What an accepted command makes of a sound image and of the reply buffer.
+pub mod inner;
