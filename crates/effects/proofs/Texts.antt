@@ -10,7 +10,8 @@ use Rattle.lists.specs.Parts.{part, splice}
 use Rattle.lists.proofs.Parts.{splice-nil}
 use Rattle.lists.proofs.Tests.{to-T, never-both}
 use Rattle.commands.specs.Command.{Language, original, translation, reads, writes}
-use Rattle.guard.specs.Judge.{textLength, readLength}
+use Rattle.guard.specs.Judge.{textLength}
+use Rattle.replies.specs.Replies.{readLength}
 use Rattle.commands.specs.declared.Command.{Command}
 use Rattle.guard.specs.declared.Entry.{Entry}
 use Rattle.image.specs.Image.{Card, text, sideOf, sound, cardAt}

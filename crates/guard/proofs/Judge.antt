@@ -1,20 +1,20 @@
 -- Laws of an entry that judges a command. Assumes nothing.
 use Prim.Native.Nat.{ℕ, zero, suc, _≤_}
 use native.Mathlib.Omega.{arith}
-use mathlib.Core.Path.{_≡_, refl, subst}
+use mathlib.Core.Path.{_≡_, refl}
 use mathlib.Core.Logic.{_↔_, _⊎_}
 use mathlib.Core.Bool.{Bool, true, false, not, _&&_}
-use borrow.Author.Tests.{ltb-false, eqb-true, eqb-false, not-true, not-false}
+use borrow.Author.Tests.{ltb-false, eqb-true, eqb-false, not-false}
 use lib.Dec.{T, eqb}
-use Rattle.lists.proofs.Tests.{from-T, never-both, or-fails}
+use Rattle.lists.proofs.Tests.{never-both, or-fails}
 use Rattle.stamps.specs.Stamp.{shared, exclusive, stale, markFits}
 use Rattle.commands.specs.Command.{Language, original, translation, reads, writes, verifier, update, wellFormed}
 use Rattle.lists.specs.Table.{first, none, applies, earlier, once, settled}
-use Rattle.guard.specs.Judge.{behind, lastEdition, overruns, entryRows, rows, raise, judged, blank, readLength, replied, refused}
+use Rattle.guard.specs.Judge.{behind, lastEdition, overruns, entryRows, rows, raise, judged}
 use Rattle.commands.specs.declared.Command.{Command}
 use Rattle.guard.specs.declared.Entry.{Entry}
 use Rattle.guard.specs.declared.Judged.{Judged}
-use Rattle.lists.proofs.Table.{given, unapplied, none-applies, first-all, settled-new, settled-old}
+use Rattle.lists.proofs.Table.{given, unapplied, none-applies, settled-new, settled-old}
 use Rattle.commands.proofs.Rules.{command-rules}
 use Rattle.stamps.proofs.Stamp.{larger-old, stale-more}
 
@@ -89,11 +89,6 @@ module _ (e : Entry) (c : Command) (room lent : ℕ) where
       lends (translation zero) = or-fails (overruns original e c lent) (overruns (translation 0) e c lent) (row-fails 8) .1
       lends (translation (suc t)) = refl
 
--- The reply fields of the numbers that show none of the entry.
-pub replied-blank : (n : ℕ) (e : Entry) (c : Command) → blank n ≡ true → replied n e c ≡ refused n
-unfolding replied
-replied-blank n e c b = rw (b, settled-old {n = n} (readLength e c) 0 (λ z. never-both (subst (λ (k : ℕ). blank k ≡ true) z b) refl))
-
 module _ (e : Entry) (c : Command) (room lent : ℕ) where
   -- A refusal leaves the entry.
   pub refusal-leaves : (n : ℕ) → judged e c room lent .number ≡ suc n → judged e c room lent .entry ≡ e
@@ -108,12 +103,9 @@ module _ (e : Entry) (c : Command) (room lent : ℕ) where
   pub accepted-mode : Accepted e c room lent → (c .mode ≡ shared) ⊎ (c .mode ≡ exclusive)
   accepted-mode a = command-rules c (a .formed) .session .mode
 
-  -- Rows 3 to 8 decide on a well-formed command, and no number of theirs has zero reply fields.
+  -- Rows 3 to 8 decide on a well-formed command.
   pub rows-formed : wellFormed c ≡ true → first (rows e c room lent) ≡ first (entryRows e c room lent)
   rows-formed h = rw h
-
-  pub entry-shown : blank (first (entryRows e c room lent)) ≡ false
-  entry-shown = not-true (blank (first (entryRows e c room lent))) (from-T (not (blank (first (entryRows e c room lent)))) (first-all (λ n. not (blank n)) (entryRows e c room lent) tt tt))
 
 -- The stored stamps grow.
 pub raise-more : (e : Entry) (c : Command) → (e .pair .s ≤ raise e c .pair .s) × (e .pair .x ≤ raise e c .pair .x)

@@ -1,13 +1,10 @@
 ghost use mathlib.Core.Path.{_≡_};
 ghost use mathlib.Core.Bool.{false, cond};
-ghost use Rattle.guard.specs.Judge.{behind, wrongEdition, editionsSpent, replyShort, rows, raise, judged, blank, readLength, replied, refused};
-ghost use Rattle.lists.specs.Table.{first, settled};
-use crate::Answer;
+ghost use Rattle.guard.specs.Judge.{behind, wrongEdition, editionsSpent, replyShort, rows, raise, judged};
+ghost use Rattle.lists.specs.Table.{first};
 use crate::Entry;
 use crate::Judged;
 use commands::Command;
-use stamps::Mark;
-use stamps::Pair;
 use stamps::larger_of_each;
 use stamps::mark_fits;
 use stamps::stale;
@@ -137,75 +134,6 @@ impl Entry {
             number,
             entry: self.raised(c),
         }
-    }
-
-    // The length of the text that the command reads, 0 if it reads none.
-    fn read_length(self, c: Command) -> u16
-        ensures { λ r. ⌜ r ≡ readLength self c ⌝ }
-    {
-        if c.reads_original() {
-            return self.original;
-        }
-        if c.reads_translation() {
-            return self.translation;
-        }
-        0
-    }
-}
-
-impl Judged {
-    // The length field: of the text read if a read is accepted, else 0.
-    fn length(self, c: Command) -> u16
-        ensures { λ r. ⌜ r ≡ settled (self .number) (readLength (self .entry) c) 0 ⌝ }
-    {
-        if self.number == ACCEPTED {
-            return self.entry.read_length(c);
-        }
-        0
-    }
-
-    // The number with the seven reply fields: zeros for 9, 1 and 2, else the entry as it now is.
-    pub fn reply(self, c: Command) -> Answer
-        ensures { λ r. ⌜ r ≡ replied (self .number) (self .entry) c ⌝ }
-    {
-        if is_blank(self.number) {
-            return refusal(self.number);
-        }
-        let entry = self.entry;
-        let pair = entry.pair;
-        let mark = entry.mark;
-        Answer {
-            number: self.number,
-            pair,
-            mark,
-            edition: entry.edition,
-            from: entry.from,
-            length: self.length(c),
-        }
-    }
-}
-
-// Whether the number's reply fields are zeros.
-fn is_blank(number: u8) -> bool
-    ensures { λ r. ⌜ r ≡ blank number ⌝ }
-{
-    (number == UNSOUND) | (number == MALFORMED) | (number == NO_CARD)
-}
-
-// The answer of a number whose reply fields are zeros.
-pub fn refusal(number: u8) -> Answer
-    ensures { λ r. ⌜ r ≡ refused number ⌝ }
-{
-    Answer {
-        number,
-        pair: Pair { s: 0, x: 0 },
-        mark: Mark {
-            desk: 0,
-            transaction: 0,
-        },
-        edition: 0,
-        from: 0,
-        length: 0,
     }
 }
 

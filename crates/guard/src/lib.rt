@@ -1,7 +1,6 @@
 // The guard of one card: an entry that judges a command.
 pub mod entries;
 
-pub use entries::refusal;
 use stamps::Mark;
 use stamps::Pair;
 
@@ -20,14 +19,4 @@ pub struct Entry {
 pub struct Judged {
     pub number: u8,
     pub entry: Entry,
-}
-
-// A number and the seven reply fields.
-pub struct Answer {
-    pub number: u8,
-    pub pair: Pair,
-    pub mark: Mark,
-    pub edition: u16,
-    pub from: u16,
-    pub length: u16,
 }

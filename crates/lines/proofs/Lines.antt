@@ -6,7 +6,7 @@ use lib.ListN.{length}
 use native.Mathlib.Omega.{arith}
 use Rattle.lists.specs.Parts.{splice}
 use Rattle.lists.proofs.Parts.{splice-adjacent}
-use Rattle.guard.specs.declared.Answer.{Answer}
+use Rattle.replies.specs.declared.Answer.{Answer}
 use Rattle.lines.specs.Lines.{numbersOf, perLine}
 
 pub per-line : (a : Answer) → length (numbersOf a) ≡ perLine

@@ -2,7 +2,7 @@
 -- Assumes nothing.
 use Prim.Native.Nat.{ℕ}
 use mathlib.Core.List.{List, [], _∷_}
-use Rattle.guard.specs.declared.Answer.{Answer}
+use Rattle.replies.specs.declared.Answer.{Answer}
 
 -- "Number, then the seven fields": the numbers of a line, in the sheet's order, and how many they are.
 unfoldable pub numbersOf : Answer → List ℕ

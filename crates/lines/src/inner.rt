@@ -4,7 +4,7 @@ ghost use lib.ListN.{length};
 ghost use Rattle.lists.specs.Parts.{splice};
 ghost use Rattle.lines.specs.Lines.{numbersOf, perLine};
 use crate::PER_LINE;
-use guard::Answer;
+use replies::Answer;
 
 // Writes the numbers of an answer's line into `out` from `at` on.
 pub fn put_line(out: &mut [u64], at: usize, a: Answer)

@@ -3,7 +3,7 @@ pub mod inner;
 
 ghost use mathlib.Core.Path.{_≡_};
 ghost use Rattle.lines.specs.Lines.{numbersOf};
-use guard::Answer;
+use replies::Answer;
 
 // How many numbers a line has behind its place: the answer's number and seven fields.
 pub const PER_LINE: usize = 8;

@@ -7,7 +7,7 @@ ghost use Rattle.marshal.specs.Shown.{askedNumber, shownLength};
 use desk::Language;
 
 // The seven reply fields as numbers.
-pub fn write_fields(fields: &mut [u64; 7], a: guard::Answer)
+pub fn write_fields(fields: &mut [u64; 7], a: replies::Answer)
     ensures { λ _. ⌜ now (fields .exit) ≡ fieldsOf a ⌝ }
 {
     let pair = a.pair;

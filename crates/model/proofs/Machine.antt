@@ -14,7 +14,8 @@ use Rattle.lists.proofs.Tests.{cases, or-right, not-in, ltb-max}
 use Rattle.commands.specs.Command.{Language, original, translation, writes, update}
 use Rattle.command_bytes.specs.CommandBytes.{fieldsOf, formed, payload}
 use Rattle.stamps.specs.Stamp.{noMark}
-use Rattle.guard.specs.Judge.{behind, textLength, rows, raise, judged, replied}
+use Rattle.guard.specs.Judge.{behind, textLength, rows, raise, judged}
+use Rattle.replies.specs.Replies.{replied}
 use Rattle.lists.specs.Table.{first, settled, applies}
 use Rattle.commands.specs.declared.Command.{Command}
 use Rattle.stamps.specs.declared.Pair.{Pair}

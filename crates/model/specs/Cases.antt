@@ -7,7 +7,7 @@ use mathlib.Core.List.{List, [], _∷_, _++_, map, reverse}
 use lib.ListN.{length, replicate}
 use Rattle.command_bytes.specs.CommandBytes.{commandBytes}
 use Rattle.stamps.specs.Stamp.{stamp, shared, exclusive, noMark, noPair}
-use Rattle.guard.specs.declared.Answer.{Answer}
+use Rattle.replies.specs.declared.Answer.{Answer}
 use Rattle.stamps.specs.declared.Pair.{Pair}
 use Rattle.image.specs.Image.{encode}
 use Rattle.fresh.specs.Fresh.{fresh}

@@ -8,7 +8,7 @@ use lib.Dec.{ltb, eqb}
 use Rattle.stamps.specs.Stamp.{shared, exclusive, deskStart, noMark, markFits}
 use Rattle.commands.specs.Command.{Language, original, translation, writes, verifier, update, session}
 use Rattle.command_bytes.specs.CommandBytes.{fieldsOf, payload, formed}
-use Rattle.guard.specs.declared.Answer.{Answer}
+use Rattle.replies.specs.declared.Answer.{Answer}
 use Rattle.commands.specs.declared.Command.{Command}
 use Rattle.fresh.specs.Fresh.{fresh}
 use Rattle.model.specs.Serve.{Outcome, serve}

@@ -5,7 +5,7 @@ use mathlib.Core.Path.{_≡_, refl, ap}
 use mathlib.Core.List.{List, [], _∷_}
 use lib.ListN.{length, take, getD}
 use Rattle.lists.proofs.Spread.{part-spread}
-use Rattle.guard.specs.declared.Answer.{Answer}
+use Rattle.replies.specs.declared.Answer.{Answer}
 use Rattle.model.specs.Serve.{serve}
 use Rattle.lines.specs.Lines.{numbersOf, perLine}
 use Rattle.runs.specs.Run.{runs}

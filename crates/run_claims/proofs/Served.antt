@@ -17,8 +17,9 @@ use Rattle.lists.proofs.Tests.{to-T, from-T, cases, or-none, or-cases, and-righ
 use Rattle.commands.specs.Command.{Language, original, translation, reads}
 use Rattle.command_bytes.specs.CommandBytes.{fieldsOf, formed}
 use Rattle.commands.specs.declared.Command.{Command}
-use Rattle.guard.specs.Judge.{overruns, replied}
-use Rattle.guard.specs.declared.Answer.{Answer}
+use Rattle.guard.specs.Judge.{overruns}
+use Rattle.replies.specs.Replies.{replied}
+use Rattle.replies.specs.declared.Answer.{Answer}
 use Rattle.image_read.specs.Read.{roomOf}
 use Rattle.image.specs.Image.{Cards, encode, decode, sound}
 use Rattle.fresh.specs.Fresh.{fresh}

@@ -7,7 +7,7 @@ use mathlib.Core.Bool.{true}
 use lib.Dec.{T, eqb}
 use lib.ListN.{length, take, getD, replicate}
 use Rattle.lists.specs.Parts.{part, Bytes}
-use Rattle.guard.specs.declared.Answer.{Answer}
+use Rattle.replies.specs.declared.Answer.{Answer}
 use Rattle.layout.specs.Layout.{shapeOk}
 use Rattle.image.specs.Image.{sound}
 use Rattle.fresh.specs.Fresh.{fresh}

@@ -7,7 +7,7 @@ use native.Mathlib.Omega.{arith}
 use native.Mathlib.Nat.{zero-add}
 use Rattle.lists.specs.Parts.{part, splice, spread}
 use Rattle.lists.proofs.Parts.{splice-nil, length-splice}
-use Rattle.guard.specs.declared.Answer.{Answer}
+use Rattle.replies.specs.declared.Answer.{Answer}
 use Rattle.lines.specs.Lines.{numbersOf, perLine}
 use Rattle.lines.proofs.Lines.{per-line, line-more}
 use Rattle.model.specs.Serve.{serve}

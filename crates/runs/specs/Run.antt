@@ -3,7 +3,7 @@
 use Prim.Native.Nat.{ℕ}
 use mathlib.Core.List.{List, [], _∷_}
 use Rattle.lists.specs.Parts.{spread}
-use Rattle.guard.specs.declared.Answer.{Answer}
+use Rattle.replies.specs.declared.Answer.{Answer}
 use Rattle.lines.specs.Lines.{numbersOf}
 use Rattle.model.specs.Serve.{serve}
 

@@ -14,8 +14,9 @@ use Rattle.lists.proofs.Tests.{cases, never-both}
 use Rattle.commands.specs.Command.{Language, original, translation, reads}
 use Rattle.command_bytes.specs.CommandBytes.{fieldsOf, payload, formed, parsed, fixed}
 use Rattle.lists.specs.Table.{first}
-use Rattle.guard.specs.Judge.{rows, readLength, overruns, raise, replied, judged, refused}
-use Rattle.guard.specs.declared.Answer.{Answer}
+use Rattle.guard.specs.Judge.{rows, overruns, raise, judged}
+use Rattle.replies.specs.Replies.{readLength, replied, refused}
+use Rattle.replies.specs.declared.Answer.{Answer}
 use Rattle.commands.specs.declared.Command.{Command}
 use Rattle.guard.specs.declared.Entry.{Entry}
 use Rattle.guard.specs.declared.Judged.{Judged}

@@ -5,7 +5,8 @@ use Prim.Native.Nat.{ℕ}
 use mathlib.Core.List.{List}
 use lib.ListN.{length}
 use Rattle.lists.specs.Parts.{splice}
-use Rattle.guard.specs.Judge.{judged, replied}
+use Rattle.guard.specs.Judge.{judged}
+use Rattle.replies.specs.Replies.{replied}
 use Rattle.lists.specs.Table.{settled}
 use Rattle.commands.specs.declared.Command.{Command}
 use Rattle.guard.specs.declared.Judged.{Judged}

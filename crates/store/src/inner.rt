@@ -8,10 +8,10 @@ ghost use Rattle.store.specs.Carried.{carried};
 ghost use Rattle.model.specs.Serve.{serve};
 use command_bytes::Parsed;
 use commands::Command;
-use guard::Answer;
 use guard::entries::ACCEPTED;
 use guard::entries::MALFORMED;
 use guard::entries::NO_CARD;
+use replies::Answer;
 
 // A command for a card that exists, on a sound image: its entry judges, and an accepted command is carried out.
 fn carry(image: &mut [u8], c: Command, text: &[u8], reply: &mut [u8]) -> Answer
@@ -23,11 +23,11 @@ fn carry(image: &mut [u8], c: Command, text: &[u8], reply: &mut [u8]) -> Answer
     let e = image_read::inner::read_entry(image, c.card);
     let judged = e.judge(c, image_read::inner::room(image), reply.len());
     if judged.number != ACCEPTED {
-        return judged.reply(c);
+        return replies::reply(judged, c);
     }
     effects::inner::show(image, c, e, reply);
     effects::inner::keep(image, c, judged.entry, text);
-    judged.reply(c)
+    replies::reply(judged, c)
 }
 
 // One request on a sound image, which it keeps sound.
@@ -39,10 +39,10 @@ pub fn step(image: &mut [u8], command: &[u8], reply: &mut [u8]) -> Answer
     ensures kept { λ _. ⌜ sound (now (image .exit)) ≡ true ⌝ }
 {
     let Parsed::Formed(c) = command_bytes::parse(command) else {
-        return guard::refusal(MALFORMED);
+        return replies::refusal(MALFORMED);
     };
     if image_read::inner::count(image) <= c.card {
-        return guard::refusal(NO_CARD);
+        return replies::refusal(NO_CARD);
     }
     carry(image, c, &command[command_bytes::FIXED..], reply)
 }

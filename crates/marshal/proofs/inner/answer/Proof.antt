@@ -1,6 +1,6 @@
 -- Answered, and the fields written. Assumes nothing.
 use mathlib.Core.Path.{ap, _∙_}
-use Rattle.guard.specs.declared.Answer.{Answer}
+use Rattle.replies.specs.declared.Answer.{Answer}
 use Rattle.marshal.specs.Fields.{fieldsOf}
 use borrow.Author.Needs.{needs}
 use Rattle.marshal.proofs.inner.answer.Statement.{statement}

@@ -1,8 +1,8 @@
 -- By the tests of the act. Assumes nothing.
 use borrow.Author.Needs.{needs}
 use mathlib.Core.Path.{sym, _∙_}
-use Rattle.guard.proofs.Entry.read_length.Statement.{statement}
-use Rattle.guard.proofs.Entry.read_length.Tie as tie
+use Rattle.replies.proofs.read_length.Statement.{statement}
+use Rattle.replies.proofs.read_length.Tie as tie
 
 reads-original-requires : tie.Need-reads-original-requires
 reads-original-requires c κs = search needs

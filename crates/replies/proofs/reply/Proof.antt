@@ -1,10 +1,10 @@
 -- By whether the number shows the entry. Assumes nothing.
 use borrow.Author.Needs.{needs}
 use mathlib.Core.Path.{sym, _∙_}
-use Rattle.guard.specs.Judge.{replied}
-use Rattle.guard.proofs.Judge.{replied-blank}
-use Rattle.guard.proofs.Judged.reply.Statement.{statement}
-use Rattle.guard.proofs.Judged.reply.Tie as tie
+use Rattle.replies.specs.Replies.{replied}
+use Rattle.replies.proofs.Replies.{replied-blank}
+use Rattle.replies.proofs.reply.Statement.{statement}
+use Rattle.replies.proofs.reply.Tie as tie
 
 is-blank-requires : tie.Need-is-blank-requires
 is-blank-requires c κs = search needs

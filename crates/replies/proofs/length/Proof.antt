@@ -2,8 +2,8 @@
 use borrow.Author.Needs.{needs}
 use mathlib.Core.Path.{sym, _∙_}
 use Rattle.lists.proofs.Table.{settled-new, settled-old}
-use Rattle.guard.proofs.Judged.length.Statement.{statement}
-use Rattle.guard.proofs.Judged.length.Tie as tie
+use Rattle.replies.proofs.length.Statement.{statement}
+use Rattle.replies.proofs.length.Tie as tie
 
 read-length-requires : tie.Need-read-length-requires
 read-length-requires c κs = search needs
