@@ -10,7 +10,7 @@ use queue_state::Waiting;
 use queue_state::inner::place;
 use stamps::Pair;
 
-// The entry at place i.
+// The places with this entry at place i.
 pub fn put(places: Places, i: usize, w: Waiting) -> Places
     requires { ⌜ i < mostPlaces ⌝ }
     ensures { λ r. ⌜ r .at ≡ set (places .at) i w ⌝ }
