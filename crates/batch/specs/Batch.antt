@@ -14,7 +14,7 @@ use Rattle.stream.specs.Stream.{commands}
 abbrev pub mostNumbers : ℕ
 mostNumbers = mostInput / fixed * perLine
 
--- "An image as long as its header says, then a stream. Its reply buffer has C bytes", zeros at first.
+-- "An image as long as its header says, then a stream"; "its reply buffer has C bytes", zeros at first.
 abbrev pub answered : ℕ → ℕ → List ℕ → Run
 answered size room input = runs (take size input) (replicate room 0) (commands (drop size input))
 

@@ -110,13 +110,13 @@ changes =
     -- "18 zero u16"
     ∷ changed 34 1 false
     ∷ changed 35 1 false
-    -- "edition 0 has length 0; translated-from is at most edition; translated-from 0 has translation length 0"
+    -- "edition 0 has length 0"; "translated-from is at most edition"; "translated-from 0 has translation length 0"
     ∷ changed 40 0 false
     ∷ changed 40 1 true
     ∷ changed 42 2 true
     ∷ changed 42 3 false
     ∷ changed 42 0 false
-    -- "lengths are at most C; body bytes past the length are zero"
+    -- "lengths are at most C"; "body bytes past the length are zero"
     ∷ changed 44 2 false
     ∷ changed 44 16 true
     ∷ changed 44 17 false

@@ -51,7 +51,7 @@ abbrev pub blank : ℕ → Bool
 blank number = eqb number 10 || eqb number 1
 
 -- "Each answer gives number, whether that desk holds the lock in the queue as it now is (not, for 10 and 1), largest pair as it now is (zeros
--- for 10 and 1), and how many entries were looked at, in the queue at entry (zero for 10 and 1)".
+-- for 10 and 1), and how many entries were looked at, in the queue at entry: ..; zero for 10 and 1."
 unfoldable pub answered : ℕ → ℕ → State → State → Answer
 answered number d entry exit =
     record {

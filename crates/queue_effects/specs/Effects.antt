@@ -24,7 +24,7 @@ unfoldable pub removed : ℕ → List Waiting → List Waiting
 removed d [] = []
 removed d (w ∷ ws) = cond (eqb (desk w) d) ws (w ∷ removed d ws)
 
--- "Leaving closes the gap and zeroes the freed last place; other places past the count keep what they hold."
+-- "Leaving closes the gap and zeroes the freed last place, ..; other places past the count keep what they hold."
 unfoldable pub without : ℕ → State → State
 without d q =
     record {

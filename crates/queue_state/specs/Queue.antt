@@ -15,7 +15,7 @@ use Rattle.queue_state.specs.declared.Waiting.{Waiting}
 abbrev pub mostPlaces : ℕ
 mostPlaces = 32
 
--- "The queue is a lent slice of waiting entries, with a count and the largest s and x ever accepted there". How many places were lent is
+-- "The queue is a lent slice of waiting entries, .., with a count and the largest s and x ever accepted there". How many places were lent is
 -- a number of its own below: the list may be shorter or longer than that.
 pub record State : Type 0 where
   pub places : List Waiting
@@ -51,7 +51,7 @@ unfoldable pub firstPlace : ℕ → List ℕ → ℕ
 firstPlace d [] = 0
 firstPlace d (e ∷ es) = cond (eqb e d) 0 (suc (firstPlace d es))
 
--- "How many entries were looked at: those from the front up to and including the desk's own, or all standing if it has none".
+-- "How many entries were looked at, ..: those from the front up to and including the desk's own, or all standing if it has none".
 unfoldable pub looked : ℕ → List ℕ → ℕ
 looked d es = cond (stands d es) (firstPlace d es + 1) (length es)
 

@@ -7,7 +7,7 @@ use lib.Dec.{ltb, eqb}
 use Rattle.stamps.specs.declared.Mark.{Mark}
 use Rattle.stamps.specs.declared.Pair.{Pair}
 
--- "A stamp is T.desk.start: 32, 16 and 16 bits, T highest, compared as one 64-bit number." Minuet: a timestamp T.cliID.incNum.
+-- "A stamp is T.desk.start ..: 32, 16 and 16 bits, T highest, compared as one 64-bit number." Minuet: a timestamp T.cliID.incNum.
 abbrev pub stamp : ℕ → ℕ → ℕ → ℕ
 stamp t desk start = t * 4294967296 + desk * 65536 + start
 
@@ -61,7 +61,7 @@ largerOfEach old new = record { s = max (old .s) (new .s); x = max (old .x) (new
 abbrev pub markWhole : Mark → Bool
 markWhole m = Bool·beq (eqb (m .desk) 0) (eqb (m .transaction) 0)
 
--- "The commit mark must equal the stored mark in desk and in transaction."
+-- "The commit mark, .., must equal the stored mark in desk and in transaction."
 abbrev pub markFits : Mark → Mark → Bool
 markFits stored expected = eqb (expected .desk) (stored .desk) && eqb (expected .transaction) (stored .transaction)
 
