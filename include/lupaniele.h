@@ -1,4 +1,4 @@
-/* The card store, proved: the functions of libcapi_store.a, libcapi_queue.a and libcapi_desk.a (x86-64). */
+/* The card store, proved: the functions of libcapi.a (x86-64). */
 #ifndef LUPANIELE_H
 #define LUPANIELE_H
 

@@ -1,5 +1,5 @@
-//! The proved libraries, by their exported functions: safe names over
-//! `crates/capi_store`, `crates/capi_queue` and `crates/capi_desk`. Slices are a pointer and a length there, arrays a pointer.
+//! The proved library, by its exported functions: safe names over
+//! `crates/capi`. Slices are a pointer and a length there, arrays a pointer.
 
 use second::short::Kept;
 use second::{Held, Language, Place, Turn};

@@ -1,8 +1,8 @@
 -- Cut, or whole. Assumes nothing.
 use mathlib.Core.Path.{sym, _∙_}
 use borrow.Author.Needs.{needs}
-use Rattle.capi_desk.proofs.lupaniele_next.Statement.{statement}
-use Rattle.capi_desk.proofs.lupaniele_next.Tie as tie
+use Rattle.capi.proofs.lupaniele_next.Statement.{statement}
+use Rattle.capi.proofs.lupaniele_next.Tie as tie
 
 next-at-requires : tie.Need-next-at-requires
 next-at-requires c κs = search needs

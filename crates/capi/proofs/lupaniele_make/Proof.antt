@@ -1,7 +1,7 @@
 -- What the call ensures. Assumes nothing.
 use borrow.Author.Needs.{needs}
-use Rattle.capi_store.proofs.lupaniele_make.Statement.{statement}
-use Rattle.capi_store.proofs.lupaniele_make.Tie as tie
+use Rattle.capi.proofs.lupaniele_make.Statement.{statement}
+use Rattle.capi.proofs.lupaniele_make.Tie as tie
 
 make-requires : tie.Need-make-requires
 make-requires c κs = search needs

@@ -1,7 +1,7 @@
 -- What the call ensures. Assumes nothing.
 use borrow.Author.Needs.{needs}
-use Rattle.capi_queue.proofs.lupaniele_ask.Statement.{statement}
-use Rattle.capi_queue.proofs.lupaniele_ask.Tie as tie
+use Rattle.capi.proofs.lupaniele_ask.Statement.{statement}
+use Rattle.capi.proofs.lupaniele_ask.Tie as tie
 
 ask-requires : tie.Need-ask-requires
 ask-requires c κs = search needs

@@ -1,7 +1,7 @@
 -- What the call ensures. Assumes nothing.
 use borrow.Author.Needs.{needs}
-use Rattle.capi_queue.proofs.lupaniele_leave.Statement.{statement}
-use Rattle.capi_queue.proofs.lupaniele_leave.Tie as tie
+use Rattle.capi.proofs.lupaniele_leave.Statement.{statement}
+use Rattle.capi.proofs.lupaniele_leave.Tie as tie
 
 leave-requires : tie.Need-leave-requires
 leave-requires c κs = search needs

@@ -1,7 +1,7 @@
 -- What the call ensures. Assumes nothing.
 use borrow.Author.Needs.{needs}
-use Rattle.capi_desk.proofs.lupaniele_shown.Statement.{statement}
-use Rattle.capi_desk.proofs.lupaniele_shown.Tie as tie
+use Rattle.capi.proofs.lupaniele_shown.Statement.{statement}
+use Rattle.capi.proofs.lupaniele_shown.Tie as tie
 
 shown-requires : tie.Need-shown-requires
 shown-requires c κs = search needs

@@ -1,7 +1,7 @@
 -- What the call ensures. Assumes nothing.
 use borrow.Author.Needs.{needs}
-use Rattle.capi_store.proofs.lupaniele_answer.Statement.{statement}
-use Rattle.capi_store.proofs.lupaniele_answer.Tie as tie
+use Rattle.capi.proofs.lupaniele_answer.Statement.{statement}
+use Rattle.capi.proofs.lupaniele_answer.Tie as tie
 
 answer-requires : tie.Need-answer-requires
 answer-requires c κs = search needs
