@@ -14,6 +14,8 @@ countOf image = field 6 2 image
 abbrev pub roomOf : List ℕ → ℕ
 roomOf image = field 8 2 image
 
+-- "Entry: 0 s u64; 8 x u64; 16 commit desk u16; .. 20 commit transaction u32; 24 edition u16; 26 translated-from u16; 28 original length u16;
+-- 30 translation length u16."
 unfoldable pub readEntry : List ℕ → Entry
 readEntry bytes =
     record {
@@ -25,5 +27,6 @@ readEntry bytes =
       translation = field 30 2 bytes;
     }
 
+-- The entry of card k.
 unfoldable pub entryAt : List ℕ → ℕ → Entry
 entryAt image k = readEntry (part (entryPlace k) entrySize image)
