@@ -9,13 +9,13 @@ use lib.Dec.{eqb, lit<, lit≤}
 use lib.ListN.{length, drop, replicate, length-drop, take-append-drop}
 use lib.Seq.{drop-drop}
 use Rattle.lists.specs.Parts.{part, zeros, Bytes}
-use Rattle.lists.specs.Le.{le, toLe}
+use Rattle.lists.specs.Le.{le, toLe, field}
 use Rattle.lists.proofs.Tests.{and-in, and-left, and-right}
 use Rattle.lists.proofs.Bytes.{Bytes-cons, Bytes-nil, Bytes-append, Bytes-replicate, Bytes-drop, Bytes-part, zeros-means}
 use Rattle.lists.proofs.Le.{le-toLe, toLe-le, le-part-bound, Bytes-toLe}
 use Rattle.lists.proofs.Parts.{length-part, drop-left}
 use Rattle.commands.specs.Command.{wellFormed, FitsCommand}
-use Rattle.command_bytes.specs.CommandBytes.{fixed, field, markAt, markBytes, fieldsOf, payload, formed, parsed, commandBytes}
+use Rattle.command_bytes.specs.CommandBytes.{fixed, markAt, markBytes, fieldsOf, payload, formed, parsed, commandBytes}
 use Rattle.stamps.specs.Stamp.{FitsMark}
 use Rattle.commands.specs.declared.Command.{Command}
 use Rattle.stamps.specs.declared.Mark.{Mark}

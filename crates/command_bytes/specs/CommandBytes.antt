@@ -6,7 +6,7 @@ use mathlib.Core.Bool.{Bool, cond, _&&_}
 use lib.ListN.{length, drop, getD, replicate}
 use lib.Dec.{eqb}
 use Rattle.lists.specs.Parts.{part, zeros}
-use Rattle.lists.specs.Le.{le, toLe}
+use Rattle.lists.specs.Le.{toLe, field}
 use Rattle.stamps.specs.Stamp.{noPair, noMark}
 use Rattle.stamps.specs.declared.Mark.{Mark}
 use Rattle.commands.specs.declared.Command.{Command}
@@ -17,10 +17,6 @@ use Rattle.command_bytes.specs.declared.Parsed.the-variants.{Malformed, 
 -- "52 bytes, then its payload".
 abbrev pub fixed : ℕ
 fixed = 52
-
--- The number of `count` bytes at an offset.
-abbrev pub field : ℕ → ℕ → List ℕ → ℕ
-field at count bytes = le (part at count bytes)
 
 -- "36 expected commit desk u16; 38 expected transaction u32; 42 next desk u16; 44 next transaction u32".
 abbrev pub markAt : ℕ → List ℕ → Mark

@@ -11,7 +11,7 @@ use Rattle.lists.specs.Parts.{every}
 use Rattle.lists.specs.Tests.{all, allFrom}
 use Rattle.lists.proofs.Every.{every-fail}
 use Rattle.lists.proofs.Tests.{all-out, all-fails-at}
-use Rattle.command_bytes.specs.CommandBytes.{field}
+use Rattle.lists.specs.Le.{field}
 use Rattle.guard.specs.Entry.{entrySound}
 use Rattle.guard.specs.declared.Entry.{Entry}
 use Rattle.layout.specs.Layout.{sizeOf, headerSize, bodyPlace, entryPlace}

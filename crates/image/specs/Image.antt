@@ -6,10 +6,9 @@ use mathlib.Core.Bool.{Bool, _&&_}
 use lib.ListN.{length, set}
 use lib.Dec.{eqb}
 use Rattle.lists.specs.Parts.{part, spread, table, every, zeros}
-use Rattle.lists.specs.Le.{le}
+use Rattle.lists.specs.Le.{le, field}
 use Rattle.lists.specs.Tests.{all}
 use Rattle.commands.specs.Command.{Language, original, translation}
-use Rattle.command_bytes.specs.CommandBytes.{field}
 use Rattle.guard.specs.Entry.{entrySound, noEntry}
 use Rattle.guard.specs.declared.Entry.{Entry}
 use Rattle.layout.specs.Layout.{sizeOf, shapeOk, entryPlace, bodyPlace}

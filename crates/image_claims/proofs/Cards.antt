@@ -11,7 +11,7 @@ use lib.Dec.{eqb, lit≤, lit<}
 use lib.ListN.{length, take, getD, set, replicate, length-set}
 use lib.Seq.{getD-set-same, getD-set-other}
 use Rattle.lists.specs.Parts.{part, spread, zeros, Bytes}
-use Rattle.lists.specs.Le.{le, toLe}
+use Rattle.lists.specs.Le.{le, toLe, field}
 use Rattle.lists.specs.Tests.{all, allFrom}
 use Rattle.lists.proofs.Bytes.{Bytes-append, Bytes-replicate, Bytes-take, zeros-replicate}
 use Rattle.lists.proofs.Every.{every-in}
@@ -19,7 +19,6 @@ use Rattle.lists.proofs.Le.{Bytes-toLe}
 use Rattle.lists.proofs.Spread.{Bytes-spread, table-is}
 use Rattle.lists.proofs.Tests.{cases, from-T}
 use Rattle.commands.specs.Command.{Language, original, translation}
-use Rattle.command_bytes.specs.CommandBytes.{field}
 use Rattle.guard.specs.Entry.{entrySound}
 use Rattle.guard.specs.declared.Entry.{Entry}
 use Rattle.image.specs.Image.{Card, Cards, text, sideOf, withCard, noCard, bodies, encode, bodyAt, cardAt, decode, tailZero, cardSound, headerSound, sound}

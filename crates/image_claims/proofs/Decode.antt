@@ -9,7 +9,7 @@ use borrow.Author.Tests.{eqb-true}
 use lib.Dec.{T, lit≤, lit<}
 use lib.ListN.{length, getD, replicate}
 use Rattle.lists.specs.Parts.{part, spread, table, every, Bytes}
-use Rattle.lists.specs.Le.{le, toLe}
+use Rattle.lists.specs.Le.{le, toLe, field}
 use Rattle.lists.proofs.Bytes.{Bytes-nil, Bytes-part, zeros-means}
 use Rattle.lists.proofs.Every.{every-out}
 use Rattle.lists.proofs.Le.{le-injective, le-part-bound, Bytes-toLe}
@@ -17,7 +17,6 @@ use Rattle.lists.proofs.Parts.{length-part, part-part, part-join}
 use Rattle.lists.proofs.Spread.{spread-parts, length-table, getD-table}
 use Rattle.lists.proofs.Tests.{and-left, and-right, all-out, from-T, to-T}
 use Rattle.commands.specs.Command.{Language, original, translation}
-use Rattle.command_bytes.specs.CommandBytes.{field}
 use Rattle.guard.specs.Entry.{entrySound, FitsEntry}
 use Rattle.image.specs.Image.{Card, noCard, bodies, encode, bodyAt, text, cardAt, decode, tailZero, cardSound, headerSound, sound}
 use Rattle.layout.specs.Layout.{shapeOk, sizeOf, mostBytes, headerSize, entrySize, entryPlace, bodyPlace}

@@ -7,11 +7,10 @@ use mathlib.Core.Bool.{true}
 use lib.ListN.{length, take, drop, replicate}
 use lib.Seq.{take-at, drop-at}
 use Rattle.lists.specs.Parts.{part, zeros, Bytes}
-use Rattle.lists.specs.Le.{toLe}
+use Rattle.lists.specs.Le.{toLe, field}
 use Rattle.lists.proofs.Bytes.{Bytes-part, zeros-means}
 use Rattle.lists.proofs.Le.{le-toLe, toLe-le}
 use Rattle.lists.proofs.Parts.{length-part, part-join}
-use Rattle.command_bytes.specs.CommandBytes.{field}
 use Rattle.guard.specs.Entry.{FitsEntry}
 use Rattle.guard.specs.declared.Entry.{Entry}
 use Rattle.image_write.specs.Write.{entryBytes, pad}

@@ -3,7 +3,7 @@
 use Prim.Native.Nat.{ℕ}
 use mathlib.Core.List.{List}
 use Rattle.lists.specs.Parts.{part}
-use Rattle.command_bytes.specs.CommandBytes.{field}
+use Rattle.lists.specs.Le.{field}
 use Rattle.guard.specs.declared.Entry.{Entry}
 use Rattle.layout.specs.Layout.{entrySize, entryPlace}
 

@@ -6,7 +6,8 @@ use mathlib.Core.Bool.{Bool, cond, _&&_}
 use lib.Dec.{leb}
 use lib.ListN.{length, take, drop}
 use Rattle.lists.specs.Parts.{spread}
-use Rattle.command_bytes.specs.CommandBytes.{fixed, field}
+use Rattle.command_bytes.specs.CommandBytes.{fixed}
+use Rattle.lists.specs.Le.{field}
 use Rattle.stream.specs.declared.Next.{Next}
 use Rattle.stream.specs.declared.Next.the-variants.{Whole, Cut}
 
