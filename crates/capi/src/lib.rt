@@ -1,19 +1,17 @@
 // The library for Rust and C: each function is exported under its plain name, takes any input, and answers what the libraries answer.
 // A slice is a pointer and a length, a reference to a number or to an array a pointer.
+pub mod inner;
+
 ghost use mathlib.Core.Path.{_≡_};
 ghost use lib.ListN.{length};
 ghost use Rattle.lists.specs.Table.{settled};
-ghost use Rattle.image.specs.Image.{sound};
-ghost use Rattle.fresh.specs.Fresh.{makeNumber, fresh};
+ghost use Rattle.image.specs.Image.{sound, makeNumber, fresh};
 ghost use Rattle.model.specs.Serve.{serve};
-ghost use Rattle.marshal.specs.Fields.{fieldsOf};
+ghost use Rattle.capi.specs.Numbers.{fieldsOf, askedNumber, shownLength, stands};
 ghost use Rattle.lock_queue.specs.Requests.{Request, answer, after};
-ghost use Rattle.queue_columns.specs.Columns.{waiting, modesOf, sharedOf, exclusiveOf};
-ghost use Rattle.array_queue.specs.Arrays.{queueOf, keptOf, answerOf};
+ghost use Rattle.capi.specs.Arrays.{waiting, modesOf, sharedOf, exclusiveOf, queueOf, keptOf, answerOf};
 ghost use Rattle.desk.specs.Show.{text};
 ghost use Rattle.stream.specs.Stream.{nextAt, endOf, onward};
-ghost use Rattle.marshal.specs.Shown.{askedNumber, shownLength};
-ghost use Rattle.capi.specs.Places.{stands};
 use stream::Next;
 
 // Makes a fresh image of `cards` cards with room `room`: 0, or 14 and nothing written.
@@ -23,7 +21,7 @@ pub extern "C" fn lupaniele_make(image: &mut [u8], cards: u64, room: u64) -> u8
     ensures bytes { λ _. ⌜ now (image .exit)
         ≡ settled (makeNumber cards room (length (now (image .entry)))) (fresh cards room) (now (image .entry)) ⌝ }
 {
-    fresh::make(image, cards as usize, room as usize)
+    image::make(image, cards as usize, room as usize)
 }
 
 // Whether the lent bytes are a sound image.
@@ -48,7 +46,7 @@ pub extern "C" fn lupaniele_answer(
     ensures image { λ _. ⌜ now (image .exit) ≡ serve (now (image .entry)) (now (command .entry)) (now (reply .entry)) .image ⌝ }
     ensures reply { λ _. ⌜ now (reply .exit) ≡ serve (now (image .entry)) (now (command .entry)) (now (reply .entry)) .reply ⌝ }
 {
-    marshal::inner::answer(image, command, reply, fields)
+    inner::answers::answer(image, command, reply, fields)
 }
 
 // A desk asks for the lock of one card. The queue is three arrays, with the mode, the s and the x of each place, of which the first `places`
@@ -73,7 +71,7 @@ pub extern "C" fn lupaniele_ask(
     ensures x { λ _. ⌜ now (x .exit) ≡ exclusiveOf (after places (queueOf (now (modes .entry)) (now (s .entry)) (now (x .entry)) (now (kept .entry))) (Request.asks (waiting mode «asked_s» «asked_x»)) .places) ⌝ }
     ensures kept { λ _. ⌜ now (kept .exit) ≡ keptOf (after places (queueOf (now (modes .entry)) (now (s .entry)) (now (x .entry)) (now (kept .entry))) (Request.asks (waiting mode «asked_s» «asked_x»))) ⌝ }
 {
-    array_queue::inner::ask(modes, s, x, kept, places, mode, asked_s, asked_x, fields)
+    inner::queue::ask(modes, s, x, kept, places, mode, asked_s, asked_x, fields)
 }
 
 // The desk and start `desk` leaves the queue. Everything else is as for asking.
@@ -94,7 +92,7 @@ pub extern "C" fn lupaniele_leave(
     ensures x { λ _. ⌜ now (x .exit) ≡ exclusiveOf (after places (queueOf (now (modes .entry)) (now (s .entry)) (now (x .entry)) (now (kept .entry))) (Request.leaves desk) .places) ⌝ }
     ensures kept { λ _. ⌜ now (kept .exit) ≡ keptOf (after places (queueOf (now (modes .entry)) (now (s .entry)) (now (x .entry)) (now (kept .entry))) (Request.leaves desk)) ⌝ }
 {
-    array_queue::inner::leave(modes, s, x, kept, places, desk, fields)
+    inner::queue::leave(modes, s, x, kept, places, desk, fields)
 }
 
 // The text that a desk shows, all at its own word: 0, and in `count` how many first bytes of the buffer asked for are the text; or a number
@@ -113,7 +111,7 @@ pub extern "C" fn lupaniele_shown<'a>(
     ensures number { λ r. ⌜ r ≡ askedNumber (text (now (original .entry)) «original_length») (text (now (translation .entry)) «translation_length») edition from asked ⌝ }
     ensures count { λ _. ⌜ now (count .exit) ≡ shownLength (text (now (original .entry)) «original_length») (text (now (translation .entry)) «translation_length») edition from asked ⌝ }
 {
-    marshal::inner::shown(
+    inner::answers::shown(
         original,
         translation,
         original_length,

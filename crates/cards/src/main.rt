@@ -1,13 +1,13 @@
 // The program: an image and a stream of commands from standard input, an answer to each on standard output.
 ghost use Prim.Native.Nat.{_+_, _*_, _≤_};
 ghost use lib.ListN.{length};
-ghost use Rattle.lines.specs.Lines.{perLine};
-use batch::inner::MOST_NUMBERS;
+ghost use Rattle.program.specs.Program.{perLine};
 use libc::STDIN_FILENO;
 use libc::STDOUT_FILENO;
-use lines::PER_LINE;
-use report::Report;
-use report::Summary;
+use program::Report;
+use program::Summary;
+use program::inner::batch::MOST_NUMBERS;
+use program::inner::lines::PER_LINE;
 
 // A number behind a space.
 fn print_number(n: u64) {
@@ -65,7 +65,7 @@ fn print_summary(s: Summary, out: &[u64])
 // The whole output for an input.
 fn serve(input: &[u8]) {
     let mut out = [0u64; MOST_NUMBERS];
-    match report::inner::report(input, &mut out) {
+    match program::inner::report::report(input, &mut out) {
         Report::TooLong => {
             io::write_all(STDOUT_FILENO, b"too long\n");
         }

@@ -10,14 +10,14 @@ use lib.ListN.{length}
 use Rattle.lists.specs.Parts.{Bytes}
 use Rattle.stamps.specs.Stamp.{shared, exclusive, stale}
 use Rattle.commands.specs.Command.{verifier, wellFormed, FitsCommand}
-use Rattle.command_bytes.specs.CommandBytes.{fieldsOf, payload, formed, parsed, parsedNumber, parsedCommand, commandBytes}
+use Rattle.commands.specs.Bytes.{fieldsOf, payload, formed, parsed, parsedNumber, parsedCommand, commandBytes}
 use Rattle.lists.specs.Table.{row, first, applies, none, earlier}
 use Rattle.guard.specs.Judge.{rows, raise, judged}
 use Rattle.guard.specs.Entry.{entrySound, FitsEntry}
 use Rattle.commands.specs.declared.Command.{Command}
 use Rattle.guard.specs.declared.Entry.{Entry}
 use Rattle.stamps.specs.declared.Pair.{Pair}
-use Rattle.command_bytes.specs.declared.Parsed.the-variants.{Malformed, Formed}
+use Rattle.commands.specs.declared.Parsed.the-variants.{Malformed, Formed}
 
 -- What holds of an entry that judges a command.
 pub record Judging (e : Entry) (c : Command) (room lent : ℕ) : Type 0 where

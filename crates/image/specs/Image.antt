@@ -2,18 +2,17 @@
 -- Assumes nothing.
 use Prim.Native.Nat.{ℕ, zero, suc, _+_, _-_}
 use mathlib.Core.List.{List, [], _∷_, _++_}
-use mathlib.Core.Bool.{Bool, _&&_}
-use lib.ListN.{length, set}
+use mathlib.Core.Bool.{Bool, _&&_, cond}
+use lib.ListN.{length, set, replicate}
 use lib.Dec.{eqb}
 use Rattle.lists.specs.Parts.{part, spread, table, every, zeros}
 use Rattle.lists.specs.Le.{le, field}
-use Rattle.lists.specs.Tests.{all}
+use Rattle.lists.specs.Table.{all}
 use Rattle.commands.specs.Command.{Language, original, translation}
 use Rattle.guard.specs.Entry.{entrySound, noEntry}
 use Rattle.guard.specs.declared.Entry.{Entry}
-use Rattle.layout.specs.Layout.{sizeOf, shapeOk, entryPlace, bodyPlace}
-use Rattle.image_read.specs.Read.{countOf, roomOf, entryAt}
-use Rattle.image_write.specs.Write.{magic, version, header, entryBytes, pad}
+use Rattle.image.specs.Layout.{sizeOf, shapeOk, entryPlace, bodyPlace, headerSize}
+use Rattle.image.specs.Bytes.{countOf, roomOf, entryAt, magic, version, header, entryBytes, pad}
 
 -- One card: its entry and its two texts.
 pub record Card : Type 0 where
@@ -110,3 +109,16 @@ headerSound image =
 -- An image is sound.
 unfoldable pub sound : List ℕ → Bool
 sound image = headerSound image && every (cardSound image) (countOf image)
+
+-- ---- A fresh image, and when one is made (the sheet, "The image: contents first, then bodies").
+
+-- "A fresh image is all zero after its header."
+unfoldable pub fresh : ℕ → ℕ → List ℕ
+fresh n c = header n c ++ replicate (sizeOf n c - headerSize) 0
+
+-- "Making a fresh image answers 14, and writes nothing, if N, C or the lent length breaks the rules."
+unfoldable pub makes : ℕ → ℕ → ℕ → Bool
+makes n c lent = shapeOk n c && eqb lent (sizeOf n c)
+
+abbrev pub makeNumber : ℕ → ℕ → ℕ → ℕ
+makeNumber n c lent = cond (makes n c lent) 0 14

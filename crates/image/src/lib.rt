@@ -1,26 +1,55 @@
-// The image: the bytes of a store's cards.
+// The image: the bytes of a store's cards. When bytes are a sound image, and a fresh one.
 pub mod inner;
 
 ghost use mathlib.Core.Path.{_≡_};
-ghost use Rattle.image.specs.Image.{sound};
+ghost use Rattle.image.specs.Image.{sound, makeNumber, fresh};
+ghost use lib.ListN.{length};
+ghost use Rattle.lists.specs.Table.{settled};
+
+// ---- The image: the bytes of a store's cards.
 
 // Whether any bytes are a sound image.
 pub fn sound(image: &[u8]) -> bool
     ensures { λ r. ⌜ r ≡ sound (now (image .entry)) ⌝ }
 {
-    if image.len() < layout::HEADER {
+    if image.len() < inner::layout::HEADER {
         return false;
     }
-    if !inner::header_sound(image) {
+    if !inner::sound::header_sound(image) {
         return false;
     }
-    let n = image_read::inner::count(image);
+    let n = inner::read::count(image);
     let mut k: u16 = 0;
     while k < n {
-        if !inner::card_sound(image, k) {
+        if !inner::sound::card_sound(image, k) {
             return false;
         }
         k += 1;
     }
     true
+}
+
+// ---- A fresh image.
+
+// What making an image answers: made, and where N, C or the lent length breaks the rules.
+pub const MADE: u8 = 0;
+
+pub const NOT_MADE: u8 = 14;
+
+// Makes a fresh image, and answers MADE; or answers NOT_MADE and writes nothing, if N, C or the lent length breaks the rules.
+pub fn make(image: &mut [u8], cards: usize, room: usize) -> u8
+    ensures number { λ r. ⌜ r ≡ makeNumber cards room (length (now (image .entry))) ⌝ }
+    ensures bytes { λ r. ⌜ now (image .exit)
+        ≡ settled (makeNumber cards room (length (now (image .entry)))) (fresh cards room) (now (image .entry)) ⌝ }
+{
+    if !inner::layout::shape_ok(cards, room) {
+        return NOT_MADE;
+    }
+    let n = cards as u16;
+    let c = room as u16;
+    if image.len() != inner::layout::size_of(n, c) {
+        return NOT_MADE;
+    }
+    inner::fresh::write_fresh(image, n, c);
+    MADE
 }

@@ -12,7 +12,7 @@ use lib.ListN.{length, take, getD, set, replicate, length-set}
 use lib.Seq.{getD-set-same, getD-set-other}
 use Rattle.lists.specs.Parts.{part, spread, zeros, Bytes}
 use Rattle.lists.specs.Le.{le, toLe, field}
-use Rattle.lists.specs.Tests.{all, allFrom}
+use Rattle.lists.specs.Table.{all, allFrom}
 use Rattle.lists.proofs.Bytes.{Bytes-append, Bytes-replicate, Bytes-take, zeros-replicate}
 use Rattle.lists.proofs.Every.{every-in}
 use Rattle.lists.proofs.Le.{Bytes-toLe}
@@ -22,16 +22,14 @@ use Rattle.commands.specs.Command.{Language, original, translation}
 use Rattle.guard.specs.Entry.{entrySound}
 use Rattle.guard.specs.declared.Entry.{Entry}
 use Rattle.image.specs.Image.{Card, Cards, text, sideOf, withCard, noCard, bodies, encode, bodyAt, cardAt, decode, tailZero, cardSound, headerSound, sound}
-use Rattle.layout.specs.Layout.{shapeOk, sizeOf, entrySize, entryPlace, bodyPlace}
-use Rattle.image_write.specs.Write.{magic, version, headerNumbers, header, entryPair, entryMark, entryCounts, entryBytes, pad}
-use Rattle.image_read.specs.Read.{countOf, roomOf, entryAt, readEntry}
+use Rattle.image.specs.Layout.{shapeOk, sizeOf, entrySize, entryPlace, bodyPlace}
+use Rattle.image.specs.Bytes.{magic, version, headerNumbers, header, entryPair, entryMark, entryCounts, entryBytes, pad, countOf, roomOf, entryAt, readEntry}
 use Rattle.image_claims.specs.Claims.{GoodCard, GoodCards}
-use Rattle.image_claims.proofs.Encode.{part-whole}
-use Rattle.image_write.proofs.Written.{take-replicate}
+use Rattle.image_claims.proofs.Encode.{part-whole, length-entryBytes, length-encode, part-header, countOf-encode, roomOf-encode, part-entry, part-body}
+use Rattle.image.proofs.Written.{take-replicate}
 use Rattle.image.proofs.Bytes.{all-hold, lengths}
-use Rattle.image_claims.proofs.Encode.{length-entryBytes, length-encode, part-header, countOf-encode, roomOf-encode, part-entry, part-body}
 use Rattle.image_claims.proofs.Entry.{read-entryBytes, take-pad, drop-pad}
-use Rattle.layout.proofs.Shape.{shape}
+use Rattle.image.proofs.Shape.{shape}
 
 -- ---- the pieces of an image are bytes
 

@@ -19,14 +19,13 @@ use Rattle.lists.proofs.Tests.{and-left, and-right, all-out, from-T, to-T}
 use Rattle.commands.specs.Command.{Language, original, translation}
 use Rattle.guard.specs.Entry.{entrySound, FitsEntry}
 use Rattle.image.specs.Image.{Card, noCard, bodies, encode, bodyAt, text, cardAt, decode, tailZero, cardSound, headerSound, sound}
-use Rattle.layout.specs.Layout.{shapeOk, sizeOf, mostBytes, headerSize, entrySize, entryPlace, bodyPlace}
-use Rattle.image_write.specs.Write.{magic, version, header, entryBytes, pad}
-use Rattle.image_read.specs.Read.{countOf, roomOf, readEntry, entryAt}
+use Rattle.image.specs.Layout.{shapeOk, sizeOf, mostBytes, headerSize, entrySize, entryPlace, bodyPlace}
+use Rattle.image.specs.Bytes.{magic, version, header, entryBytes, pad, countOf, roomOf, readEntry, entryAt}
 use Rattle.image_claims.specs.Claims.{GoodCard, GoodCards}
 use Rattle.image_claims.proofs.Encode.{part-whole}
 use Rattle.image.proofs.Bytes.{header-size, Lengths, lengths}
 use Rattle.image_claims.proofs.Entry.{again, entryBytes-read, pad-read}
-use Rattle.layout.proofs.Shape.{Shape, shape, entry-within, body-within}
+use Rattle.image.proofs.Shape.{Shape, shape, entry-within, body-within}
 
 -- N and C of an image of bytes have two bytes.
 pub countOf-fits : (image : List ℕ) → Bytes image → countOf image < 65536

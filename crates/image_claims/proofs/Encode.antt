@@ -15,9 +15,8 @@ use Rattle.lists.proofs.Spread.{length-spread, part-spread, splice-spread}
 use Rattle.commands.specs.Command.{Language, original, translation}
 use Rattle.guard.specs.declared.Entry.{Entry}
 use Rattle.image.specs.Image.{Card, Cards, text, sideOf, withEntry, withText, withCard, noCard, bodies, encode}
-use Rattle.layout.specs.Layout.{sizeOf, headerSize, entrySize, entryPlace, bodyPlace}
-use Rattle.image_write.specs.Write.{header, entryBytes, pad}
-use Rattle.image_read.specs.Read.{countOf, roomOf}
+use Rattle.image.specs.Layout.{sizeOf, headerSize, entrySize, entryPlace, bodyPlace}
+use Rattle.image.specs.Bytes.{header, entryBytes, pad, countOf, roomOf}
 
 -- ---- lists of equal pieces
 

@@ -13,10 +13,9 @@ use Rattle.lists.proofs.Le.{le-toLe, toLe-le}
 use Rattle.lists.proofs.Parts.{length-part, part-join}
 use Rattle.guard.specs.Entry.{FitsEntry}
 use Rattle.guard.specs.declared.Entry.{Entry}
-use Rattle.image_write.specs.Write.{entryBytes, pad}
-use Rattle.image_read.specs.Read.{readEntry}
-use Rattle.layout.specs.Layout.{entrySize}
-use Rattle.image_write.proofs.Written.{pad-text}
+use Rattle.image.specs.Bytes.{entryBytes, pad, readEntry}
+use Rattle.image.specs.Layout.{entrySize}
+use Rattle.image.proofs.Written.{pad-text}
 use Rattle.image_claims.proofs.Encode.{part-whole}
 
 -- The entry that the bytes of an entry stand for.

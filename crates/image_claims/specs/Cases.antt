@@ -6,8 +6,7 @@ use mathlib.Core.Path.{_≡_}
 use mathlib.Core.List.{List, [], _∷_, map}
 use mathlib.Core.Bool.{Bool, true, false}
 use lib.ListN.{set}
-use Rattle.image.specs.Image.{Cards, encode, sound}
-use Rattle.fresh.specs.Fresh.{makeNumber}
+use Rattle.image.specs.Image.{Cards, encode, sound, makeNumber}
 
 -- N, C, the lent length, and the number that making a fresh image gives.
 pub record Asked : Type 0 where

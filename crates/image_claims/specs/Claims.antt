@@ -8,10 +8,9 @@ use lib.Dec.{T}
 use Rattle.lists.specs.Parts.{Bytes}
 use Rattle.commands.specs.Command.{Language, original, translation}
 use Rattle.guard.specs.Entry.{entrySound, FitsEntry}
-use Rattle.image.specs.Image.{Card, Cards, text, encode, decode, sound, noCard, cardAt}
-use Rattle.layout.specs.Layout.{shapeOk, sizeOf, headerSize}
-use Rattle.fresh.specs.Fresh.{fresh}
-use Rattle.image_read.specs.Read.{countOf, roomOf}
+use Rattle.image.specs.Image.{Card, Cards, text, encode, decode, sound, noCard, cardAt, fresh}
+use Rattle.image.specs.Layout.{shapeOk, sizeOf, headerSize}
+use Rattle.image.specs.Bytes.{countOf, roomOf}
 
 -- A card by the rules: a sound entry, and two texts of bytes, as long as it says.
 pub record GoodCard (room : ℕ) (card : Card) : Type 0 where

@@ -10,16 +10,16 @@ use borrow.Author.Tests.{leb-true}
 use lib.Dec.{leb}
 use lib.ListN.{length, drop, replicate, length-replicate}
 use Rattle.queue_claims.proofs.Claims.{refusal-leaves, others-kept, bad-number, bad-answer, beyond-lent}
-use Rattle.queue_good.proofs.Checks.{good-unsized}
+use Rattle.lock_queue.proofs.Checks.{good-unsized}
 use Rattle.queue_claims.specs.Claims.{longer}
-use Rattle.queue_state.specs.Queue.{State, state, mostPlaces, noWaiting}
+use Rattle.lock_queue.specs.Queue.{State, state, mostPlaces, noWaiting}
 use Rattle.lock_queue.specs.Requests.{Request, number, after, answer}
 use Rattle.lock_queue.specs.declared.Outcome.{Outcome}
-use Rattle.queue_state.specs.declared.Waiting.{Waiting}
-use Rattle.lent_places.proofs.Written.{written-nothing, written-nowhere}
-use Rattle.lent_places.specs.Slice.{held, written, loaded, replyOf}
-use Rattle.lent_places.specs.declared.Kept.{Kept}
-use Rattle.lent_places.specs.declared.Reply.{Reply}
+use Rattle.lock_queue.specs.declared.Waiting.{Waiting}
+use Rattle.lent_queue.proofs.Written.{written-nothing, written-nowhere}
+use Rattle.lent_queue.specs.Slice.{held, written, loaded, replyOf}
+use Rattle.lent_queue.specs.declared.Kept.{Kept}
+use Rattle.lent_queue.specs.declared.Reply.{Reply}
 
 -- ---- lists
 

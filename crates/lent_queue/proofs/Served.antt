@@ -33,28 +33,28 @@ use denote.Triple.Statement.{Contract, Triple}
 use denote.Triple.Call.{calls-at, calls-from}
 use denote.Triple.Spec.{tripleOf}
 use denote.Triple.Clauses.{ensured, lasts}
-use Rattle.queue_state.specs.Queue.{mostPlaces}
-use Rattle.lent_places.specs.Slice.{written, loaded, replyOf}
-use Rattle.queue_state.specs.declared.Waiting.{Waiting}
-use Rattle.queue_state.specs.declared.Places.{Places}
+use Rattle.lock_queue.specs.Queue.{mostPlaces}
+use Rattle.lent_queue.specs.Slice.{written, loaded, replyOf}
+use Rattle.lock_queue.specs.declared.Waiting.{Waiting}
+use Rattle.lock_queue.specs.declared.Places.{Places}
 use Rattle.lock_queue.specs.declared.Outcome.{Outcome}
-use Rattle.lent_places.specs.declared.Kept.{Kept}
-use Rattle.lent_places.specs.declared.Reply.{Reply}
+use Rattle.lent_queue.specs.declared.Kept.{Kept}
+use Rattle.lent_queue.specs.declared.Reply.{Reply}
 use Rattle.lent_queue.proofs.Shared.{LentShared, lends-shared, shared-back}
-use Rattle.queue_state.proofs.Waiting as T
-use Rattle.queue_state.proofs.Waiting.Laws as T′
-use Rattle.queue_state.proofs.Places as P
-use Rattle.queue_state.proofs.Places.Laws as P′
+use Rattle.lock_queue.proofs.Waiting as T
+use Rattle.lock_queue.proofs.Waiting.Laws as T′
+use Rattle.lock_queue.proofs.Places as P
+use Rattle.lock_queue.proofs.Places.Laws as P′
 use Rattle.lock_queue.proofs.Outcome as O
 use Rattle.lock_queue.proofs.Outcome.Laws as O′
-use Rattle.lent_places.proofs.Kept as K
-use Rattle.lent_places.proofs.Kept.Laws as K′
-use Rattle.lent_places.proofs.Reply as Y
-use Rattle.lent_places.proofs.Reply.Laws as Y′
-use Rattle.lent_places.proofs.inner.load as load′
-use Rattle.lent_places.proofs.inner.load.Symbol.{name as #load}
-use Rattle.lent_places.proofs.inner.store as store
-use Rattle.lent_places.proofs.inner.store.Symbol.{name as #store}
+use Rattle.lent_queue.proofs.Kept as K
+use Rattle.lent_queue.proofs.Kept.Laws as K′
+use Rattle.lent_queue.proofs.Reply as Y
+use Rattle.lent_queue.proofs.Reply.Laws as Y′
+use Rattle.lent_queue.proofs.inner.places.load as load′
+use Rattle.lent_queue.proofs.inner.places.load.Symbol.{name as #load}
+use Rattle.lent_queue.proofs.inner.places.store as store
+use Rattle.lent_queue.proofs.inner.places.store.Symbol.{name as #store}
 
 -- ---- the code
 

@@ -1,13 +1,13 @@
 // Asking and leaving over places by value.
 ghost use mathlib.Core.Path.{_≡_};
-ghost use Rattle.queue_state.specs.Queue.{state};
+ghost use Rattle.lock_queue.specs.Queue.{state};
 ghost use Rattle.lock_queue.specs.Requests.{asks, leaves, answer, after};
-ghost use Rattle.lent_places.specs.Slice.{held};
-use lent_places::Kept;
+ghost use Rattle.lent_queue.specs.Slice.{held};
+use crate::Kept;
 use lock_queue::Outcome;
-use queue_state::Places;
-use queue_state::Queue;
-use queue_state::Waiting;
+use lock_queue::Places;
+use lock_queue::Queue;
+use lock_queue::Waiting;
 
 // Asking, by value.
 pub fn asked(places: Places, kept: Kept, lent: usize, new: Waiting) -> Outcome

@@ -1,17 +1,32 @@
 // The lock queue of one card as a lent slice of waiting entries: the places are loaded, judged by value, and stored back.
+pub mod inner;
+mod lent;
+
 ghost use mathlib.Core.Path.{_≡_};
 ghost use lib.ListN.{length};
 ghost use Rattle.lock_queue.specs.Requests.{asks, leaves, answer, after};
-ghost use Rattle.lent_places.specs.Slice.{held};
+ghost use Rattle.lent_queue.specs.Slice.{held};
+use inner::places::load;
+use inner::places::store;
 use lent::asked;
 use lent::left;
-use lent_places::Kept;
-use lent_places::Reply;
-use lent_places::inner::load;
-use lent_places::inner::store;
-use queue_state::Waiting;
+use lock_queue::Answer;
+use lock_queue::Waiting;
+use stamps::Pair;
 
-mod lent;
+// ---- Between lent places and places by value: a lent slice of waiting entries is loaded, and the queue as it then is stored back.
+
+// What a queue keeps beside its places: how many of them are taken, and the largest s and x ever accepted in it.
+pub struct Kept {
+    pub count: usize,
+    pub largest: Pair,
+}
+
+// An answer, and what the queue now keeps.
+pub struct Reply {
+    pub answer: Answer,
+    pub kept: Kept,
+}
 
 // A desk asks for the lock in a queue of lent places. Where more than 32 are lent the queue is bad, whatever it holds.
 pub fn ask(places: &mut [Waiting], kept: Kept, new: Waiting) -> Reply

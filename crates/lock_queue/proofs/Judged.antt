@@ -10,13 +10,12 @@ use lib.ListN.{drop}
 use Rattle.lists.proofs.Tests.{or-fails}
 use Rattle.lists.proofs.Table.{unapplied, none-applies, settled-old}
 use Rattle.lists.specs.Table.{Row, row, first, applies, once}
-use Rattle.queue_state.proofs.Standing.{stands-below}
-use Rattle.queue_good.proofs.Checks.{Good, good-out, good-count}
-use Rattle.queue_state.specs.Queue.{State, mostPlaces, standing, desks, firstPlace, stands}
-use Rattle.queue_good.specs.Checks.{good}
-use Rattle.queue_state.specs.declared.Waiting.{Waiting}
-use Rattle.queue_effects.specs.Effects.{joined, without}
-use Rattle.lock_queue.specs.Requests.{asking, leaving, answered, blank, Request, asks, leaves, rows, sender, accepted, number, after, answer}
+use Rattle.lock_queue.proofs.Standing.{stands-below}
+use Rattle.lock_queue.proofs.Checks.{Good, good-out, good-count}
+use Rattle.lock_queue.specs.Queue.{State, mostPlaces, standing, desks, firstPlace, stands}
+use Rattle.lock_queue.specs.Good.{good}
+use Rattle.lock_queue.specs.declared.Waiting.{Waiting}
+use Rattle.lock_queue.specs.Requests.{joined, without, asking, leaving, answered, blank, Request, asks, leaves, rows, sender, accepted, number, after, answer}
 use Rattle.lock_queue.specs.declared.Answer.{Answer}
 
 -- A number that is not that of the first row is given only where that row does not apply.

@@ -1,18 +1,44 @@
--- Asking and leaving: the numbers as tables of rows, the queue as it is afterwards, and the answer (the sheet, "The lock queue of one card").
--- Minuet: UpgradeLock, and DowngradeLock to no lock.
+-- What an accepted request makes of the queue (the sheet, "The lock queue of one card"): an entry joins the end, or the gap that a desk's entry
+-- leaves is closed.
 -- Assumes nothing.
-use Prim.Native.Nat.{ℕ}
-use mathlib.Core.List.{List, [], _∷_}
-use mathlib.Core.Bool.{Bool, cond, not, _&&_, _||_}
+use Prim.Native.Nat.{ℕ, _+_, _-_}
+use mathlib.Core.List.{List, [], _∷_, _++_}
+use mathlib.Core.Bool.{cond, Bool, not, _&&_, _||_}
+use lib.ListN.{drop, set}
 use lib.Dec.{eqb}
+use Rattle.stamps.specs.Stamp.{largerOfEach, stale, noPair}
+use Rattle.lock_queue.specs.Queue.{State, noWaiting, standing, desk, desks, stands, looked, holds}
+use Rattle.lock_queue.specs.declared.Waiting.{Waiting}
 use Rattle.lists.specs.Table.{Row, row, first, settled}
-use Rattle.stamps.specs.Stamp.{stale, noPair}
 use Rattle.stamps.specs.declared.Pair.{Pair}
-use Rattle.queue_state.specs.Queue.{State, standing, desk, desks, stands, looked, holds}
-use Rattle.queue_good.specs.Checks.{formed, good}
-use Rattle.queue_effects.specs.Effects.{joined, without}
+use Rattle.lock_queue.specs.Good.{formed, good}
 use Rattle.lock_queue.specs.declared.Answer.{Answer}
-use Rattle.queue_state.specs.declared.Waiting.{Waiting}
+
+-- "Accepted entries join the end and raise the largest s and x."
+unfoldable pub joined : Waiting → State → State
+joined new q =
+    record {
+      places = set (q .places) (q .count) new;
+      count = q .count + 1;
+      largest = largerOfEach (q .largest) (new .pair);
+    }
+
+-- The standing entries without the desk's own.
+unfoldable pub removed : ℕ → List Waiting → List Waiting
+removed d [] = []
+removed d (w ∷ ws) = cond (eqb (desk w) d) ws (w ∷ removed d ws)
+
+-- "Leaving closes the gap and zeroes the freed last place, ..; other places past the count keep what they hold."
+unfoldable pub without : ℕ → State → State
+without d q =
+    record {
+      places = removed d (standing q) ++ (noWaiting ∷ drop (q .count) (q .places));
+      count = q .count - 1;
+      largest = q .largest;
+    }
+
+-- ---- Asking and leaving: the numbers as tables of rows, the queue as it is afterwards, and the answer (the sheet, "The lock queue of one card").
+-- Minuet: UpgradeLock, and DowngradeLock to no lock.
 
 -- "Asking shared is denied if its x is below the largest x; asking exclusive, if s or x is below its largest": as a command is stale. Minuet:
 -- UpgradeDenied.

@@ -1,13 +1,34 @@
 // The lock queue of one card: desks ask for the lock and leave, and each answer says whether the desk holds it.
-ghost use mathlib.Core.Path.{_≡_};
-ghost use Rattle.queue_state.specs.Queue.{state};
-ghost use Rattle.lock_queue.specs.Requests.{asks, leaves, answer, after};
-use queue_state::Queue;
-use queue_state::Waiting;
-use stamps::Pair;
-
 pub mod inner;
 mod judge;
+
+ghost use mathlib.Core.Path.{_≡_};
+ghost use Rattle.lock_queue.specs.Queue.{state};
+ghost use Rattle.lock_queue.specs.Requests.{asks, leaves, answer, after};
+use stamps::Pair;
+
+// ---- The lock queue of one card as it stands: who stands in it, who holds the lock, and how many entries are looked at.
+
+// The largest number of places that a queue can have.
+pub const MOST_PLACES: usize = 32;
+
+// An entry that waits for the lock: 1 shared or 2 exclusive, and the pair that its desk proposed.
+pub struct Waiting {
+    pub mode: u8,
+    pub pair: Pair,
+}
+
+// The places of a queue by value. How many of them are lent is told apart.
+pub struct Places {
+    pub at: [Waiting; MOST_PLACES],
+}
+
+// A queue: its places, of which the first `count` are taken, and the largest s and x ever accepted in it.
+pub struct Queue {
+    pub places: Places,
+    pub count: usize,
+    pub largest: Pair,
+}
 
 // The number, whether the desk holds the lock, the largest pair, and how many entries were looked at.
 pub struct Answer {
@@ -30,14 +51,14 @@ pub fn ask(queue: Queue, lent: usize, new: Waiting) -> Outcome
     let number = judge::ask_number(queue, lent, new);
     let desk = stamps::desk_of(new.mode, new.pair);
     if number == 0 {
-        let joined = queue_effects::inner::joined(queue, new);
+        let joined = inner::effects::joined(queue, new);
         return Outcome {
-            answer: inner::answered(number, desk, queue, joined),
+            answer: inner::answer::answered(number, desk, queue, joined),
             queue: joined,
         };
     }
     Outcome {
-        answer: inner::answered(number, desk, queue, queue),
+        answer: inner::answer::answered(number, desk, queue, queue),
         queue,
     }
 }
@@ -48,14 +69,14 @@ pub fn leave(queue: Queue, lent: usize, desk: u32) -> Outcome
 {
     let number = judge::leave_number(queue, lent, desk);
     if number == 0 {
-        let closed = queue_effects::inner::without(queue, desk);
+        let closed = inner::effects::without(queue, desk);
         return Outcome {
-            answer: inner::answered(number, desk, queue, closed),
+            answer: inner::answer::answered(number, desk, queue, closed),
             queue: closed,
         };
     }
     Outcome {
-        answer: inner::answered(number, desk, queue, queue),
+        answer: inner::answer::answered(number, desk, queue, queue),
         queue,
     }
 }

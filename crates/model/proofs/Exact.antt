@@ -6,7 +6,7 @@ use mathlib.Core.Logic.{_↔_}
 use mathlib.Core.List.{List}
 use lib.Dec.{T, leb, leb→le}
 use lib.ListN.{length}
-use Rattle.replies.specs.Replies.{replied}
+use Rattle.guard.specs.Replies.{replied}
 use Rattle.lists.specs.Table.{first, applies, earlier, none}
 use Rattle.lists.proofs.Table.{given, unapplied, first-all}
 use Rattle.model.specs.Serve.{serveBy, serve, storeRows}

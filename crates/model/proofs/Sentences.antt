@@ -13,9 +13,9 @@ use Rattle.lists.specs.Parts.{splice}
 use Rattle.lists.proofs.Tests.{to-T, from-T, never-both}
 use Rattle.stamps.specs.Stamp.{stale, markFits}
 use Rattle.commands.specs.Command.{Language, original, translation, reads, writes, verifier}
-use Rattle.command_bytes.specs.CommandBytes.{fieldsOf}
+use Rattle.commands.specs.Bytes.{fieldsOf}
 use Rattle.guard.specs.Judge.{behind, textLength, raise}
-use Rattle.replies.specs.Replies.{readLength, replied}
+use Rattle.guard.specs.Replies.{readLength, replied}
 use Rattle.lists.specs.Table.{Row, applies}
 use Rattle.commands.specs.declared.Command.{Command}
 use Rattle.guard.specs.declared.Entry.{Entry}

@@ -10,7 +10,7 @@ use Rattle.lists.specs.Parts.{Bytes}
 use Rattle.lists.proofs.Bytes.{Bytes-nil, Bytes-drop}
 use Rattle.lists.proofs.Tests.{from-T}
 use Rattle.commands.specs.Command.{Language, original, translation, writes}
-use Rattle.command_bytes.specs.CommandBytes.{fieldsOf, payload, fixed}
+use Rattle.commands.specs.Bytes.{fieldsOf, payload, fixed}
 use Rattle.lists.specs.Table.{settled}
 use Rattle.commands.specs.declared.Command.{Command}
 use Rattle.guard.proofs.Raise.{raise-sound, raise-fits}
@@ -21,7 +21,7 @@ use Rattle.image_claims.proofs.Claims.{goodEncodes}
 use Rattle.model.specs.Serve.{cardOf, stepped, cardsAfter, serveBy, serve}
 use Rattle.model.specs.Words.{Sent, eventOf, imageAfter, history}
 use Rattle.model.specs.Claims.{SentBytes, AllBytes}
-use Rattle.command_bytes.proofs.CommandBytes.{length-payload, fits-fields}
+use Rattle.commands.proofs.CommandBytes.{length-payload, fits-fields}
 use Rattle.model.proofs.Machine.{numberOn, eventBy, cardsBy, cardsFrom, eventsFrom, Passed, passed, Sized, sized-step}
 
 -- ---- cards stay by the rules

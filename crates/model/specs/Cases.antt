@@ -5,12 +5,11 @@ use Prim.Native.Nat.{ℕ}
 use mathlib.Core.Path.{_≡_}
 use mathlib.Core.List.{List, [], _∷_, _++_, map, reverse}
 use lib.ListN.{length, replicate}
-use Rattle.command_bytes.specs.CommandBytes.{commandBytes}
+use Rattle.commands.specs.Bytes.{commandBytes}
 use Rattle.stamps.specs.Stamp.{stamp, shared, exclusive, noMark, noPair}
-use Rattle.replies.specs.declared.Answer.{Answer}
+use Rattle.guard.specs.declared.Answer.{Answer}
 use Rattle.stamps.specs.declared.Pair.{Pair}
-use Rattle.image.specs.Image.{encode}
-use Rattle.fresh.specs.Fresh.{fresh}
+use Rattle.image.specs.Image.{encode, fresh}
 use Rattle.model.specs.Serve.{serve}
 use Rattle.model.specs.Words.{Sent, Event, history}
 

@@ -7,11 +7,11 @@ use lib.ListN.{length, getD}
 use lib.Dec.{ltb}
 use Rattle.lists.specs.Parts.{splice}
 use Rattle.commands.specs.Command.{original, translation, reads, writes}
-use Rattle.command_bytes.specs.CommandBytes.{fieldsOf, payload, formed}
+use Rattle.commands.specs.Bytes.{fieldsOf, payload, formed}
 use Rattle.lists.specs.Table.{Row, row, first, settled}
 use Rattle.guard.specs.Judge.{entryRows, raise}
-use Rattle.replies.specs.Replies.{replied}
-use Rattle.replies.specs.declared.Answer.{Answer}
+use Rattle.guard.specs.Replies.{replied}
+use Rattle.guard.specs.declared.Answer.{Answer}
 use Rattle.commands.specs.declared.Command.{Command}
 use Rattle.image.specs.Image.{Card, Cards, text, withCard, noCard, encode, decode, sound}
 

@@ -11,20 +11,19 @@ use lib.Dec.{T, ltb, leb, eqb, eqb→eq}
 use lib.ListN.{length, take, drop, getD, length-append, length-take, length-drop, length-map, length-set}
 use lib.Seq.{getD-take, length-take-le, take-suc-set, drop-set-lt, take-at, drop-at, getD-at, append-snoc, take-append-le, drop-append-le, set-append-left, getD-append-seam, take-append-seam}
 use Rattle.lists.specs.Parts.{table}
-use Rattle.lists.specs.Tests.{all, allFrom}
+use Rattle.lists.specs.Table.{all, allFrom}
 use Rattle.lists.proofs.Tests.{cases, to-T, from-T, and-in, and-left, and-right, or-cases}
 use Rattle.stamps.proofs.Stamp.{max-one, larger-old, SessionRules, session-rules}
 use Rattle.lists.proofs.Table.{given, unapplied}
 use Rattle.stamps.specs.Stamp.{stampValid, deskNumber, deskStart, own, shared, exclusive, largerOfEach, noPair}
 use Rattle.queue_claims.specs.Claims.{EachNumber, Acceptance, RefusalLeaves, BlankAnswers, LookedWithin, StaysGood, JoinsEnd, GapClosed, FreedZeroed, OthersKept, LargestGrows, AskerHolds, LeaverHoldsNothing, HoldersShared, RoomAfterLeaving, NoDeskZero, BeyondLent, longer, modeOf}
-use Rattle.queue_state.specs.Queue.{State, noWaiting, mostPlaces, standing, desk, desks, stands, firstPlace, looked, noExclusive, holdsAt, holds}
-use Rattle.queue_good.specs.Checks.{distinct, formed, within, good}
-use Rattle.queue_effects.specs.Effects.{joined, removed, without}
-use Rattle.lock_queue.specs.Requests.{Request, asks, leaves, rows, sender, accepted, blank, answered, number, after, answer}
+use Rattle.lock_queue.specs.Queue.{State, noWaiting, mostPlaces, standing, desk, desks, stands, firstPlace, looked, noExclusive, holdsAt, holds}
+use Rattle.lock_queue.specs.Good.{distinct, formed, within, good}
+use Rattle.lock_queue.specs.Requests.{joined, removed, without, Request, asks, leaves, rows, sender, accepted, blank, answered, number, after, answer}
 use Rattle.queue_claims.specs.Trials.{numbers, TrialN}
-use Rattle.queue_state.specs.declared.Waiting.{Waiting}
-use Rattle.queue_good.proofs.Checks.{good-unsized, good-out, good-by}
-use Rattle.queue_state.proofs.Standing.{stands-place, stands-append, map-append}
+use Rattle.lock_queue.specs.declared.Waiting.{Waiting}
+use Rattle.lock_queue.proofs.Checks.{good-unsized, good-out, good-by}
+use Rattle.lock_queue.proofs.Standing.{stands-place, stands-append, map-append}
 use Rattle.lock_queue.proofs.Judged.{each-once, no-row, accepted-good, accepted-after, refused-after, ask-room, leave-stands, leave-place}
 use Rattle.queue_claims.proofs.Removed.{all-at, all-weaker, all-joined, all-removed, within-more, distinct-joined, distinct-removed, gone, removed-long, stands-inside, place-desk, place-last, none-exclusive}
 

@@ -8,15 +8,15 @@ use borrow.Author.Tests.{eq-eqb, eqb-true, eqb-false, ltb-true, leb-true, le-leb
 use lib.Dec.{leb, eqb}
 use lib.ListN.{length, getD, length-map}
 use Rattle.lists.proofs.Tests.{all-cons, all-append, and-in, and-left, and-right, or-fails, or-none, never-both, not-in}
-use Rattle.lists.specs.Tests.{all, allFrom}
+use Rattle.lists.specs.Table.{all, allFrom}
 use Rattle.stamps.specs.Stamp.{exclusive}
 use Rattle.stamps.specs.declared.Pair.{Pair}
-use Rattle.queue_state.specs.Queue.{noWaiting, desk, desks, stands, firstPlace, noExclusive}
-use Rattle.queue_good.specs.Checks.{distinct, within}
-use Rattle.queue_effects.specs.Effects.{removed}
-use Rattle.queue_state.proofs.Standing.{stands-place, map-append}
-use Rattle.queue_good.proofs.Behind.{distinct-more}
-use Rattle.queue_state.specs.declared.Waiting.{Waiting}
+use Rattle.lock_queue.specs.Queue.{noWaiting, desk, desks, stands, firstPlace, noExclusive}
+use Rattle.lock_queue.specs.Good.{distinct, within}
+use Rattle.lock_queue.specs.Requests.{removed}
+use Rattle.lock_queue.proofs.Standing.{stands-place, map-append}
+use Rattle.lock_queue.proofs.Behind.{distinct-more}
+use Rattle.lock_queue.specs.declared.Waiting.{Waiting}
 
 -- ---- a test of every entry
 

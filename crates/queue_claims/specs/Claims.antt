@@ -9,11 +9,10 @@ use lib.Dec.{T, eqb}
 use lib.ListN.{length, drop, getD}
 use Rattle.stamps.specs.Stamp.{shared, exclusive, noPair}
 use Rattle.lists.specs.Table.{applies, none, earlier}
-use Rattle.queue_state.specs.Queue.{State, noWaiting, standing, desks, firstPlace, noExclusive, holds}
-use Rattle.queue_good.specs.Checks.{good}
-use Rattle.queue_effects.specs.Effects.{removed}
-use Rattle.lock_queue.specs.Requests.{Request, asks, leaves, rows, blank, number, after, answer}
-use Rattle.queue_state.specs.declared.Waiting.{Waiting}
+use Rattle.lock_queue.specs.Queue.{State, noWaiting, standing, desks, firstPlace, noExclusive, holds}
+use Rattle.lock_queue.specs.Good.{good}
+use Rattle.lock_queue.specs.Requests.{removed, Request, asks, leaves, rows, blank, number, after, answer}
+use Rattle.lock_queue.specs.declared.Waiting.{Waiting}
 
 -- Each number is given exactly when its row applies and no earlier row does.
 abbrev pub EachNumber : Type 0

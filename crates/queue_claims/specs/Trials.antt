@@ -6,9 +6,9 @@ use mathlib.Core.Path.{_≡_}
 use mathlib.Core.List.{List, [], _∷_}
 use Rattle.lists.specs.Parts.{table}
 use Rattle.stamps.specs.Stamp.{stamp, shared, exclusive}
-use Rattle.queue_state.specs.Queue.{State, mostPlaces}
+use Rattle.lock_queue.specs.Queue.{State, mostPlaces}
 use Rattle.lock_queue.specs.Requests.{Request, asks, leaves, number, after}
-use Rattle.queue_state.specs.declared.Waiting.{Waiting}
+use Rattle.lock_queue.specs.declared.Waiting.{Waiting}
 
 -- The shared entry of desk n.
 abbrev pub guest : ℕ → Waiting

@@ -28,10 +28,10 @@ use denote.Lend.{Held, Lent, lends-slice, slice-back}
 use denote.Slice.{Room, finally}
 use denote.Steps.{only, owned, peeks}
 use denote.Struct.Laws as LL
-use Rattle.queue_state.specs.Queue.{mostPlaces}
-use Rattle.queue_state.specs.declared.Waiting.{Waiting}
-use Rattle.queue_state.proofs.Waiting as T
-use Rattle.queue_state.proofs.Waiting.Laws as T′
+use Rattle.lock_queue.specs.Queue.{mostPlaces}
+use Rattle.lock_queue.specs.declared.Waiting.{Waiting}
+use Rattle.lock_queue.proofs.Waiting as T
+use Rattle.lock_queue.proofs.Waiting.Laws as T′
 
 abbrev pub Entries : RattleType
 Entries = Array T.the-row mostPlaces

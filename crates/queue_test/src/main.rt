@@ -1,13 +1,13 @@
 // The queue over lent places, by trial n: 32 stand in 32 places, one leaves, and the next ask is judged afresh.
 ghost use mathlib.Core.Path.{_≡_};
 ghost use Prim.Native.Nat.{_*_, _+_};
-ghost use Rattle.queue_state.specs.Queue.{mostPlaces};
+ghost use Rattle.lock_queue.specs.Queue.{mostPlaces};
 ghost use Rattle.lock_queue.specs.Requests.{asks, leaves, number, answer, after};
 ghost use Rattle.queue_claims.specs.Trials.{guest, crowded};
-ghost use Rattle.lent_places.specs.Slice.{held};
-use lent_places::Kept;
-use lent_places::Reply;
-use queue_state::Waiting;
+ghost use Rattle.lent_queue.specs.Slice.{held};
+use lent_queue::Kept;
+use lent_queue::Reply;
+use lock_queue::Waiting;
 use stamps::Pair;
 
 // What a leave and then an ask came to.

@@ -1,7 +1,7 @@
 // Stamps, pairs of stamps and commit marks: what a session is named by, when a pair is stale, and what the stored pair becomes.
 ghost use mathlib.Core.Path.{_≡_};
 ghost use Prim.Native.Nat.{max};
-ghost use Rattle.lists.specs.Tests.{all};
+ghost use Rattle.lists.specs.Table.{all};
 ghost use Rattle.stamps.specs.Stamp.{stampValid, own, deskOf, sessionChecks, stale, largerOfEach, markWhole, markFits};
 
 // A shared stamp s and an exclusive stamp x (Minuet: a session identifier). Zero means none.

@@ -12,20 +12,20 @@ use lib.Dec.{ltb}
 use Rattle.lists.specs.Parts.{splice}
 use Rattle.lists.proofs.Tests.{cases, never-both}
 use Rattle.commands.specs.Command.{Language, original, translation, reads}
-use Rattle.command_bytes.specs.CommandBytes.{fieldsOf, payload, formed, parsed, fixed}
+use Rattle.commands.specs.Bytes.{fieldsOf, payload, formed, parsed, fixed}
 use Rattle.lists.specs.Table.{first}
 use Rattle.guard.specs.Judge.{rows, overruns, raise, judged}
-use Rattle.replies.specs.Replies.{readLength, replied, refused}
-use Rattle.replies.specs.declared.Answer.{Answer}
+use Rattle.guard.specs.Replies.{readLength, replied, refused}
+use Rattle.guard.specs.declared.Answer.{Answer}
 use Rattle.commands.specs.declared.Command.{Command}
 use Rattle.guard.specs.declared.Entry.{Entry}
 use Rattle.guard.specs.declared.Judged.{Judged}
-use Rattle.command_bytes.specs.declared.Parsed.the-variants.{Malformed, Formed}
-use Rattle.command_bytes.proofs.CommandBytes.{parsed-formed, parsed-malformed, formed-short}
+use Rattle.commands.specs.declared.Parsed.the-variants.{Malformed, Formed}
+use Rattle.commands.proofs.CommandBytes.{parsed-formed, parsed-malformed, formed-short}
 use Rattle.guard.proofs.Judge.{Accepted, accepted, accepted-raises}
 use Rattle.lists.proofs.Table.{settled-old}
 use Rattle.image.specs.Image.{Card, withCard, cardAt, encode, decode, sound}
-use Rattle.image_read.specs.Read.{entryAt, countOf, roomOf}
+use Rattle.image.specs.Bytes.{entryAt, countOf, roomOf}
 use Rattle.image_claims.proofs.Decode.{count-decode, card-decode}
 use Rattle.store.specs.Carried.{judgedAt, carried}
 use Rattle.model.specs.Serve.{Outcome, cardOf, textRead, stepped, storeRows, serveBy, serve}

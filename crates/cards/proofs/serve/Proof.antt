@@ -1,7 +1,7 @@
 -- The lines of a report have a place. Assumes nothing.
 use mathlib.Core.Path.{sym, _∙_}
 use native.Mathlib.Omega.{arith}
-use Rattle.report.proofs.Cases.{lines-place}
+use Rattle.program.proofs.Cases.{lines-place}
 use borrow.Author.Needs.{needs}
 use Rattle.cards.proofs.serve.Statement.{statement}
 use Rattle.cards.proofs.serve.Tie as tie

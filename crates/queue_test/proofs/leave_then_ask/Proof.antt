@@ -41,22 +41,22 @@ use denote.Triple.Table.{entered, cited}
 use denote.Triple.Walked.{says, Stays, stay-none, walkOf, goes-none, Walks, ends-at, walked, walk-meets}
 use denote.Exit.{yes}
 use denote.Triple.Clauses.{ensured, lasts}
-use Rattle.queue_state.specs.Queue.{State, mostPlaces}
+use Rattle.lock_queue.specs.Queue.{State, mostPlaces}
 use Rattle.lock_queue.specs.Requests.{Request, asks, leaves, answer, after}
-use Rattle.queue_state.specs.declared.Waiting.{Waiting}
-use Rattle.lent_places.specs.Slice.{held}
-use Rattle.lent_places.specs.declared.Kept.{Kept}
-use Rattle.lent_places.specs.declared.Reply.{Reply}
+use Rattle.lock_queue.specs.declared.Waiting.{Waiting}
+use Rattle.lent_queue.specs.Slice.{held}
+use Rattle.lent_queue.specs.declared.Kept.{Kept}
+use Rattle.lent_queue.specs.declared.Reply.{Reply}
 use Rattle.queue_test.specs.declared.Turn.{Turn}
 use Rattle.queue_test.proofs.Lending.{Entries, entries, avals, aval, lends, Back, comes}
 use Rattle.queue_test.proofs.Turn as N
 use Rattle.queue_test.proofs.Turn.Laws as N′
-use Rattle.queue_state.proofs.Waiting as T
-use Rattle.queue_state.proofs.Waiting.Laws as T′
-use Rattle.lent_places.proofs.Kept as K
-use Rattle.lent_places.proofs.Kept.Laws as K′
-use Rattle.lent_places.proofs.Reply as Y
-use Rattle.lent_places.proofs.Reply.Laws as Y′
+use Rattle.lock_queue.proofs.Waiting as T
+use Rattle.lock_queue.proofs.Waiting.Laws as T′
+use Rattle.lent_queue.proofs.Kept as K
+use Rattle.lent_queue.proofs.Kept.Laws as K′
+use Rattle.lent_queue.proofs.Reply as Y
+use Rattle.lent_queue.proofs.Reply.Laws as Y′
 use Rattle.lent_queue.proofs.leave as leave
 use Rattle.lent_queue.proofs.leave.Symbol as leave-def
 use Rattle.lent_queue.proofs.leave.Symbol.{name as #leave}

@@ -2,13 +2,13 @@
 use mathlib.Core.Path.{_≡_, ap, _∙_}
 use Prim.Native.Nat.{ℕ, _+_, _*_}
 use mathlib.Core.List.{List}
-use Rattle.queue_state.specs.Queue.{State, mostPlaces}
+use Rattle.lock_queue.specs.Queue.{State, mostPlaces}
 use Rattle.lock_queue.specs.Requests.{asks, leaves, answered, number, answer, after}
 use Rattle.queue_claims.specs.Trials.{guest, crowded}
 use Rattle.lock_queue.specs.declared.Answer.{Answer}
-use Rattle.queue_state.specs.declared.Waiting.{Waiting}
-use Rattle.lent_places.specs.Slice.{held}
-use Rattle.lent_places.specs.declared.Kept.{Kept}
+use Rattle.lock_queue.specs.declared.Waiting.{Waiting}
+use Rattle.lent_queue.specs.Slice.{held}
+use Rattle.lent_queue.specs.declared.Kept.{Kept}
 use Rattle.queue_test.specs.declared.Turn.{Turn}
 use borrow.Author.Needs.{needs}
 use Rattle.queue_test.proofs.numbers.Statement.{statement}

@@ -1,0 +1,36 @@
+-- What is answered: the reply fields of a number and an entry (the sheet, "When the store says no").
+-- Assumes nothing.
+use Prim.Native.Nat.{ℕ}
+use mathlib.Core.Bool.{Bool, cond, _||_}
+use lib.Dec.{eqb}
+use Rattle.lists.specs.Table.{settled}
+use Rattle.stamps.specs.Stamp.{noPair, noMark}
+use Rattle.commands.specs.Command.{original, translation, reads}
+use Rattle.commands.specs.declared.Command.{Command}
+use Rattle.guard.specs.declared.Entry.{Entry}
+use Rattle.guard.specs.declared.Answer.{Answer}
+
+-- Answers whose reply fields are zeros: 9, 1 and 2.
+abbrev pub blank : ℕ → Bool
+blank number = eqb number 9 || eqb number 1 || eqb number 2
+
+-- The length of the text that a command reads, 0 if it reads none.
+abbrev pub readLength : Entry → Command → ℕ
+readLength e c = cond (reads original c) (e .original) (cond (reads (translation 0) c) (e .translation) 0)
+
+-- "Reply fields: s, x, commit desk, transaction, edition, translated-from, length (of the text read if a read is accepted, else 0)", for a
+-- number and the entry as it is after it.
+unfoldable pub replied : ℕ → Entry → Command → Answer
+replied number e c =
+    record {
+      number = number;
+      pair = cond (blank number) noPair (e .pair);
+      mark = cond (blank number) noMark (e .mark);
+      edition = cond (blank number) 0 (e .edition);
+      from = cond (blank number) 0 (e .from);
+      length = settled number (readLength e c) 0;
+    }
+
+-- The answer of a number whose reply fields are zeros.
+abbrev pub refused : ℕ → Answer
+refused number = record { number = number; pair = noPair; mark = noMark; edition = 0; from = 0; length = 0 }

@@ -1,0 +1,5 @@
+pub mod Lines
+pub mod Front
+pub mod Running
+pub mod Answered
+pub mod Cases
