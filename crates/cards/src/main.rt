@@ -1,7 +1,7 @@
 // The program: an image and a stream of commands from standard input, an answer to each on standard output.
 ghost use Prim.Native.Nat.{_+_, _*_, _≤_};
 ghost use lib.ListN.{length};
-ghost use Rattle.program.specs.Program.{perLine};
+ghost use Rattle.program.specs.Program.{perLine, mostNumbers};
 use libc::STDIN_FILENO;
 use libc::STDOUT_FILENO;
 use program::Report;
@@ -52,8 +52,8 @@ fn print_end(left: usize) {
 }
 
 // The lines of a good store: how many cards it has, one for each command, and the last.
-fn print_summary(s: Summary, out: &[u64])
-    requires { ⌜ s .lines * perLine ≤ length (now out) ⌝ }
+fn print_summary(s: Summary, out: &[u64; MOST_NUMBERS])
+    requires { ⌜ s .lines * perLine ≤ mostNumbers ⌝ }
 {
     io::write_all(STDOUT_FILENO, b"cards");
     print_number(s.cards as u64);
@@ -65,7 +65,7 @@ fn print_summary(s: Summary, out: &[u64])
 // The whole output for an input.
 fn serve(input: &[u8]) {
     let mut out = [0u64; MOST_NUMBERS];
-    match program::inner::report::report(input, &mut out) {
+    match program::answer(input, &mut out) {
         Report::TooLong => {
             io::write_all(STDOUT_FILENO, b"too long\n");
         }

@@ -2,5 +2,4 @@
 pub mod batch;
 pub mod input;
 pub mod lines;
-pub mod report;
 pub mod run;

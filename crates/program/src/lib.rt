@@ -1,7 +1,10 @@
 // The program's whole answer to an input, as a value, before anything is printed.
 pub mod inner;
 
-// ---- The program's whole answer to an input, as a value, before it is printed.
+ghost use mathlib.Core.Path.{_≡_};
+ghost use Rattle.program.specs.Program.{reportOf, shownOf};
+use inner::batch::MOST_NUMBERS;
+use inner::input::MOST_INPUT;
 
 // What the stream behind a good store came to: how many cards the image has, how many lines there are, and how many bytes are left over.
 pub struct Summary {
@@ -15,4 +18,25 @@ pub enum Report {
     TooLong,
     BadStore,
     Lines(Summary),
+}
+
+// Judges an input whole, and writes the numbers of every line into `out`, end to end.
+pub fn answer(input: &[u8], out: &mut [u64; MOST_NUMBERS]) -> Report
+    ensures report { λ r. ⌜ r ≡ reportOf (now (input .entry)) ⌝ }
+    ensures out { λ _. ⌜ now (out .exit) ≡ shownOf (now (input .entry)) (now (out .entry)) ⌝ }
+{
+    if MOST_INPUT < input.len() {
+        return Report::TooLong;
+    }
+    let size = inner::input::store_size(input);
+    if size == 0 {
+        return Report::BadStore;
+    }
+    let room = image::inner::read::room(input) as usize;
+    let lines = inner::batch::answers(input, size, room, out);
+    Report::Lines(Summary {
+        cards: image::inner::read::count(input),
+        lines,
+        left: inner::input::left_over(&input[size..]),
+    })
 }
