@@ -6,7 +6,7 @@ use mathlib.Core.Path.{_≡_, refl, sym, ap, _∙_}
 use mathlib.Core.List.{List, [], _∷_, map}
 use lib.ListN.{length, drop, getD, set, drop-of-length-le, length-map}
 use Rattle.lists.proofs.Parts.{drop-left, splice-whole}
-use Rattle.endian.proofs.Loops.{Writing, writing-none, writing-more, writing-done}
+use Rattle.slices.proofs.Loops.{Writing, writing-none, writing-more, writing-done}
 
 module _ {A : Type 0} where
   -- The first i elements of v stand in `s`, an array as long as v.

@@ -7,7 +7,7 @@ use Rattle.lists.specs.Parts.{table}
 use Rattle.lock_queue.specs.Queue.{mostPlaces, State}
 use Rattle.lock_queue.specs.declared.Waiting.{Waiting}
 use mathlib.Core.Bool.{cond}
-use Rattle.lock_queue.specs.declared.Answer.{Answer}
+use Rattle.lock_queue.specs.declared.LockAnswer.{LockAnswer}
 
 -- An entry of the queue by its three numbers.
 abbrev pub waiting : ℕ → ℕ → ℕ → Waiting
@@ -43,5 +43,5 @@ abbrev pub keptOf : State → List ℕ
 keptOf q = q .count ∷ q .largest .s ∷ q .largest .x ∷ []
 
 -- "Whether that desk holds the lock .., largest pair .., and how many entries were looked at".
-abbrev pub answerOf : Answer → List ℕ
+abbrev pub answerOf : LockAnswer → List ℕ
 answerOf a = cond (a .holds) 1 0 ∷ a .largest .s ∷ a .largest .x ∷ a .looked ∷ []

@@ -5,8 +5,8 @@ use mathlib.Core.List.{List, [], _∷_}
 use Rattle.guard.specs.declared.Answer.{Answer}
 use lib.ListN.{length}
 use Rattle.desk.specs.Show.{Text, shownNumber, shownPart}
-use Rattle.desk.specs.declared.Language.{Language}
-use Rattle.desk.specs.declared.Language.the-variants.{Original, Translation}
+use Rattle.desk.specs.declared.Asked.{Asked}
+use Rattle.desk.specs.declared.Asked.the-variants.{Original, Translation}
 use mathlib.Core.Bool.{Bool, true, false}
 use Rattle.stream.specs.declared.Next.{Next}
 use Rattle.stream.specs.declared.Next.the-variants.{Whole, Cut}
@@ -33,6 +33,6 @@ shownLength o t edition from (suc (suc asked)) = 0
 -- ---- What stands at a place of a stream, as a test.
 
 -- A whole command stands there.
-abbrev pub stands : Next → Bool
-stands (Whole end) = true
-stands Cut = false
+abbrev pub isWhole : Next → Bool
+isWhole (Whole end) = true
+isWhole Cut = false

@@ -7,10 +7,10 @@ ghost use lib.ListN.{length};
 ghost use Rattle.lists.specs.Table.{settled};
 ghost use Rattle.image.specs.Image.{sound, makeNumber, fresh};
 ghost use Rattle.model.specs.Serve.{serve};
-ghost use Rattle.capi.specs.Numbers.{fieldsOf, askedNumber, shownLength, stands};
+ghost use Rattle.capi.specs.Numbers.{fieldsOf, askedNumber, shownLength, isWhole};
 ghost use Rattle.lock_queue.specs.Requests.{Request, answer, after};
 ghost use Rattle.capi.specs.Arrays.{waiting, modesOf, sharedOf, exclusiveOf, queueOf, keptOf, answerOf};
-ghost use Rattle.desk.specs.Show.{text};
+ghost use Rattle.desk.specs.Show.{heldText};
 ghost use Rattle.stream.specs.Stream.{nextAt, endOf, onward};
 use stream::Next;
 
@@ -108,8 +108,8 @@ pub extern "C" fn lupaniele_shown<'a>(
     asked: u8,
     count: &mut u64,
 ) -> u8
-    ensures number { λ r. ⌜ r ≡ askedNumber (text (now (original .entry)) «original_length») (text (now (translation .entry)) «translation_length») edition from asked ⌝ }
-    ensures count { λ _. ⌜ now (count .exit) ≡ shownLength (text (now (original .entry)) «original_length») (text (now (translation .entry)) «translation_length») edition from asked ⌝ }
+    ensures number { λ r. ⌜ r ≡ askedNumber (heldText (now (original .entry)) «original_length») (heldText (now (translation .entry)) «translation_length») edition from asked ⌝ }
+    ensures count { λ _. ⌜ now (count .exit) ≡ shownLength (heldText (now (original .entry)) «original_length») (heldText (now (translation .entry)) «translation_length») edition from asked ⌝ }
 {
     inner::answers::shown(
         original,
@@ -126,7 +126,7 @@ pub extern "C" fn lupaniele_shown<'a>(
 // What stands at a place of a stream: true, and in `end` the place behind it, if a whole command does; else false, and the place itself.
 #[no_mangle]
 pub extern "C" fn lupaniele_next(stream: &[u8], at: u64, end: &mut u64) -> bool
-    ensures whole { λ r. ⌜ r ≡ stands (nextAt (now (stream .entry)) at) ⌝ }
+    ensures whole { λ r. ⌜ r ≡ isWhole (nextAt (now (stream .entry)) at) ⌝ }
     ensures end { λ _. ⌜ now (end .exit) ≡ onward at (nextAt (now (stream .entry)) at) ⌝ }
 {
     let Next::Whole(next) = stream::next_at(stream, at as usize) else {

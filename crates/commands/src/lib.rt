@@ -153,8 +153,8 @@ fn mark_at(bytes: &[u8], at: usize) -> Mark
     ensures { λ r. ⌜ r ≡ markAt at (now (bytes .entry)) ⌝ }
 {
     Mark {
-        desk: endian::inner::fixed_width::read_u16(bytes, at),
-        transaction: endian::inner::fixed_width::read_u32(bytes, at + 2),
+        desk: slices::inner::fixed_width::read_u16(bytes, at),
+        transaction: slices::inner::fixed_width::read_u32(bytes, at + 2),
     }
 }
 
@@ -164,8 +164,8 @@ fn pair_of(bytes: &[u8]) -> Pair
     ensures { λ r. ⌜ r ≡ fieldsOf (now (bytes .entry)) .pair ⌝ }
 {
     Pair {
-        s: endian::inner::fixed_width::read_u64(bytes, S),
-        x: endian::inner::fixed_width::read_u64(bytes, X),
+        s: slices::inner::fixed_width::read_u64(bytes, S),
+        x: slices::inner::fixed_width::read_u64(bytes, X),
     }
 }
 
@@ -177,12 +177,12 @@ fn fields(bytes: &[u8]) -> Command
     Command {
         act: bytes[ACT],
         mode: bytes[MODE],
-        card: endian::inner::fixed_width::read_u16(bytes, CARD),
+        card: slices::inner::fixed_width::read_u16(bytes, CARD),
         pair: pair_of(bytes),
         expected: mark_at(bytes, EXPECTED),
         next: mark_at(bytes, NEXT),
-        edition: endian::inner::fixed_width::read_u16(bytes, EDITION),
-        length: endian::inner::fixed_width::read_u16(bytes, LENGTH),
+        edition: slices::inner::fixed_width::read_u16(bytes, EDITION),
+        length: slices::inner::fixed_width::read_u16(bytes, LENGTH),
     }
 }
 
@@ -195,7 +195,7 @@ pub fn parse(bytes: &[u8]) -> Parsed
     }
     let c = fields(bytes);
     if (bytes.len() == FIXED + (c.length as usize))
-        & endian::all_zero(&bytes[ZEROS..EXPECTED])
+        & slices::all_zero(&bytes[ZEROS..EXPECTED])
         & c.well_formed()
     {
         return Parsed::Formed(c);

@@ -57,8 +57,8 @@ entryRows e c room lent =
     ∷ []
 
 -- The rows of an entry that judges a command, whoever made it: row 1, command malformed, on its numbers, then rows 3 to 8.
-abbrev pub rows : Entry → Command → ℕ → ℕ → List Row
-rows e c room lent = row (not (wellFormed c)) 1 ∷ entryRows e c room lent
+abbrev pub judgeRows : Entry → Command → ℕ → ℕ → List Row
+judgeRows e c room lent = row (not (wellFormed c)) 1 ∷ entryRows e c room lent
 
 -- The entry after an accepted command: "sets stored s and x each to the larger of old and new, and the stored mark to the next mark";
 -- "writing an original raises the edition by 1"; a translation's named edition "becomes translated-from".
@@ -77,6 +77,6 @@ raise e c =
 unfoldable pub judged : Entry → Command → ℕ → ℕ → Judged
 judged e c room lent =
     record {
-      number = first (rows e c room lent);
-      entry = settled (first (rows e c room lent)) (raise e c) e;
+      number = first (judgeRows e c room lent);
+      entry = settled (first (judgeRows e c room lent)) (raise e c) e;
     }

@@ -11,8 +11,8 @@ use Rattle.guard.specs.declared.Entry.{Entry}
 use Rattle.guard.specs.declared.Answer.{Answer}
 
 -- Answers whose reply fields are zeros: 9, 1 and 2.
-abbrev pub blank : ℕ → Bool
-blank number = eqb number 9 || eqb number 1 || eqb number 2
+abbrev pub blankReply : ℕ → Bool
+blankReply number = eqb number 9 || eqb number 1 || eqb number 2
 
 -- The length of the text that a command reads, 0 if it reads none.
 abbrev pub readLength : Entry → Command → ℕ
@@ -24,10 +24,10 @@ unfoldable pub replied : ℕ → Entry → Command → Answer
 replied number e c =
     record {
       number = number;
-      pair = cond (blank number) noPair (e .pair);
-      mark = cond (blank number) noMark (e .mark);
-      edition = cond (blank number) 0 (e .edition);
-      from = cond (blank number) 0 (e .from);
+      pair = cond (blankReply number) noPair (e .pair);
+      mark = cond (blankReply number) noMark (e .mark);
+      edition = cond (blankReply number) 0 (e .edition);
+      from = cond (blankReply number) 0 (e .from);
       length = settled number (readLength e c) 0;
     }
 

@@ -1,6 +1,6 @@
 ghost use mathlib.Core.Path.{_≡_};
 ghost use mathlib.Core.Bool.{false, cond};
-ghost use Rattle.guard.specs.Judge.{behind, wrongEdition, editionsSpent, replyShort, rows, raise, judged};
+ghost use Rattle.guard.specs.Judge.{behind, wrongEdition, editionsSpent, replyShort, judgeRows, raise, judged};
 ghost use Rattle.lists.specs.Table.{first};
 use crate::Entry;
 use crate::Judged;
@@ -66,7 +66,7 @@ impl Entry {
 
     // The number of the first row that applies.
     fn number(self, c: Command, room: u16, lent: usize) -> u8
-        ensures { λ r. ⌜ r ≡ first (rows self c room lent) ⌝ }
+        ensures { λ r. ⌜ r ≡ first (judgeRows self c room lent) ⌝ }
     {
         if !c.well_formed() {
             return MALFORMED;

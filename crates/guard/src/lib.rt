@@ -2,7 +2,7 @@
 pub mod entries;
 
 ghost use mathlib.Core.Path.{_≡_};
-ghost use Rattle.guard.specs.Replies.{blank, readLength, replied, refused};
+ghost use Rattle.guard.specs.Replies.{blankReply, readLength, replied, refused};
 ghost use Rattle.lists.specs.Table.{settled};
 use commands::Command;
 use entries::ACCEPTED;
@@ -68,7 +68,7 @@ fn length(judged: Judged, c: Command) -> u16
 
 // Whether the number's reply fields are zeros.
 fn is_blank(number: u8) -> bool
-    ensures { λ r. ⌜ r ≡ blank number ⌝ }
+    ensures { λ r. ⌜ r ≡ blankReply number ⌝ }
 {
     (number == UNSOUND) | (number == MALFORMED) | (number == NO_CARD)
 }

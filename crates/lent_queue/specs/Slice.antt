@@ -5,10 +5,10 @@ use Prim.Native.Nat.{ℕ, zero, suc}
 use mathlib.Core.List.{List, [], _∷_}
 use lib.ListN.{replicate}
 use Rattle.lock_queue.specs.Queue.{State, mostPlaces, noWaiting}
-use Rattle.lock_queue.specs.declared.Outcome.{Outcome}
+use Rattle.lock_queue.specs.declared.LockOutcome.{LockOutcome}
 use Rattle.lock_queue.specs.declared.Waiting.{Waiting}
 use Rattle.lent_queue.specs.declared.Kept.{Kept}
-use Rattle.lent_queue.specs.declared.Reply.{Reply}
+use Rattle.lent_queue.specs.declared.LentOutcome.{LentOutcome}
 
 -- The state of a queue whose places are lent.
 abbrev pub held : List Waiting → Kept → State
@@ -26,5 +26,5 @@ abbrev pub loaded : List Waiting → List Waiting
 loaded places = written mostPlaces places (replicate mostPlaces noWaiting)
 
 -- What is said of an outcome beside its places.
-abbrev pub replyOf : Outcome → Reply
+abbrev pub replyOf : LockOutcome → LentOutcome
 replyOf o = record { answer = o .answer; kept = record { count = o .queue .count; largest = o .queue .largest } }

@@ -4,13 +4,13 @@ ghost use Rattle.lock_queue.specs.Queue.{state};
 ghost use Rattle.lock_queue.specs.Requests.{asks, leaves, answer, after};
 ghost use Rattle.lent_queue.specs.Slice.{held};
 use crate::Kept;
-use lock_queue::Outcome;
+use lock_queue::LockOutcome;
 use lock_queue::Places;
 use lock_queue::Queue;
 use lock_queue::Waiting;
 
 // Asking, by value.
-pub fn asked(places: Places, kept: Kept, lent: usize, new: Waiting) -> Outcome
+pub fn asked(places: Places, kept: Kept, lent: usize, new: Waiting) -> LockOutcome
     ensures { λ r. ⌜ (r .answer ≡ answer lent (held (places .at) kept) (asks new)) × (state (r .queue) ≡ after lent (held (places .at) kept) (asks new)) ⌝ }
 {
     let largest = kept.largest;
@@ -23,7 +23,7 @@ pub fn asked(places: Places, kept: Kept, lent: usize, new: Waiting) -> Outcome
 }
 
 // Leaving, by value.
-pub fn left(places: Places, kept: Kept, lent: usize, desk: u32) -> Outcome
+pub fn left(places: Places, kept: Kept, lent: usize, desk: u32) -> LockOutcome
     ensures { λ r. ⌜ (r .answer ≡ answer lent (held (places .at) kept) (leaves desk)) × (state (r .queue) ≡ after lent (held (places .at) kept) (leaves desk)) ⌝ }
 {
     let largest = kept.largest;

@@ -10,7 +10,7 @@ use inner::places::load;
 use inner::places::store;
 use lent::asked;
 use lent::left;
-use lock_queue::Answer;
+use lock_queue::LockAnswer;
 use lock_queue::Waiting;
 use stamps::Pair;
 
@@ -23,13 +23,13 @@ pub struct Kept {
 }
 
 // An answer, and what the queue now keeps.
-pub struct Reply {
-    pub answer: Answer,
+pub struct LentOutcome {
+    pub answer: LockAnswer,
     pub kept: Kept,
 }
 
 // A desk asks for the lock in a queue of lent places. Where more than 32 are lent the queue is bad, whatever it holds.
-pub fn ask(places: &mut [Waiting], kept: Kept, new: Waiting) -> Reply
+pub fn ask(places: &mut [Waiting], kept: Kept, new: Waiting) -> LentOutcome
     ensures { λ r. ⌜ (r .answer ≡ answer (length (now (places .entry))) (held (now (places .entry)) kept) (asks new))
         × (held (now (places .exit)) (r .kept) ≡ after (length (now (places .entry))) (held (now (places .entry)) kept) (asks new)) ⌝ }
 {
@@ -39,7 +39,7 @@ pub fn ask(places: &mut [Waiting], kept: Kept, new: Waiting) -> Reply
 }
 
 // The desk and start `desk` leaves a queue of lent places.
-pub fn leave(places: &mut [Waiting], kept: Kept, desk: u32) -> Reply
+pub fn leave(places: &mut [Waiting], kept: Kept, desk: u32) -> LentOutcome
     ensures { λ r. ⌜ (r .answer ≡ answer (length (now (places .entry))) (held (now (places .entry)) kept) (leaves desk))
         × (held (now (places .exit)) (r .kept) ≡ after (length (now (places .entry))) (held (now (places .entry)) kept) (leaves desk)) ⌝ }
 {

@@ -30,9 +30,9 @@ first [] = 0
 first (r ∷ rows) = cond (r .applies) (r .gives) (first rows)
 
 -- No row of the list applies.
-abbrev pub none : List Row → Bool
-none [] = true
-none (r ∷ rows) = not (r .applies) && none rows
+abbrev pub noRow : List Row → Bool
+noRow [] = true
+noRow (r ∷ rows) = not (r .applies) && noRow rows
 
 -- The row with this number applies.
 abbrev pub applies : ℕ → List Row → Bool

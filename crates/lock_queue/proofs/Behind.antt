@@ -10,7 +10,7 @@ use Rattle.stamps.specs.declared.Pair.{Pair}
 use Rattle.lock_queue.proofs.Standing.{map-append, stands-append}
 use Rattle.lock_queue.specs.Queue.{desk, desks, stands}
 use Rattle.lock_queue.specs.declared.Waiting.{Waiting}
-use Rattle.lock_queue.specs.Good.{distinct, formed, within, entriesGood, fitsBehind}
+use Rattle.lock_queue.specs.Good.{distinct, waitingFormed, within, entriesGood, fitsBehind}
 
 -- No two of a list, and one more that is none of them.
 regrouped : (p q r t : Bool) → (not (p || (q || false)) && (r && not t)) ≡ (not p && r && not (q || t))
@@ -44,11 +44,11 @@ pub entries-more : (largest : Pair) (ws : List Waiting) (w : Waiting) →
 unfolding entriesGood all allFrom
 entries-more largest ws w =
     rw
-    (map-append formed ws (w ∷ []), map-append desk ws (w ∷ []), map-append (within largest) ws (w ∷ []), all-append, all-append, distinct-more)
+    (map-append waitingFormed ws (w ∷ []), map-append desk ws (w ∷ []), map-append (within largest) ws (w ∷ []), all-append, all-append, distinct-more)
     (joined-tests
-    (all (map formed ws))
+    (all (map waitingFormed ws))
     (distinct (desks ws))
     (all (map (within largest) ws))
-    (formed w)
+    (waitingFormed w)
     (not (stands (desk w) (desks ws)))
     (within largest w))

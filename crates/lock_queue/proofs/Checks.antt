@@ -11,7 +11,7 @@ use Rattle.lists.specs.Table.{all, allFrom}
 use Rattle.stamps.specs.Stamp.{stampValid}
 use Rattle.stamps.specs.declared.Pair.{Pair}
 use Rattle.lock_queue.specs.Queue.{State, mostPlaces, standing, desks}
-use Rattle.lock_queue.specs.Good.{distinct, formed, within, queueChecks, good, entriesGood}
+use Rattle.lock_queue.specs.Good.{distinct, waitingFormed, within, queueChecks, good, entriesGood}
 use Rattle.lock_queue.specs.declared.Waiting.{Waiting}
 
 -- The length and the count.
@@ -44,7 +44,7 @@ pub record Good (lent : ℕ) (q : State) : Type 0 where
   pub counted : q .count ≤ lent
   pub s-valid : stampValid (q .largest .s) ≡ true
   pub x-valid : stampValid (q .largest .x) ≡ true
-  pub all-formed : all (map formed (standing q)) ≡ true
+  pub all-formed : all (map waitingFormed (standing q)) ≡ true
   pub all-distinct : distinct (desks (standing q)) ≡ true
   pub all-within : all (map (within (q .largest)) (standing q)) ≡ true
 
@@ -71,13 +71,13 @@ good-in lent q g =
     sym (good-rest lent q sizes)
     ∙ and-in (and-in (g .s-valid) (g .x-valid)) (entries-in (q .largest) (standing q) (g .all-formed) (g .all-distinct) (g .all-within))
   where
-    entries-in : (largest : Pair) (ws : List Waiting) → all (map formed ws) ≡ true → distinct (desks ws) ≡ true → all (map (within largest) ws) ≡ true →
+    entries-in : (largest : Pair) (ws : List Waiting) → all (map waitingFormed ws) ≡ true → distinct (desks ws) ≡ true → all (map (within largest) ws) ≡ true →
         entriesGood largest ws ≡ true
     entries-in largest ws a b c = and-in (and-in a b) c
 
 -- The same, of a queue whose standing entries are known as a list.
 pub good-by : {lent : ℕ} (q : State) {ws : List Waiting} → standing q ≡ ws → 1 ≤ lent → lent ≤ mostPlaces → q .count ≤ lent →
-    stampValid (q .largest .s) ≡ true → stampValid (q .largest .x) ≡ true → all (map formed ws) ≡ true → distinct (desks ws) ≡ true →
+    stampValid (q .largest .s) ≡ true → stampValid (q .largest .x) ≡ true → all (map waitingFormed ws) ≡ true → distinct (desks ws) ≡ true →
     all (map (within (q .largest)) ws) ≡ true → good lent q ≡ true
 good-by {lent} q e a b c s x f d w =
     good-in lent q

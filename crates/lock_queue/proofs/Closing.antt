@@ -7,7 +7,7 @@ use mathlib.Core.Bool.{Bool, true, false, cond}
 use lib.Dec.{eqb}
 use lib.ListN.{length, take, drop, getD, set, length-drop, length-append}
 use lib.Seq.{length-take-le, take-take}
-use Rattle.endian.proofs.Loops.{Writing, writing-more, writing-done}
+use Rattle.slices.proofs.Loops.{Writing, writing-more, writing-done}
 use Rattle.lists.specs.Parts.{splice}
 use Rattle.lock_queue.proofs.Standing.{from, ended}
 use Rattle.lock_queue.specs.Queue.{noWaiting, desk, desks, firstPlace}

@@ -17,8 +17,8 @@ distinct [] = true
 distinct (e ∷ es) = not (stands e es) && distinct es
 
 -- An entry's mode and stamps, by a command's rules.
-abbrev pub formed : Waiting → Bool
-formed w = all (sessionChecks (w .mode) (w .pair))
+abbrev pub waitingFormed : Waiting → Bool
+waitingFormed w = all (sessionChecks (w .mode) (w .pair))
 
 -- Neither of an entry's stamps is above the largest.
 abbrev pub within : Pair → Waiting → Bool
@@ -35,7 +35,7 @@ queueChecks lent q =
     ∷ stampValid (q .largest .s)
     ∷ stampValid (q .largest .x)
     -- malformed entry
-    ∷ all (map formed (standing q))
+    ∷ all (map waitingFormed (standing q))
     -- same desk and start twice
     ∷ distinct (desks (standing q))
     -- an entry's stamp above the largest
@@ -48,7 +48,7 @@ good lent q = all (queueChecks lent q)
 -- ---- The three tests on the standing entries, and the same for one entry behind those before it: what a pass over the places computes.
 
 unfoldable pub entriesGood : Pair → List Waiting → Bool
-entriesGood largest ws = all (map formed ws) && distinct (desks ws) && all (map (within largest) ws)
+entriesGood largest ws = all (map waitingFormed ws) && distinct (desks ws) && all (map (within largest) ws)
 
 abbrev pub fitsBehind : Pair → List Waiting → Waiting → Bool
-fitsBehind largest ws w = formed w && not (stands (desk w) (desks ws)) && within largest w
+fitsBehind largest ws w = waitingFormed w && not (stands (desk w) (desks ws)) && within largest w

@@ -31,7 +31,7 @@ pub struct Queue {
 }
 
 // The number, whether the desk holds the lock, the largest pair, and how many entries were looked at.
-pub struct Answer {
+pub struct LockAnswer {
     pub number: u8,
     pub holds: bool,
     pub largest: Pair,
@@ -39,43 +39,43 @@ pub struct Answer {
 }
 
 // An answer, and the queue as it now is.
-pub struct Outcome {
-    pub answer: Answer,
+pub struct LockOutcome {
+    pub answer: LockAnswer,
     pub queue: Queue,
 }
 
 // A desk asks for the lock. `lent` is the number of places that the queue was given; a queue of more than 32 is bad.
-pub fn ask(queue: Queue, lent: usize, new: Waiting) -> Outcome
+pub fn ask(queue: Queue, lent: usize, new: Waiting) -> LockOutcome
     ensures { λ r. ⌜ (r .answer ≡ answer lent (state queue) (asks new)) × (state (r .queue) ≡ after lent (state queue) (asks new)) ⌝ }
 {
     let number = judge::ask_number(queue, lent, new);
     let desk = stamps::desk_of(new.mode, new.pair);
     if number == 0 {
         let joined = inner::effects::joined(queue, new);
-        return Outcome {
+        return LockOutcome {
             answer: inner::answer::answered(number, desk, queue, joined),
             queue: joined,
         };
     }
-    Outcome {
+    LockOutcome {
         answer: inner::answer::answered(number, desk, queue, queue),
         queue,
     }
 }
 
 // The desk and start `desk` leaves.
-pub fn leave(queue: Queue, lent: usize, desk: u32) -> Outcome
+pub fn leave(queue: Queue, lent: usize, desk: u32) -> LockOutcome
     ensures { λ r. ⌜ (r .answer ≡ answer lent (state queue) (leaves desk)) × (state (r .queue) ≡ after lent (state queue) (leaves desk)) ⌝ }
 {
     let number = judge::leave_number(queue, lent, desk);
     if number == 0 {
         let closed = inner::effects::without(queue, desk);
-        return Outcome {
+        return LockOutcome {
             answer: inner::answer::answered(number, desk, queue, closed),
             queue: closed,
         };
     }
-    Outcome {
+    LockOutcome {
         answer: inner::answer::answered(number, desk, queue, queue),
         queue,
     }

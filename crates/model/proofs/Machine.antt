@@ -14,7 +14,7 @@ use Rattle.lists.proofs.Tests.{cases, or-right, not-in, ltb-max}
 use Rattle.commands.specs.Command.{Language, original, translation, writes, update}
 use Rattle.commands.specs.Bytes.{fieldsOf, formed, payload}
 use Rattle.stamps.specs.Stamp.{noMark}
-use Rattle.guard.specs.Judge.{behind, textLength, rows, raise, judged}
+use Rattle.guard.specs.Judge.{behind, textLength, judgeRows, raise, judged}
 use Rattle.guard.specs.Replies.{replied}
 use Rattle.lists.specs.Table.{first, settled, applies}
 use Rattle.commands.specs.declared.Command.{Command}
@@ -79,7 +79,7 @@ passed cs s e =
     there = not-false (ltb (fieldsOf (s .command) .card) (length (cs .cards))) (unapplied-row 2)
 
     -- Past rows 1 and 2 the entry's own table decides.
-    same : numberOn cs s ≡ first (rows (cardOf cs (fieldsOf (s .command)) .entry) (fieldsOf (s .command)) (cs .room) (length (s .lent)))
+    same : numberOn cs s ≡ first (judgeRows (cardOf cs (fieldsOf (s .command)) .entry) (fieldsOf (s .command)) (cs .room) (length (s .lent)))
     same = rw (is-formed, there, formed-well (s .command) is-formed)
 
 -- ---- texts and their lengths

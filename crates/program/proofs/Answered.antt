@@ -9,7 +9,7 @@ use Rattle.lists.specs.Parts.{part, splice}
 use Rattle.lists.proofs.Parts.{part-replicate}
 use Rattle.image.specs.Layout.{mostRoom}
 use Rattle.image.specs.Bytes.{roomOf}
-use Rattle.program.specs.Program.{perLine, mostInput, storeSize, runs, printed, mostNumbers, answered, Lent}
+use Rattle.program.specs.Program.{perLine, mostInput, storeSize, runs, printed, mostNumbers, runBehind, Lent}
 use Rattle.stream.specs.Stream.{commands}
 use Rattle.stream_claims.proofs.Claims.{claims}
 use Rattle.program.proofs.Front.{Front}
@@ -29,7 +29,7 @@ front-of-repeat n m h = part-replicate 0 n m 0 (omega arith)
 -- A run over a copy of the image in front, with the front of a buffer of zeros, is the run that the input asks for.
 pub answered-by : (size room : ℕ) (input blank copy out₀ out : List ℕ) → size ≤ length input → room ≤ mostRoom → copy ≡ splice 0 (take size input) blank →
     out ≡ splice 0 (printed (runs (take size copy) (take room (replicate mostRoom zero)) (commands (take (length input - size) (drop size input))))) out₀ →
-    out ≡ splice 0 (printed (answered size room input)) out₀
+    out ≡ splice 0 (printed (runBehind size room input)) out₀
 answered-by size room input blank copy out₀ out within most put run =
     run ∙ rw (put, front-of size (take size input) blank (length-take-le size input within), front-of-repeat room mostRoom most, back-of size input)
 

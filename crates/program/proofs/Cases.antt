@@ -11,7 +11,7 @@ use native.Mathlib.Omega.{arith}
 use Rattle.lists.specs.Parts.{splice}
 use Rattle.image.specs.Bytes.{countOf, roomOf}
 use Rattle.stream.specs.Stream.{commands, endOf}
-use Rattle.program.specs.Program.{perLine, mostInput, claimed, goodStore, storeSize, printed, mostNumbers, answered, summaryOf, reportOf, shownOf}
+use Rattle.program.specs.Program.{perLine, mostInput, claimed, goodStore, storeSize, printed, mostNumbers, runBehind, summaryOf, reportOf, shownOf}
 use Rattle.program.proofs.Front.{Front, front, good-front}
 use Rattle.program.proofs.Answered.{lines-fit}
 use Rattle.program.specs.declared.Summary.{Summary}
@@ -48,7 +48,7 @@ module _ (input out : List ℕ) where
 
     lines-good : {cards lines left size room : ℕ} {out′ : List ℕ} → goodStore input ≡ true → cards ≡ countOf input → size ≡ storeSize input → room ≡ roomOf input →
         lines ≡ length (commands (drop size input)) → left ≡ length (drop size input) - endOf (drop size input) →
-        out′ ≡ splice 0 (printed (answered size room input)) out →
+        out′ ≡ splice 0 (printed (runBehind size room input)) out →
         (Lines (record { cards = cards; lines = lines; left = left }) ≡ reportOf input) × (out′ ≡ shownOf input out)
     unfolding reportOf shownOf
     lines-good e c s r l k o =
@@ -58,7 +58,7 @@ module _ (input out : List ℕ) where
 
     pub lines-of : {cards lines left size room : ℕ} {out′ : List ℕ} → (storeSize input ≡ 0 → ⊥) → cards ≡ countOf input → size ≡ storeSize input → room ≡ roomOf input →
         lines ≡ length (commands (drop size input)) → left ≡ length (drop size input) - endOf (drop size input) →
-        out′ ≡ splice 0 (printed (answered size room input)) out →
+        out′ ≡ splice 0 (printed (runBehind size room input)) out →
         (Lines (record { cards = cards; lines = lines; left = left }) ≡ reportOf input) × (out′ ≡ shownOf input out)
     lines-of {cards} {lines} {left} {size} {room} {out′} some c s r l k o = go (goodStore input) refl
       where

@@ -80,8 +80,8 @@ abbrev pub mostNumbers : ℕ
 mostNumbers = mostInput / fixed * perLine
 
 -- "An image as long as its header says, then a stream"; "its reply buffer has C bytes", zeros at first.
-abbrev pub answered : ℕ → ℕ → List ℕ → Run
-answered size room input = runs (take size input) (replicate room 0) (commands (drop size input))
+abbrev pub runBehind : ℕ → ℕ → List ℕ → Run
+runBehind size room input = runs (take size input) (replicate room 0) (commands (drop size input))
 
 -- What the judging of an input needs: an image within the input and the limits, and a place for each number that is to be printed.
 pub record Lent (input : List ℕ) (size room : ℕ) (out : List ℕ) : Type 0 where
@@ -98,7 +98,7 @@ streamOf input = drop (storeSize input) input
 
 -- The run of an input: "its reply buffer has C bytes".
 abbrev pub runOf : List ℕ → Run
-runOf input = answered (storeSize input) (roomOf input) input
+runOf input = runBehind (storeSize input) (roomOf input) input
 
 -- The first line has N; there is one line for each whole command; "it ends with `end`, or `cut` and the bytes left over".
 abbrev pub summaryOf : List ℕ → Summary

@@ -8,7 +8,7 @@ use Rattle.lists.proofs.Spread.{part-spread}
 use Rattle.guard.specs.declared.Answer.{Answer}
 use Rattle.model.specs.Serve.{serve}
 use Rattle.program.specs.Program.{numbersOf, perLine, runs}
-use Rattle.program_claims.specs.Claims.{Claims}
+use Rattle.program_claims.specs.Claims.{ProgramClaims}
 use Rattle.program_claims.proofs.Log.{logs}
 use Rattle.program_claims.proofs.Served.{guarded, serves}
 use Rattle.program.proofs.Lines.{per-line}
@@ -25,7 +25,7 @@ each image reply [] i none h = absurd (not-suc-le-zero h)
 each image reply (c ∷ cs) zero none h = refl
 each image reply (c ∷ cs) (suc i) none h = each (serve image c reply .image) (serve image c reply .reply) cs i none (le-of-suc-le-suc h)
 
-pub claims : Claims
+pub claims : ProgramClaims
 claims =
     record {
       stepwise = λ image reply cs.

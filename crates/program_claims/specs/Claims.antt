@@ -70,7 +70,7 @@ pub record Served (input : List ℕ) : Type 0 where
 abbrev pub Serves : Type 0
 Serves = (input : List ℕ) → Bytes input → goodStore input ≡ true → Served input
 
-pub record Claims : Type 0 where
+pub record ProgramClaims : Type 0 where
   pub stepwise : (image reply : List ℕ) (cs : List (List ℕ)) → Stepwise image reply cs
   pub logs : (image reply : List ℕ) (cs : List (List ℕ)) → Logged image reply cs
   pub guarded : Guarded

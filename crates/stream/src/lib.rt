@@ -3,7 +3,7 @@ ghost use mathlib.Core.Path.{_≡_};
 ghost use Rattle.stream.specs.Stream.{nextAt, endOf, begun, movedTo};
 use commands::FIXED;
 use commands::LENGTH;
-use endian::inner::fixed_width::read_u16;
+use slices::inner::fixed_width::read_u16;
 
 // ---- A stream: commands end to end.
 

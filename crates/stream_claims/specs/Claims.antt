@@ -54,7 +54,7 @@ pub record Reads (stream : RefT (List ℕ)) : Type 0 where
   pub stands : (i : ℕ) → i ≤ length (commands (now stream)) → steps i (begun stream) ≡ movedTo (begun stream) (placeOf (now stream) i)
   pub ends : (i : ℕ) → length (commands (now stream)) ≤ i → steps i (begun stream) ≡ movedTo (begun stream) (endOf (now stream))
 
-pub record Claims : Type 0 where
+pub record StreamClaims : Type 0 where
   pub parts : (stream : List ℕ) → Parts stream
   pub first : First
   pub back : Back

@@ -2,9 +2,9 @@
 ghost use mathlib.Core.Path.{_≡_};
 ghost use lib.ListN.{length};
 ghost use Rattle.model.specs.Serve.{serve};
-ghost use Rattle.desk.specs.Show.{text, shownNumber, shownPart};
+ghost use Rattle.desk.specs.Show.{heldText, shownNumber, shownPart};
 ghost use Rattle.capi.specs.Numbers.{fieldsOf, askedNumber, shownLength};
-use desk::Language;
+use desk::Asked;
 
 // The seven reply fields as numbers.
 pub fn write_fields(fields: &mut [u64; 7], a: guard::Answer)
@@ -44,11 +44,11 @@ pub fn length_shown<'a>(
     translation_length: u64,
     edition: u16,
     from: u16,
-    asked: Language,
+    asked: Asked,
     number: &mut u8,
 ) -> u64
-    ensures number { λ _. ⌜ now (number .exit) ≡ shownNumber (text (now (original .entry)) «original_length») (text (now (translation .entry)) «translation_length») edition from asked ⌝ }
-    ensures count { λ r. ⌜ r ≡ length (shownPart (text (now (original .entry)) «original_length») (text (now (translation .entry)) «translation_length») edition from asked) ⌝ }
+    ensures number { λ _. ⌜ now (number .exit) ≡ shownNumber (heldText (now (original .entry)) «original_length») (heldText (now (translation .entry)) «translation_length») edition from asked ⌝ }
+    ensures count { λ r. ⌜ r ≡ length (shownPart (heldText (now (original .entry)) «original_length») (heldText (now (translation .entry)) «translation_length») edition from asked) ⌝ }
 {
     let part = desk::shown(
         original,
@@ -75,8 +75,8 @@ pub fn shown<'a>(
     asked: u8,
     count: &mut u64,
 ) -> u8
-    ensures number { λ r. ⌜ r ≡ askedNumber (text (now (original .entry)) «original_length») (text (now (translation .entry)) «translation_length») edition from asked ⌝ }
-    ensures count { λ _. ⌜ now (count .exit) ≡ shownLength (text (now (original .entry)) «original_length») (text (now (translation .entry)) «translation_length») edition from asked ⌝ }
+    ensures number { λ r. ⌜ r ≡ askedNumber (heldText (now (original .entry)) «original_length») (heldText (now (translation .entry)) «translation_length») edition from asked ⌝ }
+    ensures count { λ _. ⌜ now (count .exit) ≡ shownLength (heldText (now (original .entry)) «original_length») (heldText (now (translation .entry)) «translation_length») edition from asked ⌝ }
 {
     let mut number: u8 = 0;
     if asked == 0 {
@@ -87,7 +87,7 @@ pub fn shown<'a>(
             translation_length,
             edition,
             from,
-            Language::Original,
+            Asked::Original,
             &mut number,
         );
         return number;
@@ -100,7 +100,7 @@ pub fn shown<'a>(
             translation_length,
             edition,
             from,
-            Language::Translation,
+            Asked::Translation,
             &mut number,
         );
         return number;

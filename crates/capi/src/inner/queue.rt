@@ -5,7 +5,7 @@ ghost use Rattle.lock_queue.specs.Requests.{Request, answer, after};
 ghost use Rattle.capi.specs.Arrays.{waiting, modesOf, sharedOf, exclusiveOf, queueOf, keptOf, answerOf};
 use crate::inner::columns::columns_of;
 use crate::inner::columns::places_of;
-use lock_queue::Outcome;
+use lock_queue::LockOutcome;
 use lock_queue::Queue;
 use lock_queue::Waiting;
 use stamps::Pair;
@@ -50,7 +50,7 @@ pub fn store(
 }
 
 // The fields of a queue's answer as numbers.
-pub fn write_answer(answer: &mut [u64; 4], a: lock_queue::Answer)
+pub fn write_answer(answer: &mut [u64; 4], a: lock_queue::LockAnswer)
     ensures { λ _. ⌜ now (answer .exit) ≡ answerOf a ⌝ }
 {
     let largest = a.largest;
@@ -64,7 +64,7 @@ pub fn write_outcome(
     x: &mut [u64; 32],
     kept: &mut [u64; 3],
     fields: &mut [u64; 4],
-    outcome: Outcome,
+    outcome: LockOutcome,
 ) -> u8
     ensures number { λ r. ⌜ r ≡ outcome .answer .number ⌝ }
     ensures fields { λ _. ⌜ now (fields .exit) ≡ answerOf (outcome .answer) ⌝ }

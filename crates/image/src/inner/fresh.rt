@@ -11,7 +11,7 @@ use crate::inner::layout::ROOM_AT;
 use crate::inner::layout::VERSION;
 use crate::inner::layout::VERSION_AT;
 use crate::inner::layout::ZEROS_AT;
-use endian::inner::fixed_width as le;
+use slices::inner::fixed_width as le;
 
 // Writes the numbers of a header.
 fn write_header(image: &mut [u8], n: u16, c: u16)
@@ -31,5 +31,5 @@ pub fn write_fresh(image: &mut [u8], n: u16, c: u16)
 {
     let size = image.len();
     write_header(image, n, c);
-    endian::inner::clear(image, ZEROS_AT, size - ZEROS_AT);
+    slices::inner::clear(image, ZEROS_AT, size - ZEROS_AT);
 }

@@ -10,8 +10,8 @@ use crate::inner::layout;
 use crate::inner::layout::CARDS_AT;
 use crate::inner::layout::ENTRY;
 use crate::inner::layout::ROOM_AT;
-use endian::inner::fixed_width as le;
 use guard::Entry;
+use slices::inner::fixed_width as le;
 use stamps::Mark;
 use stamps::Pair;
 
@@ -82,5 +82,5 @@ pub fn read_text(image: &[u8], at: usize, count: u16, reply: &mut [u8])
     ensures { λ _. ⌜ now (reply .exit) ≡ splice 0 (part at count (now (image .entry))) (now (reply .entry)) ⌝ }
 {
     let end = at + (count as usize);
-    endian::inner::put(reply, 0, &image[at..end]);
+    slices::inner::put(reply, 0, &image[at..end]);
 }

@@ -12,7 +12,7 @@ use crate::inner::layout::VERSION;
 use crate::inner::layout::VERSION_AT;
 use crate::inner::layout::ZEROS_AT;
 use crate::inner::read;
-use endian::inner::fixed_width as le;
+use slices::inner::fixed_width as le;
 
 // Whether the bytes of a body past its text are zero.
 fn tail_zero(image: &[u8], at: usize, count: u16, room: u16) -> bool
@@ -21,7 +21,7 @@ fn tail_zero(image: &[u8], at: usize, count: u16, room: u16) -> bool
 {
     let start = at + (count as usize);
     let end = at + (room as usize);
-    endian::all_zero(&image[start..end])
+    slices::all_zero(&image[start..end])
 }
 
 // Whether the header keeps the rules.
@@ -34,7 +34,7 @@ pub fn header_sound(image: &[u8]) -> bool
     (le::read_u32(image, 0) == MAGIC)
         & (le::read_u16(image, VERSION_AT) == VERSION)
         & layout::shape_ok(n as usize, c as usize)
-        & endian::all_zero(&image[ZEROS_AT..HEADER])
+        & slices::all_zero(&image[ZEROS_AT..HEADER])
         & (image.len() == layout::size_of(n, c))
 }
 

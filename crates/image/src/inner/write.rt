@@ -6,8 +6,8 @@ ghost use Rattle.lists.specs.Parts.{splice};
 ghost use Rattle.image.specs.Layout.{entryPlace};
 ghost use Rattle.image.specs.Bytes.{entryPair, entryMark, entryCounts, entryBytes, pad};
 use crate::inner::layout;
-use endian::inner::fixed_width as le;
 use guard::Entry;
+use slices::inner::fixed_width as le;
 use stamps::Mark;
 use stamps::Pair;
 
@@ -58,6 +58,6 @@ pub fn write_text(image: &mut [u8], at: usize, room: u16, text: &[u8])
     ensures { λ _. ⌜ now (image .exit) ≡ splice at (pad room (now (text .entry))) (now (image .entry)) ⌝ }
 {
     let room = room as usize;
-    endian::inner::put(image, at, text);
-    endian::inner::clear(image, at + text.len(), room - text.len());
+    slices::inner::put(image, at, text);
+    slices::inner::clear(image, at + text.len(), room - text.len());
 }

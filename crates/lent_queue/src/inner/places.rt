@@ -6,9 +6,9 @@ ghost use lib.ListN.{replicate, getD};
 ghost use Rattle.lock_queue.specs.Queue.{mostPlaces, noWaiting};
 ghost use Rattle.lent_queue.specs.Slice.{written, loaded, replyOf};
 use crate::Kept;
-use crate::Reply;
+use crate::LentOutcome;
+use lock_queue::LockOutcome;
 use lock_queue::MOST_PLACES;
-use lock_queue::Outcome;
 use lock_queue::Places;
 use lock_queue::Waiting;
 use lock_queue::inner::effects::put;
@@ -47,7 +47,7 @@ pub fn load(places: &[Waiting]) -> Places
 }
 
 // The entry at place i of the queue as it now is.
-fn entry(outcome: Outcome, i: usize) -> Waiting
+fn entry(outcome: LockOutcome, i: usize) -> Waiting
     requires { ⌜ i < mostPlaces ⌝ }
     ensures { λ r. ⌜ r ≡ getD (outcome .queue .places .at) i noWaiting ⌝ }
 {
@@ -57,13 +57,13 @@ fn entry(outcome: Outcome, i: usize) -> Waiting
 }
 
 // The answer, and what the queue now keeps.
-fn replied(outcome: Outcome) -> Reply
+fn replied(outcome: LockOutcome) -> LentOutcome
     ensures { λ r. ⌜ r ≡ replyOf outcome ⌝ }
 {
     let queue = outcome.queue;
     let answer = outcome.answer;
     let largest = queue.largest;
-    Reply {
+    LentOutcome {
         answer,
         kept: Kept {
             count: queue.count,
@@ -73,7 +73,7 @@ fn replied(outcome: Outcome) -> Reply
 }
 
 // The places of the queue as it now is, written over the lent ones.
-pub fn store(places: &mut [Waiting], outcome: Outcome) -> Reply
+pub fn store(places: &mut [Waiting], outcome: LockOutcome) -> LentOutcome
     ensures { λ r. ⌜ (now (places .exit) ≡ written mostPlaces (outcome .queue .places .at) (now (places .entry))) × (r ≡ replyOf outcome) ⌝ }
 {
     let mut i = 0;

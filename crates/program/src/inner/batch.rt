@@ -1,7 +1,7 @@
 // An input judged whole: the stream behind the image in front.
 ghost use mathlib.Core.Path.{_≡_};
 ghost use lib.ListN.{length, drop};
-ghost use Rattle.program.specs.Program.{answered, Lent, printed};
+ghost use Rattle.program.specs.Program.{runBehind, Lent, printed};
 ghost use Rattle.lists.specs.Parts.{splice};
 ghost use Rattle.stream.specs.Stream.{commands};
 use crate::inner::run;
@@ -13,10 +13,10 @@ pub const MOST_NUMBERS: usize = 10080;
 pub fn answers(input: &[u8], size: usize, room: usize, out: &mut [u64]) -> usize
     requires { ⌜ Lent (now input) size room (now out) ⌝ }
     ensures count { λ r. ⌜ r ≡ length (commands (drop size (now (input .entry)))) ⌝ }
-    ensures out { λ _. ⌜ now (out .exit) ≡ splice 0 (printed (answered size room (now (input .entry)))) (now (out .entry)) ⌝ }
+    ensures out { λ _. ⌜ now (out .exit) ≡ splice 0 (printed (runBehind size room (now (input .entry)))) (now (out .entry)) ⌝ }
 {
     let mut image = [0u8; image::inner::layout::MOST_BYTES];
     let mut reply = [0u8; image::inner::layout::MOST_ROOM];
-    endian::inner::put(&mut image, 0, &input[..size]);
+    slices::inner::put(&mut image, 0, &input[..size]);
     run::run(&mut image[..size], &input[size..], &mut reply[..room], out)
 }

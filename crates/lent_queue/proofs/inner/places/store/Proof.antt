@@ -56,16 +56,16 @@ use denote.Triple.Clauses.{ensured, lasts}
 use Rattle.lock_queue.specs.Queue.{mostPlaces, noWaiting}
 use Rattle.lent_queue.specs.Slice.{written, replyOf}
 use Rattle.lock_queue.specs.declared.Waiting.{Waiting}
-use Rattle.lock_queue.specs.declared.Outcome.{Outcome}
-use Rattle.lent_queue.specs.declared.Reply.{Reply}
+use Rattle.lock_queue.specs.declared.LockOutcome.{LockOutcome}
+use Rattle.lent_queue.specs.declared.LentOutcome.{LentOutcome}
 use Rattle.lent_queue.proofs.Pass.{Within, stands-for, tests}
 use Rattle.lent_queue.proofs.Written.{written-none, written-next, written-done, written-length, goes, stops}
 use Rattle.lock_queue.proofs.Waiting as T
 use Rattle.lock_queue.proofs.Waiting.Laws as T′
-use Rattle.lock_queue.proofs.Outcome as O
-use Rattle.lock_queue.proofs.Outcome.Laws as O′
-use Rattle.lent_queue.proofs.Reply as Y
-use Rattle.lent_queue.proofs.Reply.Laws as Y′
+use Rattle.lock_queue.proofs.LockOutcome as O
+use Rattle.lock_queue.proofs.LockOutcome.Laws as O′
+use Rattle.lent_queue.proofs.LentOutcome as Y
+use Rattle.lent_queue.proofs.LentOutcome.Laws as Y′
 use Rattle.lent_queue.proofs.inner.places.entry as entry
 use Rattle.lent_queue.proofs.inner.places.entry.Symbol as entry-def
 use Rattle.lent_queue.proofs.inner.places.entry.Symbol.{name as #entry}
@@ -115,7 +115,7 @@ module _ {M : Type 1} (𝓤 : URA M) (H : Heap 𝓤) (A : Atoms 𝓤) (mem : Mem
   abbrev Replied : Contract 𝓤
   Replied = tripleOf 𝓤 H A replied.signature (replied.spec 𝓤 H A mem run)
 
-module _ {M : Type 1} (𝓤 : URA M) (H : Heap 𝓤) (A : Atoms 𝓤) (W : Given 𝓤 H A) (mem : Memory → SProp 𝓤) (run : Routine → Fun 𝓤) (κ : Lft) (q : Share) (b o : ℕ) (γ : GName) (ws : List Waiting) (oc : Outcome)
+module _ {M : Type 1} (𝓤 : URA M) (H : Heap 𝓤) (A : Atoms 𝓤) (W : Given 𝓤 H A) (mem : Memory → SProp 𝓤) (run : Routine → Fun 𝓤) (κ : Lft) (q : Share) (b o : ℕ) (γ : GName) (ws : List Waiting) (oc : LockOutcome)
     (room : Room T.the-row (length ws)) (known : Is O.the-row oc (LL.vals O.the-type O′.the-laws oc)) where
   abbrev n : ℕ
   n = length ws
@@ -160,7 +160,7 @@ module _ {M : Type 1} (𝓤 : URA M) (H : Heap 𝓤) (A : Atoms 𝓤) (W : Given
   abbrev Post : Val → SProp 𝓤
   Post = walkOf 𝓤 H A store′.ended stayed (store′.clauses 𝓤 H A mem run) .post bound
 
-  exits : (i : ℕ) (r : Reply) (u : Val) → cur i ≡ written mostPlaces to ws → r ≡ replyOf oc → Is Y.the-row r (u ∷ []) → ent 𝓤 (⋆ 𝓤 H A (‵ (Obs (cur i)) ∷ ‵ (Bor (cur i)) ∷ ‵ (flft κ q) ∷ [])) (Post u)
+  exits : (i : ℕ) (r : LentOutcome) (u : Val) → cur i ≡ written mostPlaces to ws → r ≡ replyOf oc → Is Y.the-row r (u ∷ []) → ent 𝓤 (⋆ 𝓤 H A (‵ (Obs (cur i)) ∷ ‵ (Bor (cur i)) ∷ ‵ (flft κ q) ∷ [])) (Post u)
   exits i r u e e′ is =
       qed W (‵ (Obs (cur i)) ∷ ‵ (Bor (cur i)) ∷ ‵ (flft κ q) ∷ []) ∵
       suffices ! _ (ends-at 𝓤 H A store′.ended stayed (store′.clauses 𝓤 H A mem run) W bound u r (cur i, (tt, tt)) (written-length i to ws, (tt, tt))) $ says ! (e, e′) $
@@ -188,7 +188,7 @@ module _ {M : Type 1} (𝓤 : URA M) (H : Heap 𝓤) (A : Atoms 𝓤) (W : Given
   goes-replied : ent 𝓤 (emp 𝓤) (Replied 𝓤 H A mem run .pre to-replied)
   goes-replied = qed W [] ∵ nothing ! $ owned ! O.the-row (Is O.the-row) (LL.makes O.the-type O′.the-plain 𝓤 H A) oc _ known $ fjoin ! $ nothing ! $ join ! $ frame ! $ done !
 
-  replied-said : (r : Reply) → ent 𝓤 (ensured 𝓤 H A replied.ended (replied.clauses 𝓤 H A mem run) tt (oc, tt) tt r) (fact 𝓤 (r ≡ replyOf oc))
+  replied-said : (r : LentOutcome) → ent 𝓤 (ensured 𝓤 H A replied.ended (replied.clauses 𝓤 H A mem run) tt (oc, tt) tt r) (fact 𝓤 (r ≡ replyOf oc))
   replied-said r = exE 𝓤 _ (λ l. snd∗ 𝓤 (sem 𝓤 H A (lasts replied.ended tt (oc, tt) l)) (fact 𝓤 (r ≡ replyOf oc)))
 
   -- whatever stands for an entry is its machine value
@@ -289,7 +289,7 @@ module _ {M : Type 1} (𝓤 : URA M) (H : Heap 𝓤) (A : Atoms 𝓤) (W : Given
       leaves i t e =
           use0 W (raw (Replied 𝓤 H A mem run .pre to-replied)) goes-replied $
           calls-at ! (fmOf 𝓤 H (W .laws) 𝓣) (Replied 𝓤 H A mem run) known-replied to-replied (and-then ! (load ! (from ! (stop !)) (look ! 14 refl)) (no-more !)) (λ u.
-          use1 W (later (some (λ (r : Reply). (‵ ftrue ⊛ ‵ (Y.the-row .own r (u ∷ []))) ⊛ raw (ensured 𝓤 H A replied.ended (replied.clauses 𝓤 H A mem run) tt (oc, tt) tt r)))) (id⊢ 𝓤 _) $ await ! tt $ pick ! (λ r.
+          use1 W (later (some (λ (r : LentOutcome). (‵ ftrue ⊛ ‵ (Y.the-row .own r (u ∷ []))) ⊛ raw (ensured 𝓤 H A replied.ended (replied.clauses 𝓤 H A mem run) tt (oc, tt) tt r)))) (id⊢ 𝓤 _) $ await ! tt $ pick ! (λ r.
           split ! $ move ! (1 ∷ []) $ use1 W (raw (fact 𝓤 (r ≡ replyOf oc))) (replied-said r) $ heard ! (r ≡ replyOf oc) (λ e′. split ! $ drop ! $
           peeks ! Y.the-row (Is Y.the-row) (shows 𝓤 H A Y.the-row) r (u ∷ []) (λ is. drop ! $
           land ! (from ! (stop !)) (init ! 17 refl (LL.lawful Y.the-type Y′.the-laws 𝓤 H A W .typed r _ is .0)) $

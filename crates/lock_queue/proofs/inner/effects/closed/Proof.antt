@@ -4,7 +4,7 @@ use native.Mathlib.Omega.{arith}
 use mathlib.Core.Path.{_≡_}
 use lib.ListN.{length}
 use Rattle.lock_queue.specs.Queue.{mostPlaces}
-use Rattle.endian.proofs.Loops.{writing-none}
+use Rattle.slices.proofs.Loops.{writing-none}
 use Rattle.lock_queue.proofs.Array.{places-long}
 use Rattle.lock_queue.proofs.Closing.{Closing, closing-more, closing-done}
 use Rattle.lock_queue.proofs.inner.effects.closed.Statement.{statement}

@@ -5,7 +5,7 @@ use native.Mathlib.Omega.{arith}
 use borrow.Author.Needs.{needs}
 use lib.ListN.{length, drop, drop-of-length-le}
 use Rattle.lists.proofs.Parts.{drop-left}
-use Rattle.endian.proofs.Loops.{Writing, writing-none, writing-more, writing-done}
+use Rattle.slices.proofs.Loops.{Writing, writing-none, writing-more, writing-done}
 use Rattle.program.specs.Program.{perLine}
 use Rattle.program.proofs.Lines.{per-line}
 use Rattle.program.proofs.inner.lines.put_line.Statement.{statement}
