@@ -2,5 +2,5 @@
 pub mod fresh;
 pub mod layout;
 pub mod read;
-pub mod sound;
+pub mod rules;
 pub mod write;

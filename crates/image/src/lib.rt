@@ -2,7 +2,7 @@
 pub mod inner;
 
 ghost use mathlib.Core.Path.{_≡_};
-ghost use Rattle.image.specs.Image.{sound, makeNumber, fresh};
+ghost use Rattle.image.specs.Image.{sound, frontOf, makeNumber, fresh};
 ghost use lib.ListN.{length};
 ghost use Rattle.lists.specs.Table.{settled};
 
@@ -15,18 +15,57 @@ pub fn sound(image: &[u8]) -> bool
     if image.len() < inner::layout::HEADER {
         return false;
     }
-    if !inner::sound::header_sound(image) {
+    if !inner::rules::header_sound(image) {
         return false;
     }
     let n = inner::read::count(image);
     let mut k: u16 = 0;
     while k < n {
-        if !inner::sound::card_sound(image, k) {
+        if !inner::rules::card_sound(image, k) {
             return false;
         }
         k += 1;
     }
     true
+}
+
+// ---- The image in front of some bytes.
+
+// The size of an image, how many cards it has, and the room that each of its texts has.
+pub struct Dimensions {
+    pub size: usize,
+    pub cards: u16,
+    pub room: u16,
+}
+
+// What is said where there is no image.
+fn nothing() -> Dimensions
+    ensures { λ r. ⌜ r ≡ record { size = 0; cards = 0; room = 0 } ⌝ }
+{
+    Dimensions {
+        size: 0,
+        cards: 0,
+        room: 0,
+    }
+}
+
+// The image in front of some bytes, as long as its header says; zeros where the header or the image is short or unsound.
+pub fn front(bytes: &[u8]) -> Dimensions
+    ensures { λ r. ⌜ r ≡ frontOf (now (bytes .entry)) ⌝ }
+{
+    if bytes.len() < inner::layout::HEADER {
+        return nothing();
+    }
+    let cards = inner::read::count(bytes);
+    let room = inner::read::room(bytes);
+    let size = inner::layout::size_of(cards, room);
+    if bytes.len() < size {
+        return nothing();
+    }
+    if !sound(&bytes[..size]) {
+        return nothing();
+    }
+    Dimensions { size, cards, room }
 }
 
 // ---- A fresh image.
@@ -50,6 +89,6 @@ pub fn make(image: &mut [u8], cards: usize, room: usize) -> u8
     if image.len() != inner::layout::size_of(n, c) {
         return NOT_MADE;
     }
-    inner::fresh::write_fresh(image, n, c);
+    inner::fresh::fill(image, n, c);
     MADE
 }

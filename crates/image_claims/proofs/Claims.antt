@@ -17,11 +17,12 @@ use Rattle.guard.specs.Entry.{entrySound}
 use Rattle.image.specs.Image.{Card, text, noCard, bodies, encode, cardAt, decode, sound, fresh}
 use Rattle.image.specs.Layout.{shapeOk, sizeOf, headerSize, entrySize}
 use Rattle.image.specs.Bytes.{header, entryBytes, pad, countOf}
-use Rattle.image_claims.specs.Claims.{freshCards, SoundReadsBack, GoodCard, GoodCards, GoodEncodes, OneImage, FreshSound}
-use Rattle.image_claims.proofs.Cards.{Bytes-encode, sound-encode, decode-encode}
-use Rattle.image_claims.proofs.Encode.{length-header, length-encode}
+use Rattle.image.specs.Image.{freshCards, GoodCard, GoodCards}
+use Rattle.image_claims.specs.Claims.{SoundReadsBack, GoodEncodes, OneImage, FreshSound}
+use Rattle.image.proofs.Cards.{Bytes-encode, sound-encode, decode-encode}
+use Rattle.image.proofs.Encode.{length-header, length-encode}
 use Rattle.image.proofs.Written.{take-replicate}
-use Rattle.image_claims.proofs.Decode.{encode-decode, decode-good}
+use Rattle.image.proofs.Decode.{encode-decode, decode-good}
 
 pub soundReadsBack : SoundReadsBack
 soundReadsBack image b holds = record { good = decode-good image b holds; same = encode-decode image b holds }

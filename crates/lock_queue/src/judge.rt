@@ -6,7 +6,7 @@ ghost use Rattle.lock_queue.specs.Requests.{already, full, asks, leaves,
 use crate::Places;
 use crate::Queue;
 use crate::Waiting;
-use crate::inner::good;
+use crate::inner::rules;
 use crate::inner::state::stands;
 
 // Number 12's test. The mode makes no difference.
@@ -28,7 +28,7 @@ fn full(lent: usize, count: usize) -> bool
 pub fn ask_number(queue: Queue, lent: usize, new: Waiting) -> u8
     ensures { λ r. ⌜ r ≡ number lent (state queue) (asks new) ⌝ }
 {
-    if !good::good(queue, lent) {
+    if !rules::good(queue, lent) {
         return 10;
     }
     let pair = new.pair;
@@ -58,7 +58,7 @@ pub fn ask_number(queue: Queue, lent: usize, new: Waiting) -> u8
 pub fn leave_number(queue: Queue, lent: usize, desk: u32) -> u8
     ensures { λ r. ⌜ r ≡ number lent (state queue) (leaves desk) ⌝ }
 {
-    if !good::good(queue, lent) {
+    if !rules::good(queue, lent) {
         return 10;
     }
     let stood = queue.places;

@@ -15,8 +15,8 @@ use Rattle.lists.specs.Table.{settled}
 use Rattle.commands.specs.declared.Command.{Command}
 use Rattle.guard.proofs.Raise.{raise-sound, raise-fits}
 use Rattle.image.specs.Image.{Card, Cards, text, encode, decode, sound}
-use Rattle.image_claims.specs.Claims.{GoodCard, GoodCards}
-use Rattle.image_claims.proofs.Cards.{good-with}
+use Rattle.image.specs.Image.{GoodCard, GoodCards}
+use Rattle.image.proofs.Cards.{good-with}
 use Rattle.image_claims.proofs.Claims.{goodEncodes}
 use Rattle.model.specs.Serve.{cardOf, stepped, cardsAfter, serveBy, serve}
 use Rattle.model.specs.Words.{Sent, eventOf, imageAfter, history}

@@ -13,7 +13,7 @@ use Rattle.lists.proofs.Tests.{to-T, and-left, and-right}
 use Rattle.image.specs.Layout.{headerSize, mostBytes, mostRoom}
 use Rattle.image.specs.Bytes.{countOf, roomOf}
 use Rattle.image.specs.Image.{sound}
-use Rattle.image_claims.proofs.Decode.{shape-holds}
+use Rattle.image.proofs.Decode.{shape-holds}
 use Rattle.image.proofs.Shape.{shape}
 use Rattle.program.specs.Program.{claimed, goodStore, storeSize}
 

@@ -22,10 +22,10 @@ use Rattle.guard.specs.Replies.{replied}
 use Rattle.guard.specs.declared.Answer.{Answer}
 use Rattle.image.specs.Bytes.{roomOf}
 use Rattle.image.specs.Image.{Cards, encode, decode, sound, fresh}
-use Rattle.image_claims.specs.Claims.{GoodCard, GoodCards, freshCards}
+use Rattle.image.specs.Image.{GoodCard, GoodCards, freshCards}
 use Rattle.image.proofs.Bytes.{Lengths, lengths}
 use Rattle.image_claims.proofs.Claims.{soundReadsBack, goodEncodes, freshSound}
-use Rattle.image_claims.proofs.Decode.{room-decode}
+use Rattle.image.proofs.Decode.{room-decode}
 use Rattle.model.specs.Serve.{serve, cardOf, requestRows, textRead, replyBy}
 use Rattle.model.specs.Words.{Sent, Event, any, none, logOf}
 use Rattle.model.specs.Claims.{AllBytes}

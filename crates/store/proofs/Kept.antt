@@ -14,10 +14,10 @@ use Rattle.guard.specs.declared.Entry.{Entry}
 use Rattle.image.specs.Image.{Card, sideOf, withCard, withEntry, withText, cardAt, encode, decode}
 use Rattle.image.specs.Layout.{entryPlace}
 use Rattle.image.specs.Bytes.{entryBytes, countOf, entryAt}
-use Rattle.image_claims.proofs.Encode.{put-entry, put-text-entry}
+use Rattle.image.proofs.Encode.{put-entry, put-text-entry}
 use Rattle.store.specs.Carried.{bodyWritten, textWritten}
 use Rattle.model.specs.Serve.{stepped}
-use Rattle.image_claims.proofs.Decode.{count-decode, card-decode}
+use Rattle.image.proofs.Decode.{count-decode, card-decode}
 
 -- ---- the card after an accepted command, by what it writes
 

@@ -26,7 +26,7 @@ use Rattle.guard.proofs.Judge.{Accepted, accepted, accepted-raises}
 use Rattle.lists.proofs.Table.{settled-old}
 use Rattle.image.specs.Image.{Card, withCard, cardAt, encode, decode, sound}
 use Rattle.image.specs.Bytes.{entryAt, countOf, roomOf}
-use Rattle.image_claims.proofs.Decode.{count-decode, card-decode}
+use Rattle.image.proofs.Decode.{count-decode, card-decode}
 use Rattle.store.specs.Carried.{judgedAt, carried}
 use Rattle.model.specs.Serve.{Outcome, cardOf, textRead, stepped, storeRows, serveBy, serve}
 use Rattle.model.proofs.Formed.{formed-well}

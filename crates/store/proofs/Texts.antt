@@ -18,7 +18,7 @@ use Rattle.image.specs.Image.{Card, text, sideOf, sound, cardAt}
 use Rattle.image.specs.Layout.{headerSize, bodyPlace}
 use Rattle.image.specs.Bytes.{countOf, roomOf, entryAt, pad}
 use Rattle.image.proofs.Bytes.{Lengths}
-use Rattle.image_claims.proofs.Decode.{Places, places, long}
+use Rattle.image.proofs.Decode.{Places, places, long}
 use Rattle.store.specs.Carried.{bodyWritten, textWritten}
 use Rattle.model.specs.Serve.{textRead}
 

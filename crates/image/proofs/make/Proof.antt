@@ -30,15 +30,15 @@ returns-2 c = let refused =
     not-lent (c .before .before .before .before .before .args .cards) (c .before .before .before .before .before .args .room) (length (c .before .before .before .before .before .args .image .now)) (sym (c .before .before .before .shape-ok .ensures) ∙ not-false _ (c .before .before .if1 .left)) (λ e. c .if2 .taken (e ∙ sym (c .before .size-of .ensures))) in
     (rw refused, rw refused)
 
-write-fresh-requires : tie.Need-write-fresh-requires
-write-fresh-requires c κs = search needs
+fill-requires : tie.Need-fill-requires
+fill-requires c κs = search needs
 
 same-length : tie.Need-same-length
 same-length c = search needs
 
 returns-3 : tie.Need-returns-3
 returns-3 c = let accepted = made (c .before .before .before .before .before .before .before .before .before .args .cards) (c .before .before .before .before .before .before .before .before .before .args .room) (length (c .before .before .before .before .before .before .before .before .before .args .image .now)) (sym (c .before .before .before .before .before .before .before .shape-ok .ensures) ∙ not-false _ (c .before .before .before .before .before .before .if1 .left)) (c .before .before .before .before .if2 .left ∙ c .before .before .before .before .before .size-of .ensures) in
-    (rw accepted, rw accepted (c .before .before .write-fresh .ensures))
+    (rw accepted, rw accepted (c .before .before .fill .ensures))
 
 pub make-spec : {M : Type 1} → statement M
 make-spec =
@@ -50,6 +50,6 @@ make-spec =
     cast-c
     size-of-requires
     returns-2
-    write-fresh-requires
+    fill-requires
     same-length
     returns-3)

@@ -25,7 +25,7 @@ fn write_header(image: &mut [u8], n: u16, c: u16)
 }
 
 // Writes a fresh image of n cards with room c.
-pub fn write_fresh(image: &mut [u8], n: u16, c: u16)
+pub fn fill(image: &mut [u8], n: u16, c: u16)
     requires { ⌜ length (now image) ≡ sizeOf n c ⌝ }
     ensures { λ _. ⌜ now (image .exit) ≡ fresh n c ⌝ }
 {

@@ -3,7 +3,6 @@ ghost use mathlib.Core.Path.{_≡_};
 ghost use Prim.Native.Nat.{_+_, _≤_};
 ghost use lib.ListN.{length};
 ghost use Rattle.lists.specs.Parts.{part, splice};
-ghost use Rattle.guard.specs.Entry.{entrySound};
 ghost use Rattle.image.specs.Layout.{entryPlace};
 ghost use Rattle.image.specs.Bytes.{countOf, roomOf, readEntry, entryAt};
 use crate::inner::layout;
@@ -31,20 +30,6 @@ pub fn room(image: &[u8]) -> u16
     le::read_u16(image, ROOM_AT)
 }
 
-// Whether an entry keeps the rules, where texts have this room.
-pub fn entry_sound(e: Entry, room: u16) -> bool
-    ensures { λ r. ⌜ r ≡ entrySound room e ⌝ }
-{
-    stamps::stamp_valid(e.pair.s)
-        & stamps::stamp_valid(e.pair.x)
-        & stamps::mark_whole(e.mark)
-        & (e.original <= room)
-        & (e.translation <= room)
-        & (e.from <= e.edition)
-        & (!(e.edition == 0) | (e.original == 0))
-        & (!(e.from == 0) | (e.translation == 0))
-}
-
 // The entry that 32 bytes stand for.
 fn entry_of(bytes: &[u8]) -> Entry
     requires { ⌜ 32 ≤ length (now bytes) ⌝ }
@@ -67,7 +52,7 @@ fn entry_of(bytes: &[u8]) -> Entry
 }
 
 // The entry of card k.
-pub fn read_entry(image: &[u8], k: u16) -> Entry
+pub fn entry_at(image: &[u8], k: u16) -> Entry
     requires { ⌜ entryPlace k + 32 ≤ length (now image) ⌝ }
     ensures { λ r. ⌜ r ≡ entryAt (now (image .entry)) k ⌝ }
 {
@@ -77,7 +62,7 @@ pub fn read_entry(image: &[u8], k: u16) -> Entry
 }
 
 // Reads the `count` bytes at `at` into the first bytes of a reply buffer.
-pub fn read_text(image: &[u8], at: usize, count: u16, reply: &mut [u8])
+pub fn copy_text(image: &[u8], at: usize, count: u16, reply: &mut [u8])
     requires { ⌜ (at + count ≤ length (now image)) × (count ≤ length (now reply)) ⌝ }
     ensures { λ _. ⌜ now (reply .exit) ≡ splice 0 (part at count (now (image .entry))) (now (reply .entry)) ⌝ }
 {

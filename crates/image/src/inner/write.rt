@@ -42,7 +42,7 @@ fn write_counts(image: &mut [u8], at: usize, e: Entry)
 }
 
 // Writes the entry of card k.
-pub fn write_entry(image: &mut [u8], k: u16, e: Entry)
+pub fn store_entry(image: &mut [u8], k: u16, e: Entry)
     requires { ⌜ entryPlace k + 32 ≤ length (now image) ⌝ }
     ensures { λ _. ⌜ now (image .exit) ≡ splice (entryPlace k) (entryBytes e) (now (image .entry)) ⌝ }
 {
@@ -53,7 +53,7 @@ pub fn write_entry(image: &mut [u8], k: u16, e: Entry)
 }
 
 // Writes a text into the body at `at`, and makes the rest of its room zero.
-pub fn write_text(image: &mut [u8], at: usize, room: u16, text: &[u8])
+pub fn store_text(image: &mut [u8], at: usize, room: u16, text: &[u8])
     requires { ⌜ (length (now text) ≤ room) × (at + room ≤ length (now image)) ⌝ }
     ensures { λ _. ⌜ now (image .exit) ≡ splice at (pad room (now (text .entry))) (now (image .entry)) ⌝ }
 {

@@ -38,11 +38,11 @@ pub fn show(image: &[u8], c: Command, e: Entry, reply: &mut [u8])
     ensures { λ _. ⌜ now (reply .exit) ≡ splice 0 (textRead (cardAt (now (image .entry)) (c .card)) c) (now (reply .entry)) ⌝ }
 {
     if c.reads_original() {
-        image::inner::read::read_text(image, body_at(image, c.card, ORIGINAL), e.original, reply);
+        image::inner::read::copy_text(image, body_at(image, c.card, ORIGINAL), e.original, reply);
         return;
     }
     if c.reads_translation() {
-        image::inner::read::read_text(
+        image::inner::read::copy_text(
             image,
             body_at(image, c.card, TRANSLATION),
             e.translation,
@@ -59,12 +59,12 @@ pub fn write(image: &mut [u8], c: Command, text: &[u8])
     let room = image::inner::read::room(image);
     if c.writes_original() {
         let at = body_at(image, c.card, ORIGINAL);
-        image::inner::write::write_text(image, at, room, text);
+        image::inner::write::store_text(image, at, room, text);
         return;
     }
     if c.writes_translation() {
         let at = body_at(image, c.card, TRANSLATION);
-        image::inner::write::write_text(image, at, room, text);
+        image::inner::write::store_text(image, at, room, text);
     }
 }
 
@@ -75,5 +75,5 @@ pub fn keep(image: &mut [u8], c: Command, e: Entry, text: &[u8])
         ≡ encode (withCard (c .card) (stepped (cardAt (now (image .entry)) (c .card)) c (now (text .entry))) (decode (now (image .entry)))) ⌝ }
 {
     write(image, c, text);
-    image::inner::write::write_entry(image, c.card, e);
+    image::inner::write::store_entry(image, c.card, e);
 }

@@ -21,7 +21,7 @@ fn carry(image: &mut [u8], c: Command, text: &[u8], reply: &mut [u8]) -> Answer
     ensures image { λ _. ⌜ now (image .exit) ≡ carried (now (image .entry)) c (now (text .entry)) (now (reply .entry)) .image ⌝ }
     ensures reply { λ _. ⌜ now (reply .exit) ≡ carried (now (image .entry)) c (now (text .entry)) (now (reply .entry)) .reply ⌝ }
 {
-    let e = image::inner::read::read_entry(image, c.card);
+    let e = image::inner::read::entry_at(image, c.card);
     let judged = e.judge(c, image::inner::read::room(image), reply.len());
     if judged.number != ACCEPTED {
         return guard::reply(judged, c);

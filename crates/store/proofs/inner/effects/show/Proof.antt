@@ -14,8 +14,8 @@ reads-original-requires c κs = search needs
 body-at-requires : tie.Need-body-at-requires
 body-at-requires c κs = search needs
 
-read-text-requires : tie.Need-read-text-requires
-read-text-requires c κs =
+copy-text-requires : tie.Need-copy-text-requires
+copy-text-requires c κs =
     let start = c .before .before .before .before .before .before in
     text-fits _ (start .pre .0) (start .args .c) (start .pre .1) original (lit< tt) (c .before .body-at .ensures) (start .pre .2)
     (sym (c .before .before .before .reads-original .ensures) ∙ c .before .before .if1 .taken)
@@ -30,7 +30,7 @@ returns c =
     shows _ (start .pre .0) (start .args .c) (start .pre .1) original (lit< tt) (c .before .before .before .before .body-at .ensures) (start .pre .2)
     (sym (c .before .before .before .before .before .before .reads-original .ensures) ∙ c .before .before .before .before .before .if1 .taken)
     _
-    (c .before .before .read-text .ensures)
+    (c .before .before .copy-text .ensures)
 
 reads-translation-requires : tie.Need-reads-translation-requires
 reads-translation-requires c κs = search needs
@@ -38,8 +38,8 @@ reads-translation-requires c κs = search needs
 body-at-requires-2 : tie.Need-body-at-requires-2
 body-at-requires-2 c κs = search needs
 
-read-text-requires-2 : tie.Need-read-text-requires-2
-read-text-requires-2 c κs =
+copy-text-requires-2 : tie.Need-copy-text-requires-2
+copy-text-requires-2 c κs =
     let start = c .before .before .before .before .before .before .before .before in
     text-fits _ (start .pre .0) (start .args .c) (start .pre .1) (translation 0) (lit< tt) (c .before .body-at2 .ensures) (start .pre .2)
     (sym (c .before .before .before .reads-translation .ensures) ∙ c .before .before .if2 .taken)
@@ -55,7 +55,7 @@ returns-2 c =
     (sym (c .before .before .before .before .before .before .reads-translation .ensures)
     ∙ c .before .before .before .before .before .if2 .taken)
     _
-    (c .before .before .read-text2 .ensures)
+    (c .before .before .copy-text2 .ensures)
 
 returns-3 : tie.Need-returns-3
 returns-3 c =
@@ -70,12 +70,12 @@ show-spec =
     (tie.spec
     reads-original-requires
     body-at-requires
-    read-text-requires
+    copy-text-requires
     same-length
     returns
     reads-translation-requires
     body-at-requires-2
-    read-text-requires-2
+    copy-text-requires-2
     same-length-2
     returns-2
     returns-3)

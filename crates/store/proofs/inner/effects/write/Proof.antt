@@ -17,8 +17,8 @@ writes-original-requires c κs = search needs
 body-at-requires : tie.Need-body-at-requires
 body-at-requires c κs = search needs
 
-write-text-requires : tie.Need-write-text-requires
-write-text-requires c κs =
+store-text-requires : tie.Need-store-text-requires
+store-text-requires c κs =
     let start = c .before .before .before .before .before .before .before .before .before in
     let whole = c .before .before .before .before .before .room .ensures in
     (rw whole (start .pre .2), body-within _ (start .pre .0) (start .args .c) (start .pre .1) original (lit< tt) (c .before .body-at .ensures) (omega (arith, whole)))
@@ -33,7 +33,7 @@ returns c =
     (sym (c .before .before .before .before .before .before .before .writes-original .ensures) ∙ c .before .before .before .before .before .before .if1 .taken)
     (c .before .before .before .before .body-at .ensures)
     (c .before .before .before .before .before .before .before .before .room .ensures)
-    (c .before .before .write-text .ensures)
+    (c .before .before .store-text .ensures)
 
 writes-translation-requires : tie.Need-writes-translation-requires
 writes-translation-requires c κs = search needs
@@ -41,8 +41,8 @@ writes-translation-requires c κs = search needs
 body-at-requires-2 : tie.Need-body-at-requires-2
 body-at-requires-2 c κs = search needs
 
-write-text-requires-2 : tie.Need-write-text-requires-2
-write-text-requires-2 c κs =
+store-text-requires-2 : tie.Need-store-text-requires-2
+store-text-requires-2 c κs =
     let start = c .before .before .before .before .before .before .before .before .before .before .before in
     let whole = c .before .before .before .before .before .before .before .room .ensures in
     (rw whole (start .pre .2), body-within _ (start .pre .0) (start .args .c) (start .pre .1) (translation 0) (lit< tt) (c .before .body-at2 .ensures) (omega (arith, whole)))
@@ -57,7 +57,7 @@ returns-2 c =
     (sym (c .before .before .before .before .before .before .before .writes-translation .ensures) ∙ c .before .before .before .before .before .before .if2 .taken)
     (c .before .before .before .before .body-at2 .ensures)
     (c .before .before .before .before .before .before .before .before .before .before .room .ensures)
-    (c .before .before .write-text2 .ensures)
+    (c .before .before .store-text2 .ensures)
 
 same-length-3 : tie.Need-same-length-3
 same-length-3 c = search needs
@@ -75,12 +75,12 @@ write-spec =
     room-requires
     writes-original-requires
     body-at-requires
-    write-text-requires
+    store-text-requires
     same-length
     returns
     writes-translation-requires
     body-at-requires-2
-    write-text-requires-2
+    store-text-requires-2
     same-length-2
     returns-2
     same-length-3

@@ -3,7 +3,7 @@ use borrow.Author.Needs.{needs}
 use mathlib.Core.Path.{_≡_, refl}
 use lib.ListN.{length}
 use Rattle.lists.proofs.Tests.{to-T}
-use Rattle.image_claims.proofs.Decode.{places}
+use Rattle.image.proofs.Decode.{places}
 use Rattle.store.specs.Carried.{judgedAt}
 use Rattle.store.proofs.Step.{exits, refuses, accepts, payload-fits, lent-fits, raises}
 use Rattle.store.proofs.Texts.{header-in}
@@ -14,10 +14,10 @@ use Rattle.store.proofs.inner.step.carry.Tie as tie
 known : (c : tie.After-judge) →
     c .judge .result
     ≡ judgedAt (c .before .before .before .before .before .before .before .before .args .image .now) (c .before .before .before .before .before .before .before .before .args .c) (length (c .before .before .before .before .before .before .before .before .args .reply .now))
-known c = rw (← c .before .before .before .read-entry .ensures, ← c .before .room .ensures) (c .judge .ensures)
+known c = rw (← c .before .before .before .entry-at .ensures, ← c .before .room .ensures) (c .judge .ensures)
 
-read-entry-requires : tie.Need-read-entry-requires
-read-entry-requires c κs = let start = c .before .before .before .before in places _ _ (to-T (start .pre .0)) (start .pre .1) .entry
+entry-at-requires : tie.Need-entry-at-requires
+entry-at-requires c κs = let start = c .before .before .before .before in places _ _ (to-T (start .pre .0)) (start .pre .1) .entry
 
 room-requires : tie.Need-room-requires
 room-requires c κs = header-in _ (c .before .before .before .before .before .before .pre .0)
@@ -43,7 +43,7 @@ returns c =
 show-requires : tie.Need-show-requires
 show-requires c κs =
     let start = c .before .before .before .before .before .before .before .before .before .before .before .before in
-    let entry = c .before .before .before .before .before .before .before .read-entry .ensures in (
+    let entry = c .before .before .before .before .before .before .before .entry-at .ensures in (
       start .pre .0,
       start .pre .1,
       entry,
@@ -83,7 +83,7 @@ pub carry-spec : {M : Type 1} → statement M
 carry-spec =
     tie.close
     (tie.spec
-    read-entry-requires
+    entry-at-requires
     room-requires
     judge-requires
     reply-requires
