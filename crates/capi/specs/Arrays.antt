@@ -8,6 +8,7 @@ use Rattle.lock_queue.specs.Queue.{mostPlaces, State}
 use Rattle.lock_queue.specs.declared.Waiting.{Waiting}
 use mathlib.Core.Bool.{cond}
 use Rattle.lock_queue.specs.declared.LockAnswer.{LockAnswer}
+use Rattle.lock_queue.specs.Requests.{Request, answer, after}
 
 -- An entry of the queue by its three numbers.
 abbrev pub waiting : ℕ → ℕ → ℕ → Waiting
@@ -45,3 +46,23 @@ keptOf q = q .count ∷ q .largest .s ∷ q .largest .x ∷ []
 -- "Whether that desk holds the lock .., largest pair .., and how many entries were looked at".
 abbrev pub answerOf : LockAnswer → List ℕ
 answerOf a = cond (a .holds) 1 0 ∷ a .largest .s ∷ a .largest .x ∷ a .looked ∷ []
+
+-- What a request to a queue in arrays gives and leaves: the number, the answer's four fields, and the arrays.
+pub record ArrayTurn : Type 0 where
+  pub number : ℕ
+  pub fields : List ℕ
+  pub modes : List ℕ
+  pub s : List ℕ
+  pub x : List ℕ
+  pub kept : List ℕ
+
+abbrev pub arrayTurn : ℕ → State → Request → ArrayTurn
+arrayTurn lent q r =
+    record {
+      number = answer lent q r .number;
+      fields = answerOf (answer lent q r);
+      modes = modesOf (after lent q r .places);
+      s = sharedOf (after lent q r .places);
+      x = exclusiveOf (after lent q r .places);
+      kept = keptOf (after lent q r);
+    }

@@ -1,8 +1,7 @@
--- The answer to a request as numbers, in the order of the sheet.
+-- What a desk shows and what stands in a stream, for callers that name things by numbers.
 -- Assumes nothing.
 use Prim.Native.Nat.{ℕ, zero, suc}
 use mathlib.Core.List.{List, [], _∷_}
-use Rattle.guard.specs.declared.Answer.{Answer}
 use lib.ListN.{length}
 use Rattle.desk.specs.Show.{Text, shownNumber, shownPart}
 use Rattle.desk.specs.declared.Asked.{Asked}
@@ -10,11 +9,6 @@ use Rattle.desk.specs.declared.Asked.the-variants.{Original, Translation}
 use mathlib.Core.Bool.{Bool, true, false}
 use Rattle.stream.specs.declared.Next.{Next}
 use Rattle.stream.specs.declared.Next.the-variants.{Whole, Cut}
-
--- "Reply fields: s, x, commit desk, transaction, edition, translated-from, length".
-abbrev pub fieldsOf : Answer → List ℕ
-fieldsOf a =
-    a .pair .s ∷ a .pair .x ∷ a .mark .desk ∷ a .mark .transaction ∷ a .edition ∷ a .from ∷ a .length ∷ []
 
 -- ---- The text that a desk shows, for a caller that names the language by a number: 0 the original, 1 the translation.
 

@@ -7,9 +7,10 @@ ghost use lib.ListN.{length};
 ghost use Rattle.lists.specs.Table.{settled};
 ghost use Rattle.image.specs.Image.{sound, makeNumber, fresh};
 ghost use Rattle.model.specs.Serve.{serve};
-ghost use Rattle.capi.specs.Numbers.{fieldsOf, askedNumber, shownLength, isWhole};
-ghost use Rattle.lock_queue.specs.Requests.{Request, answer, after};
-ghost use Rattle.capi.specs.Arrays.{waiting, modesOf, sharedOf, exclusiveOf, queueOf, keptOf, answerOf};
+ghost use Rattle.capi.specs.Numbers.{askedNumber, shownLength, isWhole};
+ghost use Rattle.guard.specs.Replies.{replyFields};
+ghost use Rattle.lock_queue.specs.Requests.{Request};
+ghost use Rattle.capi.specs.Arrays.{waiting, queueOf, arrayTurn};
 ghost use Rattle.desk.specs.Show.{heldText};
 ghost use Rattle.stream.specs.Stream.{nextAt, endOf, onward};
 use stream::Next;
@@ -42,7 +43,7 @@ pub extern "C" fn lupaniele_answer(
     fields: &mut [u64; 7],
 ) -> u8
     ensures number { λ r. ⌜ r ≡ serve (now (image .entry)) (now (command .entry)) (now (reply .entry)) .answer .number ⌝ }
-    ensures fields { λ _. ⌜ now (fields .exit) ≡ fieldsOf (serve (now (image .entry)) (now (command .entry)) (now (reply .entry)) .answer) ⌝ }
+    ensures fields { λ _. ⌜ now (fields .exit) ≡ replyFields (serve (now (image .entry)) (now (command .entry)) (now (reply .entry)) .answer) ⌝ }
     ensures image { λ _. ⌜ now (image .exit) ≡ serve (now (image .entry)) (now (command .entry)) (now (reply .entry)) .image ⌝ }
     ensures reply { λ _. ⌜ now (reply .exit) ≡ serve (now (image .entry)) (now (command .entry)) (now (reply .entry)) .reply ⌝ }
 {
@@ -64,12 +65,12 @@ pub extern "C" fn lupaniele_ask(
     asked_x: u64,
     fields: &mut [u64; 4],
 ) -> u8
-    ensures number { λ r. ⌜ r ≡ answer places (queueOf (now (modes .entry)) (now (s .entry)) (now (x .entry)) (now (kept .entry))) (Request.asks (waiting mode «asked_s» «asked_x»)) .number ⌝ }
-    ensures fields { λ _. ⌜ now (fields .exit) ≡ answerOf (answer places (queueOf (now (modes .entry)) (now (s .entry)) (now (x .entry)) (now (kept .entry))) (Request.asks (waiting mode «asked_s» «asked_x»))) ⌝ }
-    ensures modes { λ _. ⌜ now (modes .exit) ≡ modesOf (after places (queueOf (now (modes .entry)) (now (s .entry)) (now (x .entry)) (now (kept .entry))) (Request.asks (waiting mode «asked_s» «asked_x»)) .places) ⌝ }
-    ensures s { λ _. ⌜ now (s .exit) ≡ sharedOf (after places (queueOf (now (modes .entry)) (now (s .entry)) (now (x .entry)) (now (kept .entry))) (Request.asks (waiting mode «asked_s» «asked_x»)) .places) ⌝ }
-    ensures x { λ _. ⌜ now (x .exit) ≡ exclusiveOf (after places (queueOf (now (modes .entry)) (now (s .entry)) (now (x .entry)) (now (kept .entry))) (Request.asks (waiting mode «asked_s» «asked_x»)) .places) ⌝ }
-    ensures kept { λ _. ⌜ now (kept .exit) ≡ keptOf (after places (queueOf (now (modes .entry)) (now (s .entry)) (now (x .entry)) (now (kept .entry))) (Request.asks (waiting mode «asked_s» «asked_x»))) ⌝ }
+    ensures number { λ r. ⌜ r ≡ arrayTurn places (queueOf (now (modes .entry)) (now (s .entry)) (now (x .entry)) (now (kept .entry))) (Request.asks (waiting mode «asked_s» «asked_x»)) .number ⌝ }
+    ensures fields { λ _. ⌜ now (fields .exit) ≡ arrayTurn places (queueOf (now (modes .entry)) (now (s .entry)) (now (x .entry)) (now (kept .entry))) (Request.asks (waiting mode «asked_s» «asked_x»)) .fields ⌝ }
+    ensures modes { λ _. ⌜ now (modes .exit) ≡ arrayTurn places (queueOf (now (modes .entry)) (now (s .entry)) (now (x .entry)) (now (kept .entry))) (Request.asks (waiting mode «asked_s» «asked_x»)) .modes ⌝ }
+    ensures s { λ _. ⌜ now (s .exit) ≡ arrayTurn places (queueOf (now (modes .entry)) (now (s .entry)) (now (x .entry)) (now (kept .entry))) (Request.asks (waiting mode «asked_s» «asked_x»)) .s ⌝ }
+    ensures x { λ _. ⌜ now (x .exit) ≡ arrayTurn places (queueOf (now (modes .entry)) (now (s .entry)) (now (x .entry)) (now (kept .entry))) (Request.asks (waiting mode «asked_s» «asked_x»)) .x ⌝ }
+    ensures kept { λ _. ⌜ now (kept .exit) ≡ arrayTurn places (queueOf (now (modes .entry)) (now (s .entry)) (now (x .entry)) (now (kept .entry))) (Request.asks (waiting mode «asked_s» «asked_x»)) .kept ⌝ }
 {
     inner::queue::ask(modes, s, x, kept, places, mode, asked_s, asked_x, fields)
 }
@@ -85,12 +86,12 @@ pub extern "C" fn lupaniele_leave(
     desk: u32,
     fields: &mut [u64; 4],
 ) -> u8
-    ensures number { λ r. ⌜ r ≡ answer places (queueOf (now (modes .entry)) (now (s .entry)) (now (x .entry)) (now (kept .entry))) (Request.leaves desk) .number ⌝ }
-    ensures fields { λ _. ⌜ now (fields .exit) ≡ answerOf (answer places (queueOf (now (modes .entry)) (now (s .entry)) (now (x .entry)) (now (kept .entry))) (Request.leaves desk)) ⌝ }
-    ensures modes { λ _. ⌜ now (modes .exit) ≡ modesOf (after places (queueOf (now (modes .entry)) (now (s .entry)) (now (x .entry)) (now (kept .entry))) (Request.leaves desk) .places) ⌝ }
-    ensures s { λ _. ⌜ now (s .exit) ≡ sharedOf (after places (queueOf (now (modes .entry)) (now (s .entry)) (now (x .entry)) (now (kept .entry))) (Request.leaves desk) .places) ⌝ }
-    ensures x { λ _. ⌜ now (x .exit) ≡ exclusiveOf (after places (queueOf (now (modes .entry)) (now (s .entry)) (now (x .entry)) (now (kept .entry))) (Request.leaves desk) .places) ⌝ }
-    ensures kept { λ _. ⌜ now (kept .exit) ≡ keptOf (after places (queueOf (now (modes .entry)) (now (s .entry)) (now (x .entry)) (now (kept .entry))) (Request.leaves desk)) ⌝ }
+    ensures number { λ r. ⌜ r ≡ arrayTurn places (queueOf (now (modes .entry)) (now (s .entry)) (now (x .entry)) (now (kept .entry))) (Request.leaves desk) .number ⌝ }
+    ensures fields { λ _. ⌜ now (fields .exit) ≡ arrayTurn places (queueOf (now (modes .entry)) (now (s .entry)) (now (x .entry)) (now (kept .entry))) (Request.leaves desk) .fields ⌝ }
+    ensures modes { λ _. ⌜ now (modes .exit) ≡ arrayTurn places (queueOf (now (modes .entry)) (now (s .entry)) (now (x .entry)) (now (kept .entry))) (Request.leaves desk) .modes ⌝ }
+    ensures s { λ _. ⌜ now (s .exit) ≡ arrayTurn places (queueOf (now (modes .entry)) (now (s .entry)) (now (x .entry)) (now (kept .entry))) (Request.leaves desk) .s ⌝ }
+    ensures x { λ _. ⌜ now (x .exit) ≡ arrayTurn places (queueOf (now (modes .entry)) (now (s .entry)) (now (x .entry)) (now (kept .entry))) (Request.leaves desk) .x ⌝ }
+    ensures kept { λ _. ⌜ now (kept .exit) ≡ arrayTurn places (queueOf (now (modes .entry)) (now (s .entry)) (now (x .entry)) (now (kept .entry))) (Request.leaves desk) .kept ⌝ }
 {
     inner::queue::leave(modes, s, x, kept, places, desk, fields)
 }

@@ -78,9 +78,11 @@ fn serve(input: &[u8]) {
     }
 }
 
+// One byte more than an input may have, to tell that it is longer.
+const READ_AT_MOST: usize = 65537;
+
 fn main() {
-    // One byte more than an input may have, to tell that it is longer.
-    let mut input = [0u8; 65537];
+    let mut input = [0u8; READ_AT_MOST];
     let got = io::read_full(STDIN_FILENO, &mut input);
     serve(&input[..got]);
 }

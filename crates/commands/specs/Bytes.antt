@@ -7,7 +7,7 @@ use lib.ListN.{length, drop, getD, replicate}
 use lib.Dec.{eqb}
 use Rattle.lists.specs.Parts.{part, zeros}
 use Rattle.lists.specs.Le.{toLe, field}
-use Rattle.stamps.specs.Stamp.{noPair, noMark}
+use Rattle.stamps.specs.Stamp.{noPair, noMark, MALFORMED}
 use Rattle.stamps.specs.declared.Mark.{Mark}
 use Rattle.commands.specs.declared.Command.{Command}
 use Rattle.commands.specs.Command.{wellFormed}
@@ -49,7 +49,7 @@ parsed bytes = cond (formed bytes) (Formed (fieldsOf bytes)) Malformed
 
 -- What a parse is on the sheet: number 1 and zeros where it is malformed, else the command, with nothing refused yet.
 abbrev pub parsedNumber : Parsed → ℕ
-parsedNumber Malformed = 1
+parsedNumber Malformed = MALFORMED
 parsedNumber (Formed c) = 0
 
 abbrev pub parsedCommand : Parsed → Command

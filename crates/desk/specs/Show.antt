@@ -5,7 +5,7 @@ use mathlib.Core.List.{List, [], _∷_}
 use mathlib.Core.Bool.{Bool, false, _||_}
 use lib.Dec.{ltb}
 use lib.ListN.{length, take}
-use Rattle.guard.specs.Judge.{behind}
+use Rattle.guard.specs.Judge.{EDITION-WRONG, REPLY-SHORT, behind}
 use Rattle.lists.specs.Table.{Row, row, first, settled}
 use Rattle.desk.specs.declared.Asked.{Asked}
 use Rattle.desk.specs.declared.Asked.the-variants.{Original, Translation}
@@ -34,7 +34,7 @@ behindAsked edition from asked = of asked false (behind edition from)
 
 -- "Either length beyond its buffer gets 8, checked first, ..; a translation asked for and behind gets 6".
 abbrev pub showRows : Bool → Bool → List Row
-showRows long late = row long 8 ∷ row late 6 ∷ []
+showRows long late = row long REPLY-SHORT ∷ row late EDITION-WRONG ∷ []
 
 abbrev pub deskRows : Text → Text → ℕ → ℕ → Asked → List Row
 deskRows original translation edition from asked =

@@ -18,7 +18,7 @@ fn behind_asked(edition: u16, from: u16, asked: Asked) -> bool
 {
     match asked {
         Asked::Original => false,
-        Asked::Translation => (from == 0) | !(from == edition),
+        Asked::Translation => guard::behind(edition, from),
     }
 }
 
@@ -27,10 +27,10 @@ fn number_of(beyond: bool, behind: bool) -> u8
     ensures { λ r. ⌜ r ≡ first (showRows beyond behind) ⌝ }
 {
     if beyond {
-        return 8;
+        return guard::REPLY_SHORT;
     }
     if behind {
-        return 6;
+        return guard::EDITION_WRONG;
     }
     0
 }

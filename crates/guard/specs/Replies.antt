@@ -4,15 +4,17 @@ use Prim.Native.Nat.{ℕ}
 use mathlib.Core.Bool.{Bool, cond, _||_}
 use lib.Dec.{eqb}
 use Rattle.lists.specs.Table.{settled}
-use Rattle.stamps.specs.Stamp.{noPair, noMark}
+use mathlib.Core.List.{List, [], _∷_}
+use Rattle.stamps.specs.Stamp.{noPair, noMark, MALFORMED}
 use Rattle.commands.specs.Command.{original, translation, reads}
 use Rattle.commands.specs.declared.Command.{Command}
+use Rattle.guard.specs.Judge.{NO-CARD, UNSOUND}
 use Rattle.guard.specs.declared.Entry.{Entry}
 use Rattle.guard.specs.declared.Answer.{Answer}
 
 -- Answers whose reply fields are zeros: 9, 1 and 2.
 abbrev pub blankReply : ℕ → Bool
-blankReply number = eqb number 9 || eqb number 1 || eqb number 2
+blankReply number = eqb number UNSOUND || eqb number MALFORMED || eqb number NO-CARD
 
 -- The length of the text that a command reads, 0 if it reads none.
 abbrev pub readLength : Entry → Command → ℕ
@@ -34,3 +36,8 @@ replied number e c =
 -- The answer of a number whose reply fields are zeros.
 abbrev pub refused : ℕ → Answer
 refused number = record { number = number; pair = noPair; mark = noMark; edition = 0; from = 0; length = 0 }
+
+-- The seven reply fields as numbers, in the order in which a line of the program's output and the exported functions have them.
+abbrev pub replyFields : Answer → List ℕ
+replyFields a =
+    a .pair .s ∷ a .pair .x ∷ a .mark .desk ∷ a .mark .transaction ∷ a .edition ∷ a .from ∷ a .length ∷ []

@@ -2,17 +2,42 @@
 pub mod entries;
 
 ghost use mathlib.Core.Path.{_≡_};
+ghost use Rattle.guard.specs.Judge.{behind};
 ghost use Rattle.guard.specs.Replies.{blankReply, readLength, replied, refused};
 ghost use Rattle.lists.specs.Table.{settled};
 use commands::Command;
-use entries::ACCEPTED;
-use entries::MALFORMED;
-use entries::NO_CARD;
-use entries::UNSOUND;
+use stamps::MALFORMED;
 use stamps::Mark;
 use stamps::Pair;
 
+// ---- The numbers of the table. Number 1 stands with the rules of stamps.
+
+pub const ACCEPTED: u8 = 0;
+
+pub const NO_CARD: u8 = 2;
+
+pub const STALE: u8 = 3;
+
+pub const MARK_DIFFERS: u8 = 4;
+
+pub const PAYLOAD_LONG: u8 = 5;
+
+pub const EDITION_WRONG: u8 = 6;
+
+pub const EDITIONS_SPENT: u8 = 7;
+
+pub const REPLY_SHORT: u8 = 8;
+
+pub const UNSOUND: u8 = 9;
+
 // ---- The guard of one card: an entry that judges a command.
+
+// Whether a translation is behind: its translated-from is 0 or is not the edition.
+pub fn behind(edition: u16, from: u16) -> bool
+    ensures { λ r. ⌜ r ≡ behind edition from ⌝ }
+{
+    (from == 0) | !(from == edition)
+}
 
 // What the store keeps of one card beside its texts (Minuet: a guard's state for a shared resource): the largest pair accepted, the
 // commit mark, the edition of the original, the edition that the translation was made from, and the lengths of the two texts.

@@ -44,6 +44,8 @@ module _ (bytes : List ℕ) where
 -- What is known of a good front: its header and its image are within the bytes and within the limits.
 pub record Fronting (bytes : List ℕ) : Type 0 where
   pub size : frontSize bytes ≡ claimed bytes
+  pub cards-said : frontOf bytes .cards ≡ countOf bytes
+  pub room-said : frontOf bytes .room ≡ roomOf bytes
   pub header : headerSize ≤ length bytes
   pub within : claimed bytes ≤ length bytes
   pub small : claimed bytes ≤ mostBytes
@@ -63,6 +65,8 @@ good-front bytes e =
     let w = shape (countOf (take (claimed bytes) bytes)) (roomOf (take (claimed bytes) bytes)) (shape-holds (take (claimed bytes) bytes) (to-T s)) in
     record {
       size = rw e;
+      cards-said = rw e;
+      room-said = rw e;
       header = a;
       within = b;
       small = rw (n, r) at (w .size);

@@ -139,8 +139,11 @@ freshCards n c = record { room = c; cards = replicate n noCard }
 unfoldable pub makes : ℕ → ℕ → ℕ → Bool
 makes n c lent = shapeOk n c && eqb lent (sizeOf n c)
 
+abbrev pub NOT-MADE : ℕ
+NOT-MADE = 14
+
 abbrev pub makeNumber : ℕ → ℕ → ℕ → ℕ
-makeNumber n c lent = cond (makes n c lent) 0 14
+makeNumber n c lent = cond (makes n c lent) 0 NOT-MADE
 
 -- ---- The image in front of some bytes (the sheet, "Streams and the program").
 

@@ -1,7 +1,6 @@
 // Asking and leaving over places by value.
-ghost use mathlib.Core.Path.{_≡_};
 ghost use Rattle.lock_queue.specs.Queue.{state};
-ghost use Rattle.lock_queue.specs.Requests.{asks, leaves, answer, after};
+ghost use Rattle.lock_queue.specs.Requests.{asks, leaves, Turns};
 ghost use Rattle.lent_queue.specs.Slice.{held};
 use crate::Kept;
 use lock_queue::LockOutcome;
@@ -11,7 +10,7 @@ use lock_queue::Waiting;
 
 // Asking, by value.
 pub fn asked(places: Places, kept: Kept, lent: usize, new: Waiting) -> LockOutcome
-    ensures { λ r. ⌜ (r .answer ≡ answer lent (held (places .at) kept) (asks new)) × (state (r .queue) ≡ after lent (held (places .at) kept) (asks new)) ⌝ }
+    ensures { λ r. ⌜ Turns lent (held (places .at) kept) (asks new) (r .answer) (state (r .queue)) ⌝ }
 {
     let largest = kept.largest;
     let queue = Queue {
@@ -24,7 +23,7 @@ pub fn asked(places: Places, kept: Kept, lent: usize, new: Waiting) -> LockOutco
 
 // Leaving, by value.
 pub fn left(places: Places, kept: Kept, lent: usize, desk: u32) -> LockOutcome
-    ensures { λ r. ⌜ (r .answer ≡ answer lent (held (places .at) kept) (leaves desk)) × (state (r .queue) ≡ after lent (held (places .at) kept) (leaves desk)) ⌝ }
+    ensures { λ r. ⌜ Turns lent (held (places .at) kept) (leaves desk) (r .answer) (state (r .queue)) ⌝ }
 {
     let largest = kept.largest;
     let queue = Queue {

@@ -2,9 +2,8 @@
 pub mod inner;
 mod lent;
 
-ghost use mathlib.Core.Path.{_≡_};
 ghost use lib.ListN.{length};
-ghost use Rattle.lock_queue.specs.Requests.{asks, leaves, answer, after};
+ghost use Rattle.lock_queue.specs.Requests.{asks, leaves, Turns};
 ghost use Rattle.lent_queue.specs.Slice.{held};
 use inner::places::load;
 use inner::places::store;
@@ -30,8 +29,7 @@ pub struct LentOutcome {
 
 // A desk asks for the lock in a queue of lent places. Where more than 32 are lent the queue is bad, whatever it holds.
 pub fn ask(places: &mut [Waiting], kept: Kept, new: Waiting) -> LentOutcome
-    ensures { λ r. ⌜ (r .answer ≡ answer (length (now (places .entry))) (held (now (places .entry)) kept) (asks new))
-        × (held (now (places .exit)) (r .kept) ≡ after (length (now (places .entry))) (held (now (places .entry)) kept) (asks new)) ⌝ }
+    ensures { λ r. ⌜ Turns (length (now (places .entry))) (held (now (places .entry)) kept) (asks new) (r .answer) (held (now (places .exit)) (r .kept)) ⌝ }
 {
     let by_value = load(places);
     let outcome = asked(by_value, kept, places.len(), new);
@@ -40,8 +38,7 @@ pub fn ask(places: &mut [Waiting], kept: Kept, new: Waiting) -> LentOutcome
 
 // The desk and start `desk` leaves a queue of lent places.
 pub fn leave(places: &mut [Waiting], kept: Kept, desk: u32) -> LentOutcome
-    ensures { λ r. ⌜ (r .answer ≡ answer (length (now (places .entry))) (held (now (places .entry)) kept) (leaves desk))
-        × (held (now (places .exit)) (r .kept) ≡ after (length (now (places .entry))) (held (now (places .entry)) kept) (leaves desk)) ⌝ }
+    ensures { λ r. ⌜ Turns (length (now (places .entry))) (held (now (places .entry)) kept) (leaves desk) (r .answer) (held (now (places .exit)) (r .kept)) ⌝ }
 {
     let by_value = load(places);
     let outcome = left(by_value, kept, places.len(), desk);

@@ -2,6 +2,7 @@
 -- leaves is closed.
 -- Assumes nothing.
 use Prim.Native.Nat.{ℕ, _+_, _-_}
+use mathlib.Core.Path.{_≡_}
 use mathlib.Core.List.{List, [], _∷_, _++_}
 use mathlib.Core.Bool.{cond, Bool, not, _&&_, _||_}
 use lib.ListN.{drop, set}
@@ -115,3 +116,7 @@ after lent q r = settled (number lent q r) (applied r q) q
 
 unfoldable pub answer : ℕ → State → Request → LockAnswer
 answer lent q r = answered (number lent q r) (sender r) q (after lent q r)
+
+-- What asking and leaving hand back, whatever form the queue has: the answer, and the queue as it then is.
+abbrev pub Turns : ℕ → State → Request → LockAnswer → State → Type 0
+Turns lent q r given exit = (given ≡ answer lent q r) × (exit ≡ after lent q r)

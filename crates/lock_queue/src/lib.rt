@@ -2,9 +2,8 @@
 pub mod inner;
 mod judge;
 
-ghost use mathlib.Core.Path.{_≡_};
 ghost use Rattle.lock_queue.specs.Queue.{state};
-ghost use Rattle.lock_queue.specs.Requests.{asks, leaves, answer, after};
+ghost use Rattle.lock_queue.specs.Requests.{asks, leaves, Turns};
 use stamps::Pair;
 
 // ---- The lock queue of one card as it stands: who stands in it, who holds the lock, and how many entries are looked at.
@@ -46,7 +45,7 @@ pub struct LockOutcome {
 
 // A desk asks for the lock. `lent` is the number of places that the queue was given; a queue of more than 32 is bad.
 pub fn ask(queue: Queue, lent: usize, new: Waiting) -> LockOutcome
-    ensures { λ r. ⌜ (r .answer ≡ answer lent (state queue) (asks new)) × (state (r .queue) ≡ after lent (state queue) (asks new)) ⌝ }
+    ensures { λ r. ⌜ Turns lent (state queue) (asks new) (r .answer) (state (r .queue)) ⌝ }
 {
     let number = judge::ask_number(queue, lent, new);
     let desk = stamps::desk_of(new.mode, new.pair);
@@ -65,7 +64,7 @@ pub fn ask(queue: Queue, lent: usize, new: Waiting) -> LockOutcome
 
 // The desk and start `desk` leaves.
 pub fn leave(queue: Queue, lent: usize, desk: u32) -> LockOutcome
-    ensures { λ r. ⌜ (r .answer ≡ answer lent (state queue) (leaves desk)) × (state (r .queue) ≡ after lent (state queue) (leaves desk)) ⌝ }
+    ensures { λ r. ⌜ Turns lent (state queue) (leaves desk) (r .answer) (state (r .queue)) ⌝ }
 {
     let number = judge::leave_number(queue, lent, desk);
     if number == 0 {

@@ -9,10 +9,11 @@ use Rattle.lists.specs.Parts.{part, splice}
 use Rattle.lists.proofs.Parts.{part-replicate}
 use Rattle.image.specs.Layout.{mostRoom}
 use Rattle.image.specs.Bytes.{roomOf}
-use Rattle.program.specs.Program.{perLine, mostInput, storeSize, runs, printed, mostNumbers, runBehind, Lent}
+use Rattle.image.specs.Image.{frontSize}
+use Rattle.program.specs.Program.{perLine, mostInput, runs, printed, mostNumbers, runBehind, Lent}
 use Rattle.stream.specs.Stream.{commands}
 use Rattle.stream_claims.proofs.Claims.{claims}
-use Rattle.program.proofs.Front.{Front}
+use Rattle.image.proofs.InFront.{Fronting}
 
 -- The stream lent as the rest of the input, from a place on to its end.
 pub back-of : (size : ℕ) (input : List ℕ) → take (length input - size) (drop size input) ≡ drop size input
@@ -37,7 +38,7 @@ answered-by size room input blank copy out₀ out within most put run =
 pub lines-fit : (size : ℕ) (input : List ℕ) → length input ≤ mostInput → length (commands (drop size input)) * perLine ≤ mostNumbers
 lines-fit size input h = omega (arith, claims .parts (drop size input) .few, length-drop size input)
 
-pub lent : (input out : List ℕ) (size room : ℕ) → Front input → size ≡ storeSize input → room ≡ roomOf input → length input ≤ mostInput → mostNumbers ≤ length out →
+pub lent : (input out : List ℕ) (size room : ℕ) → Fronting input → size ≡ frontSize input → room ≡ roomOf input → length input ≤ mostInput → mostNumbers ≤ length out →
     Lent input size room out
 lent input out size room f s r h k =
     let l = lines-fit size input h in

@@ -11,8 +11,9 @@ use native.Mathlib.Omega.{arith}
 use Rattle.lists.specs.Parts.{splice}
 use Rattle.image.specs.Bytes.{countOf, roomOf}
 use Rattle.stream.specs.Stream.{commands, endOf}
-use Rattle.program.specs.Program.{perLine, mostInput, claimed, goodStore, storeSize, printed, mostNumbers, runBehind, summaryOf, reportOf, shownOf}
-use Rattle.program.proofs.Front.{Front, front, good-front}
+use Rattle.image.specs.Image.{claimed, goodFront, frontSize}
+use Rattle.program.specs.Program.{perLine, mostInput, printed, mostNumbers, runBehind, summaryOf, reportOf, shownOf}
+use Rattle.image.proofs.InFront.{Fronting, front, good-front}
 use Rattle.program.proofs.Answered.{lines-fit}
 use Rattle.program.specs.declared.Summary.{Summary}
 use Rattle.program.specs.declared.Report.{Report}
@@ -35,18 +36,18 @@ module _ (input out : List ℕ) where
   too-long h = let t = lt-ltb mostInput (length input) h in (rw t, rw t)
 
   module _ (h : length input ≤ mostInput) where
-    bad : goodStore input ≡ false → (BadStore ≡ reportOf input) × (out ≡ shownOf input out)
+    bad : goodFront input ≡ false → (BadStore ≡ reportOf input) × (out ≡ shownOf input out)
     unfolding reportOf shownOf
     bad e = let t = le-ltb mostInput (length input) h in (rw (t, e), rw (t, e))
 
-    pub bad-store : storeSize input ≡ 0 → (BadStore ≡ reportOf input) × (out ≡ shownOf input out)
-    bad-store z = go (goodStore input) refl
+    pub bad-store : frontSize input ≡ 0 → (BadStore ≡ reportOf input) × (out ≡ shownOf input out)
+    bad-store z = go (goodFront input) refl
       where
-        go : (b : Bool) → goodStore input ≡ b → (BadStore ≡ reportOf input) × (out ≡ shownOf input out)
+        go : (b : Bool) → goodFront input ≡ b → (BadStore ≡ reportOf input) × (out ≡ shownOf input out)
         go false e = bad e
         go true e = let f = good-front input e in absurd (omega (arith, f .size, z))
 
-    lines-good : {cards lines left size room : ℕ} {out′ : List ℕ} → goodStore input ≡ true → cards ≡ countOf input → size ≡ storeSize input → room ≡ roomOf input →
+    lines-good : {cards lines left size room : ℕ} {out′ : List ℕ} → goodFront input ≡ true → cards ≡ countOf input → size ≡ frontSize input → room ≡ roomOf input →
         lines ≡ length (commands (drop size input)) → left ≡ length (drop size input) - endOf (drop size input) →
         out′ ≡ splice 0 (printed (runBehind size room input)) out →
         (Lines (record { cards = cards; lines = lines; left = left }) ≡ reportOf input) × (out′ ≡ shownOf input out)
@@ -56,25 +57,25 @@ module _ (input out : List ℕ) where
         let z = s ∙ good-front input e .size in
         (rw (t, e, c, l, k, z), rw (t, e, o, z, r))
 
-    pub lines-of : {cards lines left size room : ℕ} {out′ : List ℕ} → (storeSize input ≡ 0 → ⊥) → cards ≡ countOf input → size ≡ storeSize input → room ≡ roomOf input →
+    pub lines-of : {cards lines left size room : ℕ} {out′ : List ℕ} → (frontSize input ≡ 0 → ⊥) → cards ≡ countOf input → size ≡ frontSize input → room ≡ roomOf input →
         lines ≡ length (commands (drop size input)) → left ≡ length (drop size input) - endOf (drop size input) →
         out′ ≡ splice 0 (printed (runBehind size room input)) out →
         (Lines (record { cards = cards; lines = lines; left = left }) ≡ reportOf input) × (out′ ≡ shownOf input out)
-    lines-of {cards} {lines} {left} {size} {room} {out′} some c s r l k o = go (goodStore input) refl
+    lines-of {cards} {lines} {left} {size} {room} {out′} some c s r l k o = go (goodFront input) refl
       where
-        go : (b : Bool) → goodStore input ≡ b → (Lines (record { cards = cards; lines = lines; left = left }) ≡ reportOf input) × (out′ ≡ shownOf input out)
+        go : (b : Bool) → goodFront input ≡ b → (Lines (record { cards = cards; lines = lines; left = left }) ≡ reportOf input) × (out′ ≡ shownOf input out)
         go true e = lines-good e c s r l k o
         go false e = absurd (some (rw e))
 
 -- The lines of a report have a place.
 pub lines-place : (input : List ℕ) {s : Summary} → Lines s ≡ reportOf input → s .lines * perLine ≤ mostNumbers
 unfolding reportOf
-lines-place input {s} e = go (ltb mostInput (length input)) (goodStore input) refl e
+lines-place input {s} e = go (ltb mostInput (length input)) (goodFront input) refl e
   where
     go : (a b : Bool) → ltb mostInput (length input) ≡ a → Lines s ≡ cond a TooLong (cond b (Lines (summaryOf input)) BadStore) → s .lines * perLine ≤ mostNumbers
     go true b t e = let wrong : _≡_ {A = ℕ} 1 0 = ap hasLines e in absurd (omega (arith, wrong))
     go false false t e = let wrong : _≡_ {A = ℕ} 1 0 = ap hasLines e in absurd (omega (arith, wrong))
     go false true t e =
         let same : s ≡ summaryOf input = ap (taken s) e in
-        let fits = lines-fit (storeSize input) input (ltb-false mostInput (length input) t) in
+        let fits = lines-fit (frontSize input) input (ltb-false mostInput (length input) t) in
         rw same fits

@@ -2,12 +2,13 @@
 -- Assumes nothing.
 use Prim.Native.Nat.{ℕ, _*_, _/_, _≤_, _-_}
 use mathlib.Core.List.{List, [], _∷_}
-use mathlib.Core.Bool.{Bool, cond, _&&_, not}
-use lib.Dec.{leb, ltb}
+use mathlib.Core.Bool.{cond, _&&_, not}
+use lib.Dec.{ltb}
 use lib.ListN.{length, take, drop, replicate}
-use Rattle.image.specs.Layout.{headerSize, sizeOf, mostBytes, mostRoom}
+use Rattle.image.specs.Layout.{mostBytes, mostRoom}
 use Rattle.image.specs.Bytes.{countOf, roomOf}
-use Rattle.image.specs.Image.{sound}
+use Rattle.image.specs.Image.{goodFront, frontSize}
+use Rattle.guard.specs.Replies.{replyFields}
 use Rattle.guard.specs.declared.Answer.{Answer}
 use Rattle.lists.specs.Parts.{spread, splice}
 use Rattle.model.specs.Serve.{serve}
@@ -21,32 +22,11 @@ use Rattle.program.specs.declared.Report.the-variants.{TooLong, BadStore
 abbrev pub mostInput : ℕ
 mostInput = 65536
 
--- "An image as long as its header says".
-abbrev pub claimed : List ℕ → ℕ
-claimed input = sizeOf (countOf input) (roomOf input)
-
--- "`bad store` alone if the header or the image is short or unsound".
-unfoldable pub goodStore : List ℕ → Bool
-goodStore input = leb headerSize (length input) && leb (claimed input) (length input) && sound (take (claimed input) input)
-
--- The size of the image in front of the input, and 0 where it is no good store. (No image has size 0.)
-abbrev pub storeSize : List ℕ → ℕ
-storeSize input = cond (goodStore input) (claimed input) 0
-
 -- ---- What a line of the program's output shows of an answer (the sheet, "Streams and the program").
 
 -- "Number, then the seven fields": the numbers of a line, in the sheet's order, and how many they are.
 unfoldable pub numbersOf : Answer → List ℕ
-numbersOf a =
-    a .number
-    ∷ a .pair .s
-    ∷ a .pair .x
-    ∷ a .mark .desk
-    ∷ a .mark .transaction
-    ∷ a .edition
-    ∷ a .from
-    ∷ a .length
-    ∷ []
+numbersOf a = a .number ∷ replyFields a
 
 abbrev pub perLine : ℕ
 perLine = 8
@@ -94,11 +74,11 @@ pub record Lent (input : List ℕ) (size room : ℕ) (out : List ℕ) : Type 0 w
 
 -- "An image as long as its header says, then a stream."
 abbrev pub streamOf : List ℕ → List ℕ
-streamOf input = drop (storeSize input) input
+streamOf input = drop (frontSize input) input
 
 -- The run of an input: "its reply buffer has C bytes".
 abbrev pub runOf : List ℕ → Run
-runOf input = runBehind (storeSize input) (roomOf input) input
+runOf input = runBehind (frontSize input) (roomOf input) input
 
 -- The first line has N; there is one line for each whole command; "it ends with `end`, or `cut` and the bytes left over".
 abbrev pub summaryOf : List ℕ → Summary
@@ -111,9 +91,9 @@ summaryOf input =
 
 -- "It prints `too long` alone for more, else `bad store` alone if the header or the image is short or unsound, else the lines".
 unfoldable pub reportOf : List ℕ → Report
-reportOf input = cond (ltb mostInput (length input)) TooLong (cond (goodStore input) (Lines (summaryOf input)) BadStore)
+reportOf input = cond (ltb mostInput (length input)) TooLong (cond (goodFront input) (Lines (summaryOf input)) BadStore)
 
 -- The numbers of the lines, written from the front of a list; nothing where there are no lines.
 unfoldable pub shownOf : List ℕ → List ℕ → List ℕ
 shownOf input out =
-    cond (not (ltb mostInput (length input)) && goodStore input) (splice 0 (printed (runOf input)) out) out
+    cond (not (ltb mostInput (length input)) && goodFront input) (splice 0 (printed (runOf input)) out) out

@@ -28,14 +28,14 @@ pub fn answer(input: &[u8], out: &mut [u64; MOST_NUMBERS]) -> Report
     if MOST_INPUT < input.len() {
         return Report::TooLong;
     }
-    let size = inner::input::store_size(input);
+    let front = image::front(input);
+    let size = front.size;
     if size == 0 {
         return Report::BadStore;
     }
-    let room = image::inner::read::room(input) as usize;
-    let lines = inner::batch::answers(input, size, room, out);
+    let lines = inner::batch::answers(input, size, front.room as usize, out);
     Report::Lines(Summary {
-        cards: image::inner::read::count(input),
+        cards: front.cards,
         lines,
         left: inner::input::left_over(&input[size..]),
     })

@@ -13,9 +13,10 @@ use Rattle.image.specs.Bytes.{header, entryBytes, pad, readEntry, entryAt}
 use Rattle.image.specs.Image.{bodies, encode, cardAt, decode, tailZero, cardSound, headerSound, sound, fresh}
 use Rattle.model.specs.Serve.{stepped, serveBy, serve}
 use Rattle.stream.specs.Stream.{extent, whole, commandsWithin, commands, endWithin, endOf}
-use Rattle.program.specs.Program.{numbersOf, goodStore, runs, reportOf}
+use Rattle.image.specs.Image.{goodFront}
+use Rattle.program.specs.Program.{numbersOf, runs, reportOf}
 use Rattle.program_claims.specs.Cases.{CaseP}
 
 pub case-p : CaseP
-unfolding reportOf runs numbersOf goodStore commands commandsWithin endOf endWithin whole extent serve serveBy stepped sound headerSound cardSound tailZero decode cardAt entryAt readEntry encode bodies pad entryBytes header shapeOk fresh replied raise entrySound commandBytes formed payload fieldsOf wellFormed all allFrom le toLe part splice table spread every zeros
+unfolding reportOf runs numbersOf goodFront commands commandsWithin endOf endWithin whole extent serve serveBy stepped sound headerSound cardSound tailZero decode cardAt entryAt readEntry encode bodies pad entryBytes header shapeOk fresh replied raise entrySound commandBytes formed payload fieldsOf wellFormed all allFrom le toLe part splice table spread every zeros
 case-p = record { report = refl; lines = refl }

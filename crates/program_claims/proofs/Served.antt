@@ -33,8 +33,9 @@ use Rattle.model.proofs.Demand.{demand3}
 use Rattle.model.proofs.Machine.{numberOn, cardsBy, passed}
 use Rattle.model.proofs.Simulation.{good-more, same-event, same-image}
 use Rattle.stream.specs.Stream.{commands, commandsWithin, extent, whole}
-use Rattle.program.specs.Program.{claimed, runs}
-use Rattle.program.proofs.Front.{good-front}
+use Rattle.image.specs.Image.{claimed}
+use Rattle.program.specs.Program.{runs}
+use Rattle.image.proofs.InFront.{good-front}
 use Rattle.program_claims.specs.Claims.{requests, Guarded, Serves}
 
 -- ---- one request, with a reply buffer of C bytes

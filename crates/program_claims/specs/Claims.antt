@@ -14,7 +14,8 @@ use Rattle.model.specs.Serve.{serve}
 use Rattle.model.specs.Words.{Sent, Event, imageAfter, history, none}
 use Rattle.model.specs.Claims.{Claim}
 use Rattle.stream.specs.Stream.{commands}
-use Rattle.program.specs.Program.{numbersOf, perLine, runs, printed, goodStore, runOf}
+use Rattle.image.specs.Image.{goodFront}
+use Rattle.program.specs.Program.{numbersOf, perLine, runs, printed, runOf}
 
 -- The answers of a run are those of judging command by command: one for each command, and each is the store's, on the image and the reply
 -- buffer as the commands before leave them.
@@ -68,7 +69,7 @@ pub record Served (input : List ℕ) : Type 0 where
   pub stays : sound (runOf input .image) ≡ true
 
 abbrev pub Serves : Type 0
-Serves = (input : List ℕ) → Bytes input → goodStore input ≡ true → Served input
+Serves = (input : List ℕ) → Bytes input → goodFront input ≡ true → Served input
 
 pub record ProgramClaims : Type 0 where
   pub stepwise : (image reply : List ℕ) (cs : List (List ℕ)) → Stepwise image reply cs

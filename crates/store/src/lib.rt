@@ -3,7 +3,7 @@ pub mod inner;
 
 ghost use mathlib.Core.Path.{_≡_};
 ghost use Rattle.model.specs.Serve.{serve};
-use guard::entries::UNSOUND;
+use guard::UNSOUND;
 
 // One request: a command judged on an image. It gives the number and the seven reply fields, and leaves the image and the reply buffer as
 // the sheet says; every refusal leaves both as they were.

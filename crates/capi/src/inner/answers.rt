@@ -3,12 +3,13 @@ ghost use mathlib.Core.Path.{_≡_};
 ghost use lib.ListN.{length};
 ghost use Rattle.model.specs.Serve.{serve};
 ghost use Rattle.desk.specs.Show.{heldText, shownNumber, shownPart};
-ghost use Rattle.capi.specs.Numbers.{fieldsOf, askedNumber, shownLength};
+ghost use Rattle.capi.specs.Numbers.{askedNumber, shownLength};
+ghost use Rattle.guard.specs.Replies.{replyFields};
 use desk::Asked;
 
 // The seven reply fields as numbers.
 pub fn write_fields(fields: &mut [u64; 7], a: guard::Answer)
-    ensures { λ _. ⌜ now (fields .exit) ≡ fieldsOf a ⌝ }
+    ensures { λ _. ⌜ now (fields .exit) ≡ replyFields a ⌝ }
 {
     let pair = a.pair;
     let mark = a.mark;
@@ -27,7 +28,7 @@ pub fn write_fields(fields: &mut [u64; 7], a: guard::Answer)
 // stands in the first bytes of `reply`.
 pub fn answer(image: &mut [u8], command: &[u8], reply: &mut [u8], fields: &mut [u64; 7]) -> u8
     ensures number { λ r. ⌜ r ≡ serve (now (image .entry)) (now (command .entry)) (now (reply .entry)) .answer .number ⌝ }
-    ensures fields { λ _. ⌜ now (fields .exit) ≡ fieldsOf (serve (now (image .entry)) (now (command .entry)) (now (reply .entry)) .answer) ⌝ }
+    ensures fields { λ _. ⌜ now (fields .exit) ≡ replyFields (serve (now (image .entry)) (now (command .entry)) (now (reply .entry)) .answer) ⌝ }
     ensures image { λ _. ⌜ now (image .exit) ≡ serve (now (image .entry)) (now (command .entry)) (now (reply .entry)) .image ⌝ }
     ensures reply { λ _. ⌜ now (reply .exit) ≡ serve (now (image .entry)) (now (command .entry)) (now (reply .entry)) .reply ⌝ }
 {

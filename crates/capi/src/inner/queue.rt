@@ -1,8 +1,8 @@
 // The lock queue of one card as arrays of numbers: loaded, judged by value, and stored back.
 ghost use mathlib.Core.Path.{_≡_};
 ghost use Rattle.lock_queue.specs.Queue.{state};
-ghost use Rattle.lock_queue.specs.Requests.{Request, answer, after};
-ghost use Rattle.capi.specs.Arrays.{waiting, modesOf, sharedOf, exclusiveOf, queueOf, keptOf, answerOf};
+ghost use Rattle.lock_queue.specs.Requests.{Request};
+ghost use Rattle.capi.specs.Arrays.{waiting, modesOf, sharedOf, exclusiveOf, queueOf, keptOf, answerOf, arrayTurn};
 use crate::inner::columns::columns_of;
 use crate::inner::columns::places_of;
 use lock_queue::LockOutcome;
@@ -91,12 +91,12 @@ pub fn ask(
     asked_x: u64,
     fields: &mut [u64; 4],
 ) -> u8
-    ensures number { λ r. ⌜ r ≡ answer places (queueOf (now (modes .entry)) (now (s .entry)) (now (x .entry)) (now (kept .entry))) (Request.asks (waiting mode «asked_s» «asked_x»)) .number ⌝ }
-    ensures fields { λ _. ⌜ now (fields .exit) ≡ answerOf (answer places (queueOf (now (modes .entry)) (now (s .entry)) (now (x .entry)) (now (kept .entry))) (Request.asks (waiting mode «asked_s» «asked_x»))) ⌝ }
-    ensures modes { λ _. ⌜ now (modes .exit) ≡ modesOf (after places (queueOf (now (modes .entry)) (now (s .entry)) (now (x .entry)) (now (kept .entry))) (Request.asks (waiting mode «asked_s» «asked_x»)) .places) ⌝ }
-    ensures s { λ _. ⌜ now (s .exit) ≡ sharedOf (after places (queueOf (now (modes .entry)) (now (s .entry)) (now (x .entry)) (now (kept .entry))) (Request.asks (waiting mode «asked_s» «asked_x»)) .places) ⌝ }
-    ensures x { λ _. ⌜ now (x .exit) ≡ exclusiveOf (after places (queueOf (now (modes .entry)) (now (s .entry)) (now (x .entry)) (now (kept .entry))) (Request.asks (waiting mode «asked_s» «asked_x»)) .places) ⌝ }
-    ensures kept { λ _. ⌜ now (kept .exit) ≡ keptOf (after places (queueOf (now (modes .entry)) (now (s .entry)) (now (x .entry)) (now (kept .entry))) (Request.asks (waiting mode «asked_s» «asked_x»))) ⌝ }
+    ensures number { λ r. ⌜ r ≡ arrayTurn places (queueOf (now (modes .entry)) (now (s .entry)) (now (x .entry)) (now (kept .entry))) (Request.asks (waiting mode «asked_s» «asked_x»)) .number ⌝ }
+    ensures fields { λ _. ⌜ now (fields .exit) ≡ arrayTurn places (queueOf (now (modes .entry)) (now (s .entry)) (now (x .entry)) (now (kept .entry))) (Request.asks (waiting mode «asked_s» «asked_x»)) .fields ⌝ }
+    ensures modes { λ _. ⌜ now (modes .exit) ≡ arrayTurn places (queueOf (now (modes .entry)) (now (s .entry)) (now (x .entry)) (now (kept .entry))) (Request.asks (waiting mode «asked_s» «asked_x»)) .modes ⌝ }
+    ensures s { λ _. ⌜ now (s .exit) ≡ arrayTurn places (queueOf (now (modes .entry)) (now (s .entry)) (now (x .entry)) (now (kept .entry))) (Request.asks (waiting mode «asked_s» «asked_x»)) .s ⌝ }
+    ensures x { λ _. ⌜ now (x .exit) ≡ arrayTurn places (queueOf (now (modes .entry)) (now (s .entry)) (now (x .entry)) (now (kept .entry))) (Request.asks (waiting mode «asked_s» «asked_x»)) .x ⌝ }
+    ensures kept { λ _. ⌜ now (kept .exit) ≡ arrayTurn places (queueOf (now (modes .entry)) (now (s .entry)) (now (x .entry)) (now (kept .entry))) (Request.asks (waiting mode «asked_s» «asked_x»)) .kept ⌝ }
 {
     let queue = load(modes, s, x, kept);
     let new = Waiting {
@@ -120,12 +120,12 @@ pub fn leave(
     desk: u32,
     fields: &mut [u64; 4],
 ) -> u8
-    ensures number { λ r. ⌜ r ≡ answer places (queueOf (now (modes .entry)) (now (s .entry)) (now (x .entry)) (now (kept .entry))) (Request.leaves desk) .number ⌝ }
-    ensures fields { λ _. ⌜ now (fields .exit) ≡ answerOf (answer places (queueOf (now (modes .entry)) (now (s .entry)) (now (x .entry)) (now (kept .entry))) (Request.leaves desk)) ⌝ }
-    ensures modes { λ _. ⌜ now (modes .exit) ≡ modesOf (after places (queueOf (now (modes .entry)) (now (s .entry)) (now (x .entry)) (now (kept .entry))) (Request.leaves desk) .places) ⌝ }
-    ensures s { λ _. ⌜ now (s .exit) ≡ sharedOf (after places (queueOf (now (modes .entry)) (now (s .entry)) (now (x .entry)) (now (kept .entry))) (Request.leaves desk) .places) ⌝ }
-    ensures x { λ _. ⌜ now (x .exit) ≡ exclusiveOf (after places (queueOf (now (modes .entry)) (now (s .entry)) (now (x .entry)) (now (kept .entry))) (Request.leaves desk) .places) ⌝ }
-    ensures kept { λ _. ⌜ now (kept .exit) ≡ keptOf (after places (queueOf (now (modes .entry)) (now (s .entry)) (now (x .entry)) (now (kept .entry))) (Request.leaves desk)) ⌝ }
+    ensures number { λ r. ⌜ r ≡ arrayTurn places (queueOf (now (modes .entry)) (now (s .entry)) (now (x .entry)) (now (kept .entry))) (Request.leaves desk) .number ⌝ }
+    ensures fields { λ _. ⌜ now (fields .exit) ≡ arrayTurn places (queueOf (now (modes .entry)) (now (s .entry)) (now (x .entry)) (now (kept .entry))) (Request.leaves desk) .fields ⌝ }
+    ensures modes { λ _. ⌜ now (modes .exit) ≡ arrayTurn places (queueOf (now (modes .entry)) (now (s .entry)) (now (x .entry)) (now (kept .entry))) (Request.leaves desk) .modes ⌝ }
+    ensures s { λ _. ⌜ now (s .exit) ≡ arrayTurn places (queueOf (now (modes .entry)) (now (s .entry)) (now (x .entry)) (now (kept .entry))) (Request.leaves desk) .s ⌝ }
+    ensures x { λ _. ⌜ now (x .exit) ≡ arrayTurn places (queueOf (now (modes .entry)) (now (s .entry)) (now (x .entry)) (now (kept .entry))) (Request.leaves desk) .x ⌝ }
+    ensures kept { λ _. ⌜ now (kept .exit) ≡ arrayTurn places (queueOf (now (modes .entry)) (now (s .entry)) (now (x .entry)) (now (kept .entry))) (Request.leaves desk) .kept ⌝ }
 {
     let queue = load(modes, s, x, kept);
     let outcome = lock_queue::leave(queue, places as usize, desk);

@@ -9,10 +9,10 @@ ghost use Rattle.model.specs.Serve.{serve};
 use crate::inner::effects;
 use commands::Command;
 use commands::Parsed;
+use guard::ACCEPTED;
 use guard::Answer;
-use guard::entries::ACCEPTED;
-use guard::entries::MALFORMED;
-use guard::entries::NO_CARD;
+use guard::NO_CARD;
+use stamps::MALFORMED;
 
 // A command for a card that exists, on a sound image: its entry judges, and an accepted command is carried out.
 fn carry(image: &mut [u8], c: Command, text: &[u8], reply: &mut [u8]) -> Answer

@@ -1,7 +1,7 @@
 -- Answered, and the fields written. Assumes nothing.
 use mathlib.Core.Path.{ap, _∙_}
 use Rattle.guard.specs.declared.Answer.{Answer}
-use Rattle.capi.specs.Numbers.{fieldsOf}
+use Rattle.guard.specs.Replies.{replyFields}
 use borrow.Author.Needs.{needs}
 use Rattle.capi.proofs.inner.answers.answer.Statement.{statement}
 use Rattle.capi.proofs.inner.answers.answer.Tie as tie
@@ -22,7 +22,7 @@ returns : tie.Need-returns
 returns c =
     let served = c .before .before .before .before .before .before .answer .ensures in (
       ap (λ (a : Answer). a .number) (served .0),
-      (c .write-fields .ensures ∙ ap fieldsOf (served .0), served .1),
+      (c .write-fields .ensures ∙ ap replyFields (served .0), served .1),
     )
 
 pub answer-spec : {M : Type 1} → statement M
