@@ -2,9 +2,12 @@
 # (500,000 at the least). make audit: the further must-fail edits.
 .PHONY: run test soak audit
 N = 20000000
+SHELL = /bin/bash
+.SHELLFLAGS = -o pipefail -c
 
 run:
-	rt check cards
+	@echo "proving the program and what it is made of: some three minutes from nothing"
+	@rt check cards 2>&1 | grep --line-buffered -E "^rt: "
 	target/bin/cards < crates/cards/stdin
 
 test:

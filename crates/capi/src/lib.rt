@@ -1,19 +1,18 @@
 // The library for Rust and C: each function is exported under its plain name, takes any input, and answers what the libraries answer.
 // A slice is a pointer and a length, a reference to a number or to an array a pointer.
+pub mod inner;
+
 ghost use mathlib.Core.Path.{_≡_};
 ghost use lib.ListN.{length};
 ghost use Rattle.lists.specs.Table.{settled};
-ghost use Rattle.image.specs.Image.{sound};
-ghost use Rattle.fresh.specs.Fresh.{makeNumber, fresh};
+ghost use Rattle.image.specs.Image.{sound, makeNumber, fresh};
 ghost use Rattle.model.specs.Serve.{serve};
-ghost use Rattle.marshal.specs.Fields.{fieldsOf};
-ghost use Rattle.lock_queue.specs.Requests.{Request, answer, after};
-ghost use Rattle.queue_columns.specs.Columns.{waiting, modesOf, sharedOf, exclusiveOf};
-ghost use Rattle.array_queue.specs.Arrays.{queueOf, keptOf, answerOf};
-ghost use Rattle.desk.specs.Show.{text};
+ghost use Rattle.capi.specs.Numbers.{askedNumber, shownLength, isWhole};
+ghost use Rattle.guard.specs.Replies.{replyFields};
+ghost use Rattle.lock_queue.specs.Requests.{Request};
+ghost use Rattle.capi.specs.Arrays.{waiting, queueOf, arrayTurn};
+ghost use Rattle.desk.specs.Show.{heldText};
 ghost use Rattle.stream.specs.Stream.{nextAt, endOf, onward};
-ghost use Rattle.marshal.specs.Shown.{askedNumber, shownLength};
-ghost use Rattle.capi.specs.Places.{stands};
 use stream::Next;
 
 // Makes a fresh image of `cards` cards with room `room`: 0, or 14 and nothing written.
@@ -23,7 +22,7 @@ pub extern "C" fn lupaniele_make(image: &mut [u8], cards: u64, room: u64) -> u8
     ensures bytes { λ _. ⌜ now (image .exit)
         ≡ settled (makeNumber cards room (length (now (image .entry)))) (fresh cards room) (now (image .entry)) ⌝ }
 {
-    fresh::make(image, cards as usize, room as usize)
+    image::make(image, cards as usize, room as usize)
 }
 
 // Whether the lent bytes are a sound image.
@@ -44,11 +43,11 @@ pub extern "C" fn lupaniele_answer(
     fields: &mut [u64; 7],
 ) -> u8
     ensures number { λ r. ⌜ r ≡ serve (now (image .entry)) (now (command .entry)) (now (reply .entry)) .answer .number ⌝ }
-    ensures fields { λ _. ⌜ now (fields .exit) ≡ fieldsOf (serve (now (image .entry)) (now (command .entry)) (now (reply .entry)) .answer) ⌝ }
+    ensures fields { λ _. ⌜ now (fields .exit) ≡ replyFields (serve (now (image .entry)) (now (command .entry)) (now (reply .entry)) .answer) ⌝ }
     ensures image { λ _. ⌜ now (image .exit) ≡ serve (now (image .entry)) (now (command .entry)) (now (reply .entry)) .image ⌝ }
     ensures reply { λ _. ⌜ now (reply .exit) ≡ serve (now (image .entry)) (now (command .entry)) (now (reply .entry)) .reply ⌝ }
 {
-    marshal::inner::answer(image, command, reply, fields)
+    inner::answers::answer(image, command, reply, fields)
 }
 
 // A desk asks for the lock of one card. The queue is three arrays, with the mode, the s and the x of each place, of which the first `places`
@@ -66,14 +65,14 @@ pub extern "C" fn lupaniele_ask(
     asked_x: u64,
     fields: &mut [u64; 4],
 ) -> u8
-    ensures number { λ r. ⌜ r ≡ answer places (queueOf (now (modes .entry)) (now (s .entry)) (now (x .entry)) (now (kept .entry))) (Request.asks (waiting mode «asked_s» «asked_x»)) .number ⌝ }
-    ensures fields { λ _. ⌜ now (fields .exit) ≡ answerOf (answer places (queueOf (now (modes .entry)) (now (s .entry)) (now (x .entry)) (now (kept .entry))) (Request.asks (waiting mode «asked_s» «asked_x»))) ⌝ }
-    ensures modes { λ _. ⌜ now (modes .exit) ≡ modesOf (after places (queueOf (now (modes .entry)) (now (s .entry)) (now (x .entry)) (now (kept .entry))) (Request.asks (waiting mode «asked_s» «asked_x»)) .places) ⌝ }
-    ensures s { λ _. ⌜ now (s .exit) ≡ sharedOf (after places (queueOf (now (modes .entry)) (now (s .entry)) (now (x .entry)) (now (kept .entry))) (Request.asks (waiting mode «asked_s» «asked_x»)) .places) ⌝ }
-    ensures x { λ _. ⌜ now (x .exit) ≡ exclusiveOf (after places (queueOf (now (modes .entry)) (now (s .entry)) (now (x .entry)) (now (kept .entry))) (Request.asks (waiting mode «asked_s» «asked_x»)) .places) ⌝ }
-    ensures kept { λ _. ⌜ now (kept .exit) ≡ keptOf (after places (queueOf (now (modes .entry)) (now (s .entry)) (now (x .entry)) (now (kept .entry))) (Request.asks (waiting mode «asked_s» «asked_x»))) ⌝ }
+    ensures number { λ r. ⌜ r ≡ arrayTurn places (queueOf (now (modes .entry)) (now (s .entry)) (now (x .entry)) (now (kept .entry))) (Request.asks (waiting mode «asked_s» «asked_x»)) .number ⌝ }
+    ensures fields { λ _. ⌜ now (fields .exit) ≡ arrayTurn places (queueOf (now (modes .entry)) (now (s .entry)) (now (x .entry)) (now (kept .entry))) (Request.asks (waiting mode «asked_s» «asked_x»)) .fields ⌝ }
+    ensures modes { λ _. ⌜ now (modes .exit) ≡ arrayTurn places (queueOf (now (modes .entry)) (now (s .entry)) (now (x .entry)) (now (kept .entry))) (Request.asks (waiting mode «asked_s» «asked_x»)) .modes ⌝ }
+    ensures s { λ _. ⌜ now (s .exit) ≡ arrayTurn places (queueOf (now (modes .entry)) (now (s .entry)) (now (x .entry)) (now (kept .entry))) (Request.asks (waiting mode «asked_s» «asked_x»)) .s ⌝ }
+    ensures x { λ _. ⌜ now (x .exit) ≡ arrayTurn places (queueOf (now (modes .entry)) (now (s .entry)) (now (x .entry)) (now (kept .entry))) (Request.asks (waiting mode «asked_s» «asked_x»)) .x ⌝ }
+    ensures kept { λ _. ⌜ now (kept .exit) ≡ arrayTurn places (queueOf (now (modes .entry)) (now (s .entry)) (now (x .entry)) (now (kept .entry))) (Request.asks (waiting mode «asked_s» «asked_x»)) .kept ⌝ }
 {
-    array_queue::inner::ask(modes, s, x, kept, places, mode, asked_s, asked_x, fields)
+    inner::queue::ask(modes, s, x, kept, places, mode, asked_s, asked_x, fields)
 }
 
 // The desk and start `desk` leaves the queue. Everything else is as for asking.
@@ -87,14 +86,14 @@ pub extern "C" fn lupaniele_leave(
     desk: u32,
     fields: &mut [u64; 4],
 ) -> u8
-    ensures number { λ r. ⌜ r ≡ answer places (queueOf (now (modes .entry)) (now (s .entry)) (now (x .entry)) (now (kept .entry))) (Request.leaves desk) .number ⌝ }
-    ensures fields { λ _. ⌜ now (fields .exit) ≡ answerOf (answer places (queueOf (now (modes .entry)) (now (s .entry)) (now (x .entry)) (now (kept .entry))) (Request.leaves desk)) ⌝ }
-    ensures modes { λ _. ⌜ now (modes .exit) ≡ modesOf (after places (queueOf (now (modes .entry)) (now (s .entry)) (now (x .entry)) (now (kept .entry))) (Request.leaves desk) .places) ⌝ }
-    ensures s { λ _. ⌜ now (s .exit) ≡ sharedOf (after places (queueOf (now (modes .entry)) (now (s .entry)) (now (x .entry)) (now (kept .entry))) (Request.leaves desk) .places) ⌝ }
-    ensures x { λ _. ⌜ now (x .exit) ≡ exclusiveOf (after places (queueOf (now (modes .entry)) (now (s .entry)) (now (x .entry)) (now (kept .entry))) (Request.leaves desk) .places) ⌝ }
-    ensures kept { λ _. ⌜ now (kept .exit) ≡ keptOf (after places (queueOf (now (modes .entry)) (now (s .entry)) (now (x .entry)) (now (kept .entry))) (Request.leaves desk)) ⌝ }
+    ensures number { λ r. ⌜ r ≡ arrayTurn places (queueOf (now (modes .entry)) (now (s .entry)) (now (x .entry)) (now (kept .entry))) (Request.leaves desk) .number ⌝ }
+    ensures fields { λ _. ⌜ now (fields .exit) ≡ arrayTurn places (queueOf (now (modes .entry)) (now (s .entry)) (now (x .entry)) (now (kept .entry))) (Request.leaves desk) .fields ⌝ }
+    ensures modes { λ _. ⌜ now (modes .exit) ≡ arrayTurn places (queueOf (now (modes .entry)) (now (s .entry)) (now (x .entry)) (now (kept .entry))) (Request.leaves desk) .modes ⌝ }
+    ensures s { λ _. ⌜ now (s .exit) ≡ arrayTurn places (queueOf (now (modes .entry)) (now (s .entry)) (now (x .entry)) (now (kept .entry))) (Request.leaves desk) .s ⌝ }
+    ensures x { λ _. ⌜ now (x .exit) ≡ arrayTurn places (queueOf (now (modes .entry)) (now (s .entry)) (now (x .entry)) (now (kept .entry))) (Request.leaves desk) .x ⌝ }
+    ensures kept { λ _. ⌜ now (kept .exit) ≡ arrayTurn places (queueOf (now (modes .entry)) (now (s .entry)) (now (x .entry)) (now (kept .entry))) (Request.leaves desk) .kept ⌝ }
 {
-    array_queue::inner::leave(modes, s, x, kept, places, desk, fields)
+    inner::queue::leave(modes, s, x, kept, places, desk, fields)
 }
 
 // The text that a desk shows, all at its own word: 0, and in `count` how many first bytes of the buffer asked for are the text; or a number
@@ -110,10 +109,10 @@ pub extern "C" fn lupaniele_shown<'a>(
     asked: u8,
     count: &mut u64,
 ) -> u8
-    ensures number { λ r. ⌜ r ≡ askedNumber (text (now (original .entry)) «original_length») (text (now (translation .entry)) «translation_length») edition from asked ⌝ }
-    ensures count { λ _. ⌜ now (count .exit) ≡ shownLength (text (now (original .entry)) «original_length») (text (now (translation .entry)) «translation_length») edition from asked ⌝ }
+    ensures number { λ r. ⌜ r ≡ askedNumber (heldText (now (original .entry)) «original_length») (heldText (now (translation .entry)) «translation_length») edition from asked ⌝ }
+    ensures count { λ _. ⌜ now (count .exit) ≡ shownLength (heldText (now (original .entry)) «original_length») (heldText (now (translation .entry)) «translation_length») edition from asked ⌝ }
 {
-    marshal::inner::shown(
+    inner::answers::shown(
         original,
         translation,
         original_length,
@@ -128,7 +127,7 @@ pub extern "C" fn lupaniele_shown<'a>(
 // What stands at a place of a stream: true, and in `end` the place behind it, if a whole command does; else false, and the place itself.
 #[no_mangle]
 pub extern "C" fn lupaniele_next(stream: &[u8], at: u64, end: &mut u64) -> bool
-    ensures whole { λ r. ⌜ r ≡ stands (nextAt (now (stream .entry)) at) ⌝ }
+    ensures whole { λ r. ⌜ r ≡ isWhole (nextAt (now (stream .entry)) at) ⌝ }
     ensures end { λ _. ⌜ now (end .exit) ≡ onward at (nextAt (now (stream .entry)) at) ⌝ }
 {
     let Next::Whole(next) = stream::next_at(stream, at as usize) else {

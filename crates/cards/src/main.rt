@@ -1,13 +1,13 @@
 // The program: an image and a stream of commands from standard input, an answer to each on standard output.
 ghost use Prim.Native.Nat.{_+_, _*_, _≤_};
 ghost use lib.ListN.{length};
-ghost use Rattle.lines.specs.Lines.{perLine};
-use batch::inner::MOST_NUMBERS;
+ghost use Rattle.program.specs.Program.{perLine, mostNumbers};
 use libc::STDIN_FILENO;
 use libc::STDOUT_FILENO;
-use lines::PER_LINE;
-use report::Report;
-use report::Summary;
+use program::Report;
+use program::Summary;
+use program::inner::batch::MOST_NUMBERS;
+use program::inner::lines::PER_LINE;
 
 // A number behind a space.
 fn print_number(n: u64) {
@@ -52,8 +52,8 @@ fn print_end(left: usize) {
 }
 
 // The lines of a good store: how many cards it has, one for each command, and the last.
-fn print_summary(s: Summary, out: &[u64])
-    requires { ⌜ s .lines * perLine ≤ length (now out) ⌝ }
+fn print_summary(s: Summary, out: &[u64; MOST_NUMBERS])
+    requires { ⌜ s .lines * perLine ≤ mostNumbers ⌝ }
 {
     io::write_all(STDOUT_FILENO, b"cards");
     print_number(s.cards as u64);
@@ -65,7 +65,7 @@ fn print_summary(s: Summary, out: &[u64])
 // The whole output for an input.
 fn serve(input: &[u8]) {
     let mut out = [0u64; MOST_NUMBERS];
-    match report::inner::report(input, &mut out) {
+    match program::answer(input, &mut out) {
         Report::TooLong => {
             io::write_all(STDOUT_FILENO, b"too long\n");
         }
@@ -78,9 +78,11 @@ fn serve(input: &[u8]) {
     }
 }
 
+// One byte more than an input may have, to tell that it is longer.
+const READ_AT_MOST: usize = 65537;
+
 fn main() {
-    // One byte more than an input may have, to tell that it is longer.
-    let mut input = [0u8; 65537];
+    let mut input = [0u8; READ_AT_MOST];
     let got = io::read_full(STDIN_FILENO, &mut input);
     serve(&input[..got]);
 }

@@ -4,7 +4,7 @@ use mathlib.Core.Path.{_≡_, sym, ap, _∙_}
 use mathlib.Core.Bool.{Bool, true, not, _&&_, _||_, Bool·beq}
 use borrow.Author.Tests.{leb-true}
 use lib.Dec.{leb, eqb}
-use Rattle.lists.specs.Tests.{all, allFrom}
+use Rattle.lists.specs.Table.{all, allFrom}
 use Rattle.lists.proofs.Tests.{allFrom-and, all-out, and-left, and-right, beq-true}
 use Rattle.stamps.specs.Stamp.{exclusive, sessionChecks, markWhole}
 use Rattle.commands.specs.Command.{translation, writes, isWrite, update, checks, wellFormed}

@@ -4,7 +4,7 @@ use Prim.Native.Nat.{ℕ, zero, suc, _<_}
 use mathlib.Core.List.{List, [], _∷_, _++_}
 use mathlib.Core.Bool.{Bool, false, not, _&&_, _||_, Bool·beq}
 use lib.Dec.{leb, eqb}
-use Rattle.lists.specs.Tests.{all}
+use Rattle.lists.specs.Table.{all}
 use Rattle.stamps.specs.Stamp.{deskOf, exclusive, sessionChecks, markWhole, FitsPair, FitsMark}
 use Rattle.commands.specs.declared.Command.{Command}
 use Rattle.stamps.specs.declared.Pair.{Pair}

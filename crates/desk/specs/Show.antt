@@ -5,10 +5,10 @@ use mathlib.Core.List.{List, [], _∷_}
 use mathlib.Core.Bool.{Bool, false, _||_}
 use lib.Dec.{ltb}
 use lib.ListN.{length, take}
-use Rattle.guard.specs.Judge.{behind}
+use Rattle.guard.specs.Judge.{EDITION-WRONG, REPLY-SHORT, behind}
 use Rattle.lists.specs.Table.{Row, row, first, settled}
-use Rattle.desk.specs.declared.Language.{Language}
-use Rattle.desk.specs.declared.Language.the-variants.{Original, Translation}
+use Rattle.desk.specs.declared.Asked.{Asked}
+use Rattle.desk.specs.declared.Asked.the-variants.{Original, Translation}
 
 -- "A desk holds one buffer with the original and one with the translation, their lengths, .. all at its own word": a buffer, and how
 -- many of its first bytes are the text.
@@ -16,11 +16,11 @@ pub record Text : Type 0 where
   pub buffer : List ℕ
   pub length : ℕ
 
-abbrev pub text : List ℕ → ℕ → Text
-text b n = record { buffer = b; length = n }
+abbrev pub heldText : List ℕ → ℕ → Text
+heldText b n = record { buffer = b; length = n }
 
 -- Of two things, one for each language, that of the language asked for.
-abbrev pub of : {A : Type 0} → Language → A → A → A
+abbrev pub of : {A : Type 0} → Asked → A → A → A
 of Original original translation = original
 of Translation original translation = translation
 
@@ -29,22 +29,22 @@ abbrev pub beyond : Text → Bool
 beyond t = ltb (length (t .buffer)) (t .length)
 
 -- A translation asked for and behind.
-abbrev pub behindAsked : ℕ → ℕ → Language → Bool
+abbrev pub behindAsked : ℕ → ℕ → Asked → Bool
 behindAsked edition from asked = of asked false (behind edition from)
 
 -- "Either length beyond its buffer gets 8, checked first, ..; a translation asked for and behind gets 6".
 abbrev pub showRows : Bool → Bool → List Row
-showRows long late = row long 8 ∷ row late 6 ∷ []
+showRows long late = row long REPLY-SHORT ∷ row late EDITION-WRONG ∷ []
 
-abbrev pub rows : Text → Text → ℕ → ℕ → Language → List Row
-rows original translation edition from asked =
+abbrev pub deskRows : Text → Text → ℕ → ℕ → Asked → List Row
+deskRows original translation edition from asked =
     showRows (beyond original || beyond translation) (behindAsked edition from asked)
 
-abbrev pub shownNumber : Text → Text → ℕ → ℕ → Language → ℕ
-shownNumber original translation edition from asked = first (rows original translation edition from asked)
+abbrev pub shownNumber : Text → Text → ℕ → ℕ → Asked → ℕ
+shownNumber original translation edition from asked = first (deskRows original translation edition from asked)
 
 -- "The shown text is handed back as a part of one of two lent buffers: the language asked for", and after a refusal "an empty part" of it.
-abbrev pub shownPart : Text → Text → ℕ → ℕ → Language → List ℕ
+abbrev pub shownPart : Text → Text → ℕ → ℕ → Asked → List ℕ
 shownPart original translation edition from asked =
     take (settled (shownNumber original translation edition from asked) (of asked original translation .length) 0)
     (of asked original translation .buffer)

@@ -4,21 +4,21 @@ ghost use Prim.Native.Nat.{_≤_};
 ghost use lib.ListN.{length, take};
 ghost use denote.Ref.{ptr};
 ghost use Rattle.lists.specs.Table.{first, settled};
-ghost use Rattle.desk.specs.Show.{text, of, behindAsked, showRows, shownNumber, shownPart};
+ghost use Rattle.desk.specs.Show.{heldText, of, behindAsked, showRows, shownNumber, shownPart};
 
 // The languages that can be asked for.
-pub enum Language {
+pub enum Asked {
     Original,
     Translation,
 }
 
 // Whether the translation is asked for and behind.
-fn behind_asked(edition: u16, from: u16, asked: Language) -> bool
+fn behind_asked(edition: u16, from: u16, asked: Asked) -> bool
     ensures { λ r. ⌜ r ≡ behindAsked edition from asked ⌝ }
 {
     match asked {
-        Language::Original => false,
-        Language::Translation => (from == 0) | !(from == edition),
+        Asked::Original => false,
+        Asked::Translation => guard::behind(edition, from),
     }
 }
 
@@ -27,10 +27,10 @@ fn number_of(beyond: bool, behind: bool) -> u8
     ensures { λ r. ⌜ r ≡ first (showRows beyond behind) ⌝ }
 {
     if beyond {
-        return 8;
+        return guard::REPLY_SHORT;
     }
     if behind {
-        return 6;
+        return guard::EDITION_WRONG;
     }
     0
 }
@@ -55,18 +55,18 @@ pub fn shown<'a>(
     translation_length: usize,
     edition: u16,
     from: u16,
-    asked: Language,
+    asked: Asked,
     number: &mut u8,
 ) -> &'a [u8]
-    ensures number { λ _. ⌜ now (number .exit) ≡ shownNumber (text (now (original .entry)) «original_length») (text (now (translation .entry)) «translation_length») edition from asked ⌝ }
-    ensures part { λ r. ⌜ now r ≡ shownPart (text (now (original .entry)) «original_length») (text (now (translation .entry)) «translation_length») edition from asked ⌝ }
+    ensures number { λ _. ⌜ now (number .exit) ≡ shownNumber (heldText (now (original .entry)) «original_length») (heldText (now (translation .entry)) «translation_length») edition from asked ⌝ }
+    ensures part { λ r. ⌜ now r ≡ shownPart (heldText (now (original .entry)) «original_length») (heldText (now (translation .entry)) «translation_length») edition from asked ⌝ }
     ensures place { λ r. ⌜ ptr r ≡ of asked (ptr (original .entry)) (ptr (translation .entry)) ⌝ }
 {
     let beyond = (original.len() < original_length) | (translation.len() < translation_length);
     let given = number_of(beyond, behind_asked(edition, from, asked));
     *number = given;
     match asked {
-        Language::Original => part_of(original, original_length, given),
-        Language::Translation => part_of(translation, translation_length, given),
+        Asked::Original => part_of(original, original_length, given),
+        Asked::Translation => part_of(translation, translation_length, given),
     }
 }

@@ -9,8 +9,8 @@ use lib.Dec.{T, eqb}
 use Rattle.lists.proofs.Tests.{never-both, or-fails}
 use Rattle.stamps.specs.Stamp.{shared, exclusive, stale, markFits}
 use Rattle.commands.specs.Command.{Language, original, translation, reads, writes, verifier, update, wellFormed}
-use Rattle.lists.specs.Table.{first, none, applies, earlier, once, settled}
-use Rattle.guard.specs.Judge.{behind, lastEdition, overruns, entryRows, rows, raise, judged}
+use Rattle.lists.specs.Table.{first, noRow, applies, earlier, once, settled}
+use Rattle.guard.specs.Judge.{behind, lastEdition, overruns, entryRows, judgeRows, raise, judged}
 use Rattle.commands.specs.declared.Command.{Command}
 use Rattle.guard.specs.declared.Entry.{Entry}
 use Rattle.guard.specs.declared.Judged.{Judged}
@@ -38,28 +38,28 @@ module _ (e : Entry) (c : Command) (room lent : ℕ) where
   pub once-entry : T (once (entryRows e c room lent))
   once-entry = tt
 
-  pub once-rows : T (once (rows e c room lent))
+  pub once-rows : T (once (judgeRows e c room lent))
   once-rows = tt
 
   -- A number and an entry that go by the table are the judgement.
-  pub judged-by : {n : ℕ} {after : Entry} → n ≡ first (rows e c room lent) → after ≡ settled n (raise e c) e →
+  pub judged-by : {n : ℕ} {after : Entry} → n ≡ first (judgeRows e c room lent) → after ≡ settled n (raise e c) e →
       _≡_ {A = Judged} (record { number = n; entry = after }) (judged e c room lent)
   unfolding judged
   judged-by p q = rw (q, p)
 
   -- Where a command is accepted, no row applies.
-  pub accepted-none : first (rows e c room lent) ≡ 0 → (n : ℕ) → applies n (rows e c room lent) ≡ false
-  accepted-none h n = none-applies (rows e c room lent) (unapplied (rows e c room lent) once-rows .0 h) n
+  pub accepted-none : first (judgeRows e c room lent) ≡ 0 → (n : ℕ) → applies n (judgeRows e c room lent) ≡ false
+  accepted-none h n = none-applies (judgeRows e c room lent) (unapplied (judgeRows e c room lent) once-rows .0 h) n
 
   -- "A number is given exactly when its row applies and no earlier row does."
-  pub exactly : (n : ℕ) → (judged e c room lent .number ≡ suc n) ↔ (T (applies (suc n) (rows e c room lent)) × T (none (earlier (suc n) (rows e c room lent))))
+  pub exactly : (n : ℕ) → (judged e c room lent .number ≡ suc n) ↔ (T (applies (suc n) (judgeRows e c room lent)) × T (noRow (earlier (suc n) (judgeRows e c room lent))))
   unfolding judged
-  exactly n = given (rows e c room lent) once-rows n
+  exactly n = given (judgeRows e c room lent) once-rows n
 
   -- Accepted, 0, exactly when no row applies.
-  pub accepted-exactly : (judged e c room lent .number ≡ 0) ↔ T (none (rows e c room lent))
+  pub accepted-exactly : (judged e c room lent .number ≡ 0) ↔ T (noRow (judgeRows e c room lent))
   unfolding judged
-  accepted-exactly = unapplied (rows e c room lent) once-rows
+  accepted-exactly = unapplied (judgeRows e c room lent) once-rows
 
   pub accepted : judged e c room lent .number ≡ 0 → Accepted e c room lent
   unfolding judged
@@ -76,7 +76,7 @@ module _ (e : Entry) (c : Command) (room lent : ℕ) where
         lends = lends;
       }
     where
-      row-fails : (n : ℕ) → applies n (rows e c room lent) ≡ false
+      row-fails : (n : ℕ) → applies n (judgeRows e c room lent) ≡ false
       row-fails n = accepted-none h n
 
       row-6 : ((reads (translation 0) c && behind (e .edition) (e .from)) ≡ false) × ((writes (translation 0) c && not (eqb (c .edition) (e .edition))) ≡ false)
@@ -104,7 +104,7 @@ module _ (e : Entry) (c : Command) (room lent : ℕ) where
   accepted-mode a = command-rules c (a .formed) .session .mode
 
   -- Rows 3 to 8 decide on a well-formed command.
-  pub rows-formed : wellFormed c ≡ true → first (rows e c room lent) ≡ first (entryRows e c room lent)
+  pub rows-formed : wellFormed c ≡ true → first (judgeRows e c room lent) ≡ first (entryRows e c room lent)
   rows-formed h = rw h
 
 -- The stored stamps grow.

@@ -1,2 +1,3 @@
 pub mod Judge
 pub mod Raise
+pub mod Replies

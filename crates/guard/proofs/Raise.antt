@@ -7,7 +7,7 @@ use mathlib.Core.Bool.{Bool, true, false, cond, not, _||_}
 use borrow.Author.Tests.{le-leb, leb-true, ne-eqb, eqb-false, not-true}
 use lib.Dec.{T, leb, eqb}
 use lib.ListN.{getD}
-use Rattle.lists.specs.Tests.{all, allFrom}
+use Rattle.lists.specs.Table.{all, allFrom}
 use Rattle.lists.proofs.Tests.{to-T, from-T, and-in, or-left, not-in, all-cons, all-out}
 use Rattle.stamps.specs.Stamp.{stampValid}
 use Rattle.commands.specs.Command.{original, translation, writes, update, FitsCommand}

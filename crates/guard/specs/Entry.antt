@@ -4,7 +4,7 @@ use Prim.Native.Nat.{ℕ, _<_}
 use mathlib.Core.List.{List, [], _∷_}
 use mathlib.Core.Bool.{Bool, not, _||_}
 use lib.Dec.{leb, eqb}
-use Rattle.lists.specs.Tests.{all}
+use Rattle.lists.specs.Table.{all}
 use Rattle.stamps.specs.Stamp.{stampValid, markWhole, noPair, noMark, FitsPair, FitsMark}
 use Rattle.guard.specs.declared.Entry.{Entry}
 

@@ -4,12 +4,43 @@ use Prim.Native.Nat.{ℕ, zero, suc, _+_}
 use mathlib.Core.List.{List, [], _∷_}
 use mathlib.Core.Bool.{Bool, cond, not, _&&_, _||_}
 use lib.Dec.{ltb, eqb}
-use Rattle.stamps.specs.Stamp.{stale, largerOfEach, markFits}
+use Rattle.stamps.specs.Stamp.{MALFORMED, stale, largerOfEach, markFits}
 use Rattle.commands.specs.Command.{Language, original, translation, reads, writes, verifier, update, wellFormed}
 use Rattle.lists.specs.Table.{Row, row, first, settled}
 use Rattle.commands.specs.declared.Command.{Command}
 use Rattle.guard.specs.declared.Entry.{Entry}
 use Rattle.guard.specs.declared.Judged.{Judged}
+
+-- ---- The numbers of the table, each by its name. 0 is accepted, 1 (`MALFORMED`) stands with the rules of stamps.
+
+-- 2: no such card.
+abbrev pub NO-CARD : ℕ
+NO-CARD = 2
+
+abbrev pub STALE : ℕ
+STALE = 3
+
+abbrev pub MARK-DIFFERS : ℕ
+MARK-DIFFERS = 4
+
+abbrev pub PAYLOAD-LONG : ℕ
+PAYLOAD-LONG = 5
+
+-- 6: the translation is behind, or the named edition is not the stored one.
+abbrev pub EDITION-WRONG : ℕ
+EDITION-WRONG = 6
+
+abbrev pub EDITIONS-SPENT : ℕ
+EDITIONS-SPENT = 7
+
+abbrev pub REPLY-SHORT : ℕ
+REPLY-SHORT = 8
+
+-- 9: the image is not sound.
+abbrev pub UNSOUND : ℕ
+UNSOUND = 9
+
+-- ---- The rows.
 
 -- "A translation is behind if translated-from is 0 or is not the edition."
 abbrev pub behind : ℕ → ℕ → Bool
@@ -45,20 +76,17 @@ replyShort e c lent = overruns original e c lent || overruns (translation 0) e c
 -- Rows 3 to 8 of the table, for the card's entry, a command, the room C and the length of the lent reply buffer.
 abbrev pub entryRows : Entry → Command → ℕ → ℕ → List Row
 entryRows e c room lent =
-    -- 3: stale
-    row (stale (c .mode) (e .pair) (verifier c)) 3
-    -- 4: commit mark differs
-    ∷ row (not (markFits (e .mark) (c .expected))) 4
-    -- 5: payload longer than C
-    ∷ row (ltb room (c .length)) 5
-    ∷ row (wrongEdition e c) 6
-    ∷ row (editionsSpent e c) 7
-    ∷ row (replyShort e c lent) 8
+    row (stale (c .mode) (e .pair) (verifier c)) STALE
+    ∷ row (not (markFits (e .mark) (c .expected))) MARK-DIFFERS
+    ∷ row (ltb room (c .length)) PAYLOAD-LONG
+    ∷ row (wrongEdition e c) EDITION-WRONG
+    ∷ row (editionsSpent e c) EDITIONS-SPENT
+    ∷ row (replyShort e c lent) REPLY-SHORT
     ∷ []
 
 -- The rows of an entry that judges a command, whoever made it: row 1, command malformed, on its numbers, then rows 3 to 8.
-abbrev pub rows : Entry → Command → ℕ → ℕ → List Row
-rows e c room lent = row (not (wellFormed c)) 1 ∷ entryRows e c room lent
+abbrev pub judgeRows : Entry → Command → ℕ → ℕ → List Row
+judgeRows e c room lent = row (not (wellFormed c)) MALFORMED ∷ entryRows e c room lent
 
 -- The entry after an accepted command: "sets stored s and x each to the larger of old and new, and the stored mark to the next mark";
 -- "writing an original raises the edition by 1"; a translation's named edition "becomes translated-from".
@@ -77,6 +105,6 @@ raise e c =
 unfoldable pub judged : Entry → Command → ℕ → ℕ → Judged
 judged e c room lent =
     record {
-      number = first (rows e c room lent);
-      entry = settled (first (rows e c room lent)) (raise e c) e;
+      number = first (judgeRows e c room lent);
+      entry = settled (first (judgeRows e c room lent)) (raise e c) e;
     }

@@ -1,51 +1,32 @@
 ghost use mathlib.Core.Path.{_≡_};
 ghost use mathlib.Core.Bool.{false, cond};
-ghost use Rattle.guard.specs.Judge.{behind, wrongEdition, editionsSpent, replyShort, rows, raise, judged};
+ghost use Rattle.guard.specs.Judge.{wrongEdition, editionsSpent, replyShort, judgeRows, raise, judged};
 ghost use Rattle.lists.specs.Table.{first};
+use crate::ACCEPTED;
+use crate::EDITION_WRONG;
+use crate::EDITIONS_SPENT;
 use crate::Entry;
 use crate::Judged;
+use crate::MARK_DIFFERS;
+use crate::PAYLOAD_LONG;
+use crate::REPLY_SHORT;
+use crate::STALE;
+use crate::behind;
 use commands::Command;
+use stamps::MALFORMED;
 use stamps::larger_of_each;
 use stamps::mark_fits;
 use stamps::stale;
-
-// The numbers of the table.
-pub const ACCEPTED: u8 = 0;
-
-pub const MALFORMED: u8 = 1;
-
-pub const NO_CARD: u8 = 2;
-
-pub const STALE: u8 = 3;
-
-pub const MARK_DIFFERS: u8 = 4;
-
-pub const PAYLOAD_LONG: u8 = 5;
-
-pub const EDITION_WRONG: u8 = 6;
-
-pub const EDITIONS_SPENT: u8 = 7;
-
-pub const REPLY_SHORT: u8 = 8;
-
-pub const UNSOUND: u8 = 9;
 
 // The edition that no write can raise.
 const LAST_EDITION: u16 = 65535;
 
 impl Entry {
-    // A translation is behind if translated-from is 0 or is not the edition.
-    fn is_behind(self) -> bool
-        ensures { λ r. ⌜ r ≡ behind (self .edition) (self .from) ⌝ }
-    {
-        (self.from == 0) | !(self.from == self.edition)
-    }
-
     // Row 6: act 2: behind; act 4: the named edition is not the stored one.
     fn wrong_edition(self, c: Command) -> bool
         ensures { λ r. ⌜ r ≡ wrongEdition self c ⌝ }
     {
-        (c.reads_translation() & self.is_behind())
+        (c.reads_translation() & behind(self.edition, self.from))
             | (c.writes_translation() & !(c.edition == self.edition))
     }
 
@@ -66,7 +47,7 @@ impl Entry {
 
     // The number of the first row that applies.
     fn number(self, c: Command, room: u16, lent: usize) -> u8
-        ensures { λ r. ⌜ r ≡ first (rows self c room lent) ⌝ }
+        ensures { λ r. ⌜ r ≡ first (judgeRows self c room lent) ⌝ }
     {
         if !c.well_formed() {
             return MALFORMED;

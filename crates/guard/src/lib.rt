@@ -1,8 +1,43 @@
-// The guard of one card: an entry that judges a command.
+// The guard of one card: an entry that judges a command, and what is answered, a number and the seven reply fields.
 pub mod entries;
 
+ghost use mathlib.Core.Path.{_≡_};
+ghost use Rattle.guard.specs.Judge.{behind};
+ghost use Rattle.guard.specs.Replies.{blankReply, readLength, replied, refused};
+ghost use Rattle.lists.specs.Table.{settled};
+use commands::Command;
+use stamps::MALFORMED;
 use stamps::Mark;
 use stamps::Pair;
+
+// ---- The numbers of the table. Number 1 stands with the rules of stamps.
+
+pub const ACCEPTED: u8 = 0;
+
+pub const NO_CARD: u8 = 2;
+
+pub const STALE: u8 = 3;
+
+pub const MARK_DIFFERS: u8 = 4;
+
+pub const PAYLOAD_LONG: u8 = 5;
+
+pub const EDITION_WRONG: u8 = 6;
+
+pub const EDITIONS_SPENT: u8 = 7;
+
+pub const REPLY_SHORT: u8 = 8;
+
+pub const UNSOUND: u8 = 9;
+
+// ---- The guard of one card: an entry that judges a command.
+
+// Whether a translation is behind: its translated-from is 0 or is not the edition.
+pub fn behind(edition: u16, from: u16) -> bool
+    ensures { λ r. ⌜ r ≡ behind edition from ⌝ }
+{
+    (from == 0) | !(from == edition)
+}
 
 // What the store keeps of one card beside its texts (Minuet: a guard's state for a shared resource): the largest pair accepted, the
 // commit mark, the edition of the original, the edition that the translation was made from, and the lengths of the two texts.
@@ -19,4 +54,83 @@ pub struct Entry {
 pub struct Judged {
     pub number: u8,
     pub entry: Entry,
+}
+
+// ---- What is answered: a number and the seven reply fields.
+
+// A number and the seven reply fields.
+pub struct Answer {
+    pub number: u8,
+    pub pair: Pair,
+    pub mark: Mark,
+    pub edition: u16,
+    pub from: u16,
+    pub length: u16,
+}
+
+// The length of the text that the command reads, 0 if it reads none.
+fn read_length(e: Entry, c: Command) -> u16
+    ensures { λ r. ⌜ r ≡ readLength e c ⌝ }
+{
+    if c.reads_original() {
+        return e.original;
+    }
+    if c.reads_translation() {
+        return e.translation;
+    }
+    0
+}
+
+// The length field: of the text read if a read is accepted, else 0.
+fn length(judged: Judged, c: Command) -> u16
+    ensures { λ r. ⌜ r ≡ settled (judged .number) (readLength (judged .entry) c) 0 ⌝ }
+{
+    if judged.number == ACCEPTED {
+        return read_length(judged.entry, c);
+    }
+    0
+}
+
+// Whether the number's reply fields are zeros.
+fn is_blank(number: u8) -> bool
+    ensures { λ r. ⌜ r ≡ blankReply number ⌝ }
+{
+    (number == UNSOUND) | (number == MALFORMED) | (number == NO_CARD)
+}
+
+// The answer of a number whose reply fields are zeros.
+pub fn refusal(number: u8) -> Answer
+    ensures { λ r. ⌜ r ≡ refused number ⌝ }
+{
+    Answer {
+        number,
+        pair: Pair { s: 0, x: 0 },
+        mark: Mark {
+            desk: 0,
+            transaction: 0,
+        },
+        edition: 0,
+        from: 0,
+        length: 0,
+    }
+}
+
+// The number with the seven reply fields: zeros for 9, 1 and 2, else the entry as it now is.
+pub fn reply(judged: Judged, c: Command) -> Answer
+    ensures { λ r. ⌜ r ≡ replied (judged .number) (judged .entry) c ⌝ }
+{
+    if is_blank(judged.number) {
+        return refusal(judged.number);
+    }
+    let entry = judged.entry;
+    let pair = entry.pair;
+    let mark = entry.mark;
+    Answer {
+        number: judged.number,
+        pair,
+        mark,
+        edition: entry.edition,
+        from: entry.from,
+        length: length(judged, c),
+    }
 }

@@ -7,7 +7,7 @@ use mathlib.Core.Logic.{_⊎_, inl, inr}
 use lib.Dec.{T, T-not}
 use Rattle.lists.proofs.Tests.{to-T, from-T, from-false, cases}
 use Rattle.commands.specs.Command.{wellFormed}
-use Rattle.command_bytes.specs.CommandBytes.{formed}
+use Rattle.commands.specs.Bytes.{formed}
 use Rattle.guard.specs.Entry.{entrySound, FitsEntry}
 use Rattle.guard.specs.Judge.{raise, judged}
 use Rattle.guard_claims.specs.Claims.{Judges, StaleStays, Parsing, Parses, CommandComesBack, BytesComeBack}
@@ -16,7 +16,7 @@ use Rattle.guard.specs.declared.Entry.{Entry}
 use Rattle.stamps.proofs.Stamp.{stale-more}
 use Rattle.guard.proofs.Judge.{Accepted, exactly, accepted-exactly, accepted, refusal-leaves, accepted-raises, accepted-mode, raise-more}
 use Rattle.guard.proofs.Raise.{raise-sound, raise-fits}
-use Rattle.command_bytes.proofs.CommandBytes.{parsed-formed, parsed-malformed, payload-command, parsed-command, command-fields}
+use Rattle.commands.proofs.CommandBytes.{parsed-formed, parsed-malformed, payload-command, parsed-command, command-fields}
 
 -- What holds of the entry as it was and, where the command is accepted, of the raised one, holds of the entry as it now is.
 judged-keeps : (P : Entry → Type 0) (e : Entry) (c : Command) (room lent : ℕ) → P e → (Accepted e c room lent → P (raise e c)) → P (judged e c room lent .entry)

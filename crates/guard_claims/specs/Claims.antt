@@ -10,20 +10,20 @@ use lib.ListN.{length}
 use Rattle.lists.specs.Parts.{Bytes}
 use Rattle.stamps.specs.Stamp.{shared, exclusive, stale}
 use Rattle.commands.specs.Command.{verifier, wellFormed, FitsCommand}
-use Rattle.command_bytes.specs.CommandBytes.{fieldsOf, payload, formed, parsed, parsedNumber, parsedCommand, commandBytes}
-use Rattle.lists.specs.Table.{row, first, applies, none, earlier}
-use Rattle.guard.specs.Judge.{rows, raise, judged}
+use Rattle.commands.specs.Bytes.{fieldsOf, payload, formed, parsed, parsedNumber, parsedCommand, commandBytes}
+use Rattle.lists.specs.Table.{row, first, applies, noRow, earlier}
+use Rattle.guard.specs.Judge.{judgeRows, raise, judged}
 use Rattle.guard.specs.Entry.{entrySound, FitsEntry}
 use Rattle.commands.specs.declared.Command.{Command}
 use Rattle.guard.specs.declared.Entry.{Entry}
 use Rattle.stamps.specs.declared.Pair.{Pair}
-use Rattle.command_bytes.specs.declared.Parsed.the-variants.{Malformed, Formed}
+use Rattle.commands.specs.declared.Parsed.the-variants.{Malformed, Formed}
 
 -- What holds of an entry that judges a command.
 pub record Judging (e : Entry) (c : Command) (room lent : ℕ) : Type 0 where
   -- "A number is given exactly when its row applies and no earlier row does"; accepted, 0, exactly when no row applies.
-  pub each : (n : ℕ) → (judged e c room lent .number ≡ suc n) ↔ (T (applies (suc n) (rows e c room lent)) × T (none (earlier (suc n) (rows e c room lent))))
-  pub accepts : (judged e c room lent .number ≡ 0) ↔ T (none (rows e c room lent))
+  pub each : (n : ℕ) → (judged e c room lent .number ≡ suc n) ↔ (T (applies (suc n) (judgeRows e c room lent)) × T (noRow (earlier (suc n) (judgeRows e c room lent))))
+  pub accepts : (judged e c room lent .number ≡ 0) ↔ T (noRow (judgeRows e c room lent))
   -- A refusal leaves the entry as it was; an accepted command leaves it raised.
   pub leaves : (n : ℕ) → judged e c room lent .number ≡ suc n → judged e c room lent .entry ≡ e
   pub raises : judged e c room lent .number ≡ 0 → judged e c room lent .entry ≡ raise e c

@@ -8,15 +8,15 @@ use borrow.Author.Tests.{ne-eqb, leb-true, eqb-true}
 use lib.Dec.{eqb}
 use lib.ListN.{length}
 use Rattle.lists.specs.Parts.{every}
-use Rattle.lists.specs.Tests.{all, allFrom}
+use Rattle.lists.specs.Table.{all, allFrom}
 use Rattle.lists.proofs.Every.{every-fail}
 use Rattle.lists.proofs.Tests.{all-out, all-fails-at}
 use Rattle.lists.specs.Le.{field}
 use Rattle.guard.specs.Entry.{entrySound}
 use Rattle.guard.specs.declared.Entry.{Entry}
-use Rattle.layout.specs.Layout.{sizeOf, headerSize, bodyPlace, entryPlace}
-use Rattle.layout.proofs.Shape.{body-within}
-use Rattle.image_read.specs.Read.{countOf, roomOf, entryAt}
+use Rattle.image.specs.Layout.{sizeOf, headerSize, bodyPlace, entryPlace}
+use Rattle.image.proofs.Shape.{body-within}
+use Rattle.image.specs.Bytes.{countOf, roomOf, entryAt}
 use Rattle.image.specs.Image.{headerSound, tailZero, cardSound, sound}
 
 -- ---- the header and a card

@@ -1,19 +1,20 @@
 -- The image: cards, their bytes, and when bytes are a sound image (the sheet, "The image: contents first, then bodies").
 -- Assumes nothing.
-use Prim.Native.Nat.{ℕ, zero, suc, _+_, _-_}
+use Prim.Native.Nat.{ℕ, zero, suc, _+_, _-_, _<_}
+use mathlib.Core.Path.{_≡_}
 use mathlib.Core.List.{List, [], _∷_, _++_}
-use mathlib.Core.Bool.{Bool, _&&_}
-use lib.ListN.{length, set}
-use lib.Dec.{eqb}
-use Rattle.lists.specs.Parts.{part, spread, table, every, zeros}
+use mathlib.Core.Bool.{Bool, _&&_, cond}
+use lib.ListN.{length, take, getD, set, replicate}
+use lib.Dec.{T, leb, eqb}
+use Rattle.lists.specs.Parts.{part, spread, table, every, zeros, Bytes}
 use Rattle.lists.specs.Le.{le, field}
-use Rattle.lists.specs.Tests.{all}
+use Rattle.lists.specs.Table.{all}
 use Rattle.commands.specs.Command.{Language, original, translation}
-use Rattle.guard.specs.Entry.{entrySound, noEntry}
+use Rattle.guard.specs.Entry.{entrySound, noEntry, FitsEntry}
 use Rattle.guard.specs.declared.Entry.{Entry}
-use Rattle.layout.specs.Layout.{sizeOf, shapeOk, entryPlace, bodyPlace}
-use Rattle.image_read.specs.Read.{countOf, roomOf, entryAt}
-use Rattle.image_write.specs.Write.{magic, version, header, entryBytes, pad}
+use Rattle.image.specs.declared.Dimensions.{Dimensions}
+use Rattle.image.specs.Layout.{sizeOf, shapeOk, entryPlace, bodyPlace, headerSize}
+use Rattle.image.specs.Bytes.{countOf, roomOf, entryAt, magic, version, header, entryBytes, pad}
 
 -- One card: its entry and its two texts.
 pub record Card : Type 0 where
@@ -53,6 +54,19 @@ noCard = record { entry = noEntry; original = []; translation = [] }
 -- The cards with another card at place k: every other card stays.
 abbrev pub withCard : ℕ → Card → Cards → Cards
 withCard k card cs = record { room = cs .room; cards = set (cs .cards) k card }
+
+-- A card by the rules: a sound entry, and two texts of bytes, as long as it says.
+pub record GoodCard (room : ℕ) (card : Card) : Type 0 where
+  pub fits : FitsEntry (card .entry)
+  pub rules : T (entrySound room (card .entry))
+  pub original : length (card .original) ≡ card .entry .original
+  pub translation : length (card .translation) ≡ card .entry .translation
+  pub bytes : (l : Language) → Bytes (text l card)
+
+-- Cards by the rules: N and C within the limits, and each card.
+pub record GoodCards (cs : Cards) : Type 0 where
+  pub shape : T (shapeOk (length (cs .cards)) (cs .room))
+  pub each : (k : ℕ) → k < length (cs .cards) → GoodCard (cs .room) (getD (cs .cards) k noCard)
 
 -- The two bodies of a card.
 unfoldable pub bodies : ℕ → Card → List ℕ
@@ -110,3 +124,45 @@ headerSound image =
 -- An image is sound.
 unfoldable pub sound : List ℕ → Bool
 sound image = headerSound image && every (cardSound image) (countOf image)
+
+-- ---- A fresh image, and when one is made (the sheet, "The image: contents first, then bodies").
+
+-- "A fresh image is all zero after its header."
+unfoldable pub fresh : ℕ → ℕ → List ℕ
+fresh n c = header n c ++ replicate (sizeOf n c - headerSize) 0
+
+-- The cards of a fresh image.
+unfoldable pub freshCards : ℕ → ℕ → Cards
+freshCards n c = record { room = c; cards = replicate n noCard }
+
+-- "Making a fresh image answers 14, and writes nothing, if N, C or the lent length breaks the rules."
+unfoldable pub makes : ℕ → ℕ → ℕ → Bool
+makes n c lent = shapeOk n c && eqb lent (sizeOf n c)
+
+abbrev pub NOT-MADE : ℕ
+NOT-MADE = 14
+
+abbrev pub makeNumber : ℕ → ℕ → ℕ → ℕ
+makeNumber n c lent = cond (makes n c lent) 0 NOT-MADE
+
+-- ---- The image in front of some bytes (the sheet, "Streams and the program").
+
+-- How long an image is by its own header.
+abbrev pub claimed : List ℕ → ℕ
+claimed bytes = sizeOf (countOf bytes) (roomOf bytes)
+
+-- The bytes begin with a sound image: they have a whole header, and as many bytes as it claims, which are sound.
+unfoldable pub goodFront : List ℕ → Bool
+goodFront bytes = leb headerSize (length bytes) && leb (claimed bytes) (length bytes) && sound (take (claimed bytes) bytes)
+
+-- The image in front: its size, its N and its C; zeros where the bytes begin with no sound image. (No image has size 0.)
+abbrev pub frontSize : List ℕ → ℕ
+frontSize bytes = cond (goodFront bytes) (claimed bytes) 0
+
+abbrev pub frontOf : List ℕ → Dimensions
+frontOf bytes =
+    record {
+      size = frontSize bytes;
+      cards = cond (goodFront bytes) (countOf bytes) 0;
+      room = cond (goodFront bytes) (roomOf bytes) 0;
+    }

@@ -1,54 +1,6 @@
-ghost use mathlib.Core.Path.{_≡_};
-ghost use Prim.Native.Nat.{_+_, _-_, _≤_, _<_};
-ghost use lib.ListN.{length};
-ghost use Rattle.lists.specs.Parts.{part, zeros};
-ghost use Rattle.image_read.specs.Read.{countOf, roomOf};
-ghost use Rattle.layout.specs.Layout.{sizeOf};
-ghost use Rattle.image.specs.Image.{headerSound, cardSound};
-use fixed_width::inner as le;
-use image_read::inner as read;
-use layout::HEADER;
-use layout::MAGIC;
-use layout::VERSION;
-use layout::VERSION_AT;
-use layout::ZEROS_AT;
-
-// Whether the bytes of a body past its text are zero.
-fn tail_zero(image: &[u8], at: usize, count: u16, room: u16) -> bool
-    requires { ⌜ (count ≤ room) × (at + room ≤ length (now image)) ⌝ }
-    ensures { λ r. ⌜ r ≡ zeros (part (at + count) (room - count) (now (image .entry))) ⌝ }
-{
-    let start = at + (count as usize);
-    let end = at + (room as usize);
-    endian::all_zero(&image[start..end])
-}
-
-// Whether the header keeps the rules.
-pub fn header_sound(image: &[u8]) -> bool
-    requires { ⌜ 16 ≤ length (now image) ⌝ }
-    ensures { λ r. ⌜ r ≡ headerSound (now (image .entry)) ⌝ }
-{
-    let n = read::count(image);
-    let c = read::room(image);
-    (le::read_u32(image, 0) == MAGIC)
-        & (le::read_u16(image, VERSION_AT) == VERSION)
-        & layout::shape_ok(n as usize, c as usize)
-        & endian::all_zero(&image[ZEROS_AT..HEADER])
-        & (image.len() == layout::size_of(n, c))
-}
-
-// Whether card k keeps the rules.
-pub fn card_sound(image: &[u8], k: u16) -> bool
-    requires { ⌜ (length (now image) ≡ sizeOf (countOf (now image)) (roomOf (now image))) × (k < countOf (now image)) ⌝ }
-    ensures { λ r. ⌜ r ≡ cardSound (now (image .entry)) k ⌝ }
-{
-    let n = read::count(image);
-    let c = read::room(image);
-    let e = read::read_entry(image, k);
-    if !read::entry_sound(e, c) {
-        return false;
-    }
-    (le::read_u16(image, layout::entry_place(k) + 18) == 0)
-        & tail_zero(image, layout::body_place(n, c, k, 0), e.original, c)
-        & tail_zero(image, layout::body_place(n, c, k, 1), e.translation, c)
-}
+// What other crates need, and what asks something of its caller.
+pub mod fresh;
+pub mod layout;
+pub mod read;
+pub mod rules;
+pub mod write;

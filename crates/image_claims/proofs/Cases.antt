@@ -2,14 +2,12 @@
 use mathlib.Core.Path.{refl}
 use Rattle.lists.specs.Le.{le, toLe}
 use Rattle.lists.specs.Parts.{part, spread, every, zeros}
-use Rattle.lists.specs.Tests.{all, allFrom}
+use Rattle.lists.specs.Table.{all, allFrom}
 use Rattle.guard.specs.Entry.{entrySound}
 use Rattle.image_claims.specs.Cases.{Limits, Changes}
-use Rattle.layout.specs.Layout.{shapeOk}
-use Rattle.image_write.specs.Write.{header, entryBytes, pad}
-use Rattle.image.specs.Image.{bodies, encode, tailZero, cardSound, headerSound, sound}
-use Rattle.image_read.specs.Read.{readEntry, entryAt}
-use Rattle.fresh.specs.Fresh.{makes}
+use Rattle.image.specs.Layout.{shapeOk}
+use Rattle.image.specs.Bytes.{header, entryBytes, pad, readEntry, entryAt}
+use Rattle.image.specs.Image.{bodies, encode, tailZero, cardSound, headerSound, sound, makes}
 
 pub limits-hold : Limits
 unfolding makes shapeOk all allFrom

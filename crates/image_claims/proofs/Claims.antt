@@ -10,21 +10,19 @@ use Rattle.lists.specs.Parts.{Bytes}
 use Rattle.lists.specs.Le.{toLe}
 use Rattle.lists.proofs.Spread.{table-ext, spread-replicate}
 use Rattle.lists.proofs.Tests.{to-T}
-use Rattle.lists.specs.Tests.{all, allFrom}
+use Rattle.lists.specs.Table.{all, allFrom}
 use Rattle.lists.proofs.Bytes.{Bytes-nil, zeros-at, zeros-replicate}
 use Rattle.commands.specs.Command.{Language, original, translation}
 use Rattle.guard.specs.Entry.{entrySound}
-use Rattle.image.specs.Image.{Card, text, noCard, bodies, encode, cardAt, decode, sound}
-use Rattle.layout.specs.Layout.{shapeOk, sizeOf, headerSize, entrySize}
-use Rattle.image_write.specs.Write.{header, entryBytes, pad}
-use Rattle.image_read.specs.Read.{countOf}
-use Rattle.fresh.specs.Fresh.{fresh}
-use Rattle.image_claims.specs.Claims.{freshCards}
-use Rattle.image_claims.specs.Claims.{SoundReadsBack, GoodCard, GoodCards, GoodEncodes, OneImage, FreshSound}
-use Rattle.image_claims.proofs.Cards.{Bytes-encode, sound-encode, decode-encode}
-use Rattle.image_claims.proofs.Encode.{length-header, length-encode}
-use Rattle.image_write.proofs.Written.{take-replicate}
-use Rattle.image_claims.proofs.Decode.{encode-decode, decode-good}
+use Rattle.image.specs.Image.{Card, text, noCard, bodies, encode, cardAt, decode, sound, fresh}
+use Rattle.image.specs.Layout.{shapeOk, sizeOf, headerSize, entrySize}
+use Rattle.image.specs.Bytes.{header, entryBytes, pad, countOf}
+use Rattle.image.specs.Image.{freshCards, GoodCard, GoodCards}
+use Rattle.image_claims.specs.Claims.{SoundReadsBack, GoodEncodes, OneImage, FreshSound}
+use Rattle.image.proofs.Cards.{Bytes-encode, sound-encode, decode-encode}
+use Rattle.image.proofs.Encode.{length-header, length-encode}
+use Rattle.image.proofs.Written.{take-replicate}
+use Rattle.image.proofs.Decode.{encode-decode, decode-good}
 
 pub soundReadsBack : SoundReadsBack
 soundReadsBack image b holds = record { good = decode-good image b holds; same = encode-decode image b holds }

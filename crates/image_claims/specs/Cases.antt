@@ -6,20 +6,19 @@ use mathlib.Core.Path.{_≡_}
 use mathlib.Core.List.{List, [], _∷_, map}
 use mathlib.Core.Bool.{Bool, true, false}
 use lib.ListN.{set}
-use Rattle.image.specs.Image.{Cards, encode, sound}
-use Rattle.fresh.specs.Fresh.{makeNumber}
+use Rattle.image.specs.Image.{Cards, encode, sound, makeNumber}
 
 -- N, C, the lent length, and the number that making a fresh image gives.
-pub record Asked : Type 0 where
+pub record MakeCase : Type 0 where
   pub n : ℕ
   pub c : ℕ
   pub lent : ℕ
   pub number : ℕ
 
-abbrev pub asked : ℕ → ℕ → ℕ → ℕ → Asked
+abbrev pub asked : ℕ → ℕ → ℕ → ℕ → MakeCase
 asked n c lent number = record { n = n; c = c; lent = lent; number = number }
 
-abbrev pub limits : List Asked
+abbrev pub limits : List MakeCase
 limits =
     -- "m: N 15, C 1,024 (31,216 bytes) is made; N 16 (33,296) gets 14"
     asked 15 1024 31216 0
@@ -50,7 +49,7 @@ limits =
     ∷ []
 
 abbrev pub Limits : Type 0
-Limits = map (λ (a : Asked). makeNumber (a .n) (a .c) (a .lent)) limits ≡ map (λ (a : Asked). a .number) limits
+Limits = map (λ (a : MakeCase). makeNumber (a .n) (a .c) (a .lent)) limits ≡ map (λ (a : MakeCase). a .number) limits
 
 -- One card with both stamps 1.1.0, the mark of desk 1 and transaction 7, edition 2, a translation from edition 1, and texts of 3 and 2 bytes.
 abbrev pub oneCard : Cards

@@ -6,25 +6,9 @@ use mathlib.Core.List.{List}
 use lib.ListN.{length, drop, getD, replicate}
 use lib.Dec.{T}
 use Rattle.lists.specs.Parts.{Bytes}
-use Rattle.commands.specs.Command.{Language, original, translation}
-use Rattle.guard.specs.Entry.{entrySound, FitsEntry}
-use Rattle.image.specs.Image.{Card, Cards, text, encode, decode, sound, noCard, cardAt}
-use Rattle.layout.specs.Layout.{shapeOk, sizeOf, headerSize}
-use Rattle.fresh.specs.Fresh.{fresh}
-use Rattle.image_read.specs.Read.{countOf, roomOf}
-
--- A card by the rules: a sound entry, and two texts of bytes, as long as it says.
-pub record GoodCard (room : ℕ) (card : Card) : Type 0 where
-  pub fits : FitsEntry (card .entry)
-  pub rules : T (entrySound room (card .entry))
-  pub original : length (card .original) ≡ card .entry .original
-  pub translation : length (card .translation) ≡ card .entry .translation
-  pub bytes : (l : Language) → Bytes (text l card)
-
--- Cards by the rules: N and C within the limits, and each card.
-pub record GoodCards (cs : Cards) : Type 0 where
-  pub shape : T (shapeOk (length (cs .cards)) (cs .room))
-  pub each : (k : ℕ) → k < length (cs .cards) → GoodCard (cs .room) (getD (cs .cards) k noCard)
+use Rattle.image.specs.Image.{Card, Cards, GoodCards, encode, decode, sound, cardAt, fresh, freshCards}
+use Rattle.image.specs.Layout.{shapeOk, sizeOf, headerSize}
+use Rattle.image.specs.Bytes.{countOf, roomOf}
 
 -- A sound image reads back to cards by the rules, and those encode to the same bytes.
 pub record ReadsBack (image : List ℕ) : Type 0 where
@@ -51,10 +35,6 @@ OneImage =
     → roomOf a ≡ roomOf b
     → ((k : ℕ) → k < countOf a → cardAt a k ≡ cardAt b k)
     → a ≡ b
-
--- The cards of a fresh image.
-unfoldable pub freshCards : ℕ → ℕ → Cards
-freshCards n c = record { room = c; cards = replicate n noCard }
 
 -- A fresh image is the bytes of empty cards by the rules, is sound, and is all zero after its header.
 pub record Fresh (n c : ℕ) : Type 0 where

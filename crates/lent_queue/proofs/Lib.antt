@@ -1,3 +1,5 @@
+pub mod Written
+pub mod Pass
 pub mod Loaded
 pub mod Shared
 pub mod Served

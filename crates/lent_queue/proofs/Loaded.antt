@@ -9,17 +9,17 @@ use mathlib.Core.Bool.{Bool, true, false, _&&_, and-false}
 use borrow.Author.Tests.{leb-true}
 use lib.Dec.{leb}
 use lib.ListN.{length, drop, replicate, length-replicate}
-use Rattle.queue_claims.proofs.Claims.{refusal-leaves, others-kept, bad-number, bad-answer, beyond-lent}
-use Rattle.queue_good.proofs.Checks.{good-unsized}
-use Rattle.queue_claims.specs.Claims.{longer}
-use Rattle.queue_state.specs.Queue.{State, state, mostPlaces, noWaiting}
+use Rattle.lock_queue_claims.proofs.Claims.{refusal-leaves, others-kept, bad-number, bad-answer, beyond-lent}
+use Rattle.lock_queue.proofs.Checks.{good-unsized}
+use Rattle.lock_queue_claims.specs.Claims.{longer}
+use Rattle.lock_queue.specs.Queue.{State, state, mostPlaces, noWaiting}
 use Rattle.lock_queue.specs.Requests.{Request, number, after, answer}
-use Rattle.lock_queue.specs.declared.Outcome.{Outcome}
-use Rattle.queue_state.specs.declared.Waiting.{Waiting}
-use Rattle.lent_places.proofs.Written.{written-nothing, written-nowhere}
-use Rattle.lent_places.specs.Slice.{held, written, loaded, replyOf}
-use Rattle.lent_places.specs.declared.Kept.{Kept}
-use Rattle.lent_places.specs.declared.Reply.{Reply}
+use Rattle.lock_queue.specs.declared.LockOutcome.{LockOutcome}
+use Rattle.lock_queue.specs.declared.Waiting.{Waiting}
+use Rattle.lent_queue.proofs.Written.{written-nothing, written-nowhere}
+use Rattle.lent_queue.specs.Slice.{held, written, loaded, replyOf}
+use Rattle.lent_queue.specs.declared.Kept.{Kept}
+use Rattle.lent_queue.specs.declared.LentOutcome.{LentOutcome}
 
 -- ---- lists
 
@@ -96,12 +96,12 @@ judged ws k r = go (leb (length ws) mostPlaces) refl
     go false e = judged-long ws k r e
 
 -- The same of an outcome by value, of the lent list at exit, and of the reply.
-pub settled-lent : (ws p zs : List Waiting) (k : Kept) (r : Request) (o : Outcome) (y : Reply) → p ≡ loaded ws →
+pub settled-lent : (ws p zs : List Waiting) (k : Kept) (r : Request) (o : LockOutcome) (y : LentOutcome) → p ≡ loaded ws →
     (o .answer ≡ answer (length ws) (held p k) r) × (state (o .queue) ≡ after (length ws) (held p k) r) →
     (zs ≡ written mostPlaces (o .queue .places .at) ws) × (y ≡ replyOf o) →
     (y .answer ≡ answer (length ws) (held ws k) r) × (held zs (y .kept) ≡ after (length ws) (held ws k) r)
 settled-lent ws p zs k r o y load core store = (
-  ap (λ (x : Reply). x .answer) (store .1) ∙ core .0 ∙ same .0,
+  ap (λ (x : LentOutcome). x .answer) (store .1) ∙ core .0 ∙ same .0,
   (λ i. held (store .0 i) (store .1 i .kept)) ∙ ap (back ws) (core .1) ∙ same .1,
 )
   where

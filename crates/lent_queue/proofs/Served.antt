@@ -33,28 +33,28 @@ use denote.Triple.Statement.{Contract, Triple}
 use denote.Triple.Call.{calls-at, calls-from}
 use denote.Triple.Spec.{tripleOf}
 use denote.Triple.Clauses.{ensured, lasts}
-use Rattle.queue_state.specs.Queue.{mostPlaces}
-use Rattle.lent_places.specs.Slice.{written, loaded, replyOf}
-use Rattle.queue_state.specs.declared.Waiting.{Waiting}
-use Rattle.queue_state.specs.declared.Places.{Places}
-use Rattle.lock_queue.specs.declared.Outcome.{Outcome}
-use Rattle.lent_places.specs.declared.Kept.{Kept}
-use Rattle.lent_places.specs.declared.Reply.{Reply}
+use Rattle.lock_queue.specs.Queue.{mostPlaces}
+use Rattle.lent_queue.specs.Slice.{written, loaded, replyOf}
+use Rattle.lock_queue.specs.declared.Waiting.{Waiting}
+use Rattle.lock_queue.specs.declared.Places.{Places}
+use Rattle.lock_queue.specs.declared.LockOutcome.{LockOutcome}
+use Rattle.lent_queue.specs.declared.Kept.{Kept}
+use Rattle.lent_queue.specs.declared.LentOutcome.{LentOutcome}
 use Rattle.lent_queue.proofs.Shared.{LentShared, lends-shared, shared-back}
-use Rattle.queue_state.proofs.Waiting as T
-use Rattle.queue_state.proofs.Waiting.Laws as T′
-use Rattle.queue_state.proofs.Places as P
-use Rattle.queue_state.proofs.Places.Laws as P′
-use Rattle.lock_queue.proofs.Outcome as O
-use Rattle.lock_queue.proofs.Outcome.Laws as O′
-use Rattle.lent_places.proofs.Kept as K
-use Rattle.lent_places.proofs.Kept.Laws as K′
-use Rattle.lent_places.proofs.Reply as Y
-use Rattle.lent_places.proofs.Reply.Laws as Y′
-use Rattle.lent_places.proofs.inner.load as load′
-use Rattle.lent_places.proofs.inner.load.Symbol.{name as #load}
-use Rattle.lent_places.proofs.inner.store as store
-use Rattle.lent_places.proofs.inner.store.Symbol.{name as #store}
+use Rattle.lock_queue.proofs.Waiting as T
+use Rattle.lock_queue.proofs.Waiting.Laws as T′
+use Rattle.lock_queue.proofs.Places as P
+use Rattle.lock_queue.proofs.Places.Laws as P′
+use Rattle.lock_queue.proofs.LockOutcome as O
+use Rattle.lock_queue.proofs.LockOutcome.Laws as O′
+use Rattle.lent_queue.proofs.Kept as K
+use Rattle.lent_queue.proofs.Kept.Laws as K′
+use Rattle.lent_queue.proofs.LentOutcome as Y
+use Rattle.lent_queue.proofs.LentOutcome.Laws as Y′
+use Rattle.lent_queue.proofs.inner.places.load as load′
+use Rattle.lent_queue.proofs.inner.places.load.Symbol.{name as #load}
+use Rattle.lent_queue.proofs.inner.places.store as store
+use Rattle.lent_queue.proofs.inner.places.store.Symbol.{name as #store}
 
 -- ---- the code
 
@@ -87,7 +87,7 @@ pval p = LL.val P.the-type P′.the-laws p
 abbrev pub kval : Kept → Val
 kval k = LL.val K.the-type K′.the-laws k
 
-abbrev pub oval : Outcome → Val
+abbrev pub oval : LockOutcome → Val
 oval o = LL.val O.the-type O′.the-laws o
 
 module _ {M : Type 1} (𝓤 : URA M) (H : Heap 𝓤) (A : Atoms 𝓤) (mem : Memory → SProp 𝓤) (run : Routine → Fun 𝓤) where
@@ -132,31 +132,31 @@ module _ {M : Type 1} (𝓤 : URA M) (H : Heap 𝓤) (A : Atoms 𝓤) (W : Given
   load-said : (κ′ : Lft) (γ₁ : GName) (p : Places) → ent 𝓤 (ensured 𝓤 H A load′.ended (load′.clauses 𝓤 H A mem run) (κ′, tt) (lent γ₁, tt) tt p) (fact 𝓤 (p .at ≡ loaded ws))
   load-said κ′ γ₁ p = exE 𝓤 _ (λ l. snd∗ 𝓤 (sem 𝓤 H A (lasts load′.ended (κ′, tt) (lent γ₁, tt) l)) (fact 𝓤 (p .at ≡ loaded ws)))
 
-  abbrev to-store : Outcome → Store 𝓤 H A mem run .Ghost
+  abbrev to-store : LockOutcome → Store 𝓤 H A mem run .Ghost
   to-store oc = (((κ, tt), (q, tt), tt, (lent γ, (oc, tt)), (v ∷ [], (oval oc ∷ [], tt))), tt)
 
-  goes-store : (oc : Outcome) → Is O.the-row oc (oval oc ∷ []) → ent 𝓤 (⋆ 𝓤 H A (‵ (flft κ q) ∷ ‵ Mine ∷ [])) (Store 𝓤 H A mem run .pre (to-store oc))
+  goes-store : (oc : LockOutcome) → Is O.the-row oc (oval oc ∷ []) → ent 𝓤 (⋆ 𝓤 H A (‵ (flft κ q) ∷ ‵ Mine ∷ [])) (Store 𝓤 H A mem run .pre (to-store oc))
   goes-store oc is =
       qed W (‵ (flft κ q) ∷ ‵ Mine ∷ []) ∵ nothing ! $ owned ! O.the-row (Is O.the-row) (LL.makes O.the-type O′.the-plain 𝓤 H A) oc _ is $ fjoin ! $ move ! (2 ∷ 0 ∷ []) $ fjoin ! $
       nothing ! $ move ! (2 ∷ 0 ∷ []) $ join ! $ join ! $ frame ! $ done !
 
   -- what the store says of the lent list at exit, and of the reply
-  abbrev Stored : Outcome → Reply → List Waiting → Type 0
+  abbrev Stored : LockOutcome → LentOutcome → List Waiting → Type 0
   Stored oc y zs = (zs ≡ written mostPlaces (oc .queue .places .at) ws) × (y ≡ replyOf oc)
 
-  module _ (request : Ty) (x : Val) (x-typed : Holds (hasTy request x) × WT x) (Judges : Places → Outcome → Type 0) (#judge : Name) (C : Calls 𝓤 H) (Λ : Loops 𝓤 H) (fm : FmC 𝓤 H (W .laws) C) where
+  module _ (request : Ty) (x : Val) (x-typed : Holds (hasTy request x) × WT x) (Judges : Places → LockOutcome → Type 0) (#judge : Name) (C : Calls 𝓤 H) (Λ : Loops 𝓤 H) (fm : FmC 𝓤 H (W .laws) C) where
     -- what the judging function promises: an outcome, and what says of it that `Judges` holds
-    abbrev pub Gives : (Outcome → SProp 𝓤) → Val → Item 𝓤
-    Gives Ensured u = later (some (λ (oc : Outcome). (‵ ftrue ⊛ ‵ (O.the-row .own oc (u ∷ []))) ⊛ raw (Ensured oc)))
+    abbrev pub Gives : (LockOutcome → SProp 𝓤) → Val → Item 𝓤
+    Gives Ensured u = later (some (λ (oc : LockOutcome). (‵ ftrue ⊛ ‵ (O.the-row .own oc (u ∷ []))) ⊛ raw (Ensured oc)))
 
     abbrev pub passed : Places → List Val
     passed p = pval p ∷ kval k ∷ vint w64 n ∷ x ∷ []
 
     module _ (Posted : Places → Val → SProp 𝓤) (judged : (p : Places) → Is P.the-row p (pval p ∷ []) → ent 𝓤 (emp 𝓤) (C #judge (passed p) (Posted p)))
-        (Ensured : Places → Outcome → SProp 𝓤) (gives : (p : Places) (u : Val) → ent 𝓤 (Posted p u) (mean 𝓤 H A (Gives (Ensured p) u))) (said : (p : Places) (oc : Outcome) → ent 𝓤 (Ensured p oc) (fact 𝓤 (Judges p oc)))
+        (Ensured : Places → LockOutcome → SProp 𝓤) (gives : (p : Places) (u : Val) → ent 𝓤 (Posted p u) (mean 𝓤 H A (Gives (Ensured p) u))) (said : (p : Places) (oc : LockOutcome) → ent 𝓤 (Ensured p oc) (fact 𝓤 (Judges p oc)))
         (known-load : Triple 𝓤 (C #load) (Load 𝓤 H A mem run)) (known-store : Triple 𝓤 (C #store) (Store 𝓤 H A mem run))
         (Kf : Val → SProp 𝓤)
-        (exits : (p : Places) (oc : Outcome) (zs : List Waiting) (y : Reply) (u : Val) → p .at ≡ loaded ws → Judges p oc → Stored oc y zs → length zs ≡ n → Is Y.the-row y (u ∷ [])
+        (exits : (p : Places) (oc : LockOutcome) (zs : List Waiting) (y : LentOutcome) (u : Val) → p .at ≡ loaded ws → Judges p oc → Stored oc y zs → length zs ≡ n → Is Y.the-row y (u ∷ [])
         → ent 𝓤 (⋆ 𝓤 H A (Token ∷ ‵ (finally T.the-row γ zs) ∷ [])) (Kf u)) where
       pub serves : ent 𝓤 (⋆ 𝓤 H A (‵ (flft κ q) ∷ ‵ Mine ∷ [])) (WpFn 𝓤 H C Λ (function #judge request) (v ∷ kval k ∷ x ∷ []) Kf)
       serves =
@@ -191,7 +191,7 @@ module _ {M : Type 1} (𝓤 : URA M) (H : Heap 𝓤) (A : Atoms 𝓤) (W : Given
           assigns ! (agg ! (and-then ! (load ! (from ! (stop !)) (look ! 4 refl)) (and-then ! (load ! (from ! (fld ! refl (stop !))) (look-in ! 20 (sub ! 1 refl (whole !)))) (no-more !)))) (from ! (stop !)) (init ! 2 refl (tt, (tt, (record { fits = long }, tt)))) $
           move ! (1 ∷ 0 ∷ []) $ use2 W (raw (Store 𝓤 H A mem run .pre (to-store oc))) (goes-store oc (subst (Is O.the-row oc) (LL.tells O.the-type O′.the-laws oc _ is₂) is₂)) $
           calls-at ! fm (Store 𝓤 H A mem run) known-store (to-store oc) (and-then ! (load ! (from ! (stop !)) (look ! 1 refl)) (and-then ! (load ! (from ! (stop !)) (look ! 11 refl)) (no-more !))) (λ u.
-          use1 W (later (some (λ (y : Reply). (Token ⊛ ‵ (Y.the-row .own y (u ∷ []))) ⊛ raw (ensured 𝓤 H A store.ended (store.clauses 𝓤 H A mem run) (κ, tt) (lent γ, (oc, tt)) tt y)))) (id⊢ 𝓤 _) $ await ! tt $ pick ! (λ y.
+          use1 W (later (some (λ (y : LentOutcome). (Token ⊛ ‵ (Y.the-row .own y (u ∷ []))) ⊛ raw (ensured 𝓤 H A store.ended (store.clauses 𝓤 H A mem run) (κ, tt) (lent γ, (oc, tt)) tt y)))) (id⊢ 𝓤 _) $ await ! tt $ pick ! (λ y.
           split ! $ move ! (1 ∷ []) $ use1 W (some (λ (zs : List Waiting × (Unit {0} × Unit {0})). ‵ (lasts store.ended (κ, tt) (lent γ, (oc, tt)) zs) ⊛ raw (fact 𝓤 (Stored oc y (zs .0))))) (id⊢ 𝓤 _) $ pick ! (λ zs.
           split ! $ move ! (1 ∷ []) $ heard ! (Stored oc y (zs .0)) (λ e. fsplit ! $ fsplit ! $ move ! (1 ∷ []) $ feqL ! (λ l.
           -- [the last list; true; the token and the reply; _10; …; _9; …; …]

@@ -1,17 +1,16 @@
 // Asking and leaving over places by value.
-ghost use mathlib.Core.Path.{_≡_};
-ghost use Rattle.queue_state.specs.Queue.{state};
-ghost use Rattle.lock_queue.specs.Requests.{asks, leaves, answer, after};
-ghost use Rattle.lent_places.specs.Slice.{held};
-use lent_places::Kept;
-use lock_queue::Outcome;
-use queue_state::Places;
-use queue_state::Queue;
-use queue_state::Waiting;
+ghost use Rattle.lock_queue.specs.Queue.{state};
+ghost use Rattle.lock_queue.specs.Requests.{asks, leaves, Turns};
+ghost use Rattle.lent_queue.specs.Slice.{held};
+use crate::Kept;
+use lock_queue::LockOutcome;
+use lock_queue::Places;
+use lock_queue::Queue;
+use lock_queue::Waiting;
 
 // Asking, by value.
-pub fn asked(places: Places, kept: Kept, lent: usize, new: Waiting) -> Outcome
-    ensures { λ r. ⌜ (r .answer ≡ answer lent (held (places .at) kept) (asks new)) × (state (r .queue) ≡ after lent (held (places .at) kept) (asks new)) ⌝ }
+pub fn asked(places: Places, kept: Kept, lent: usize, new: Waiting) -> LockOutcome
+    ensures { λ r. ⌜ Turns lent (held (places .at) kept) (asks new) (r .answer) (state (r .queue)) ⌝ }
 {
     let largest = kept.largest;
     let queue = Queue {
@@ -23,8 +22,8 @@ pub fn asked(places: Places, kept: Kept, lent: usize, new: Waiting) -> Outcome
 }
 
 // Leaving, by value.
-pub fn left(places: Places, kept: Kept, lent: usize, desk: u32) -> Outcome
-    ensures { λ r. ⌜ (r .answer ≡ answer lent (held (places .at) kept) (leaves desk)) × (state (r .queue) ≡ after lent (held (places .at) kept) (leaves desk)) ⌝ }
+pub fn left(places: Places, kept: Kept, lent: usize, desk: u32) -> LockOutcome
+    ensures { λ r. ⌜ Turns lent (held (places .at) kept) (leaves desk) (r .answer) (state (r .queue)) ⌝ }
 {
     let largest = kept.largest;
     let queue = Queue {

@@ -1,22 +1,35 @@
 // The lock queue of one card as a lent slice of waiting entries: the places are loaded, judged by value, and stored back.
-ghost use mathlib.Core.Path.{_≡_};
-ghost use lib.ListN.{length};
-ghost use Rattle.lock_queue.specs.Requests.{asks, leaves, answer, after};
-ghost use Rattle.lent_places.specs.Slice.{held};
-use lent::asked;
-use lent::left;
-use lent_places::Kept;
-use lent_places::Reply;
-use lent_places::inner::load;
-use lent_places::inner::store;
-use queue_state::Waiting;
-
+pub mod inner;
 mod lent;
 
+ghost use lib.ListN.{length};
+ghost use Rattle.lock_queue.specs.Requests.{asks, leaves, Turns};
+ghost use Rattle.lent_queue.specs.Slice.{held};
+use inner::places::load;
+use inner::places::store;
+use lent::asked;
+use lent::left;
+use lock_queue::LockAnswer;
+use lock_queue::Waiting;
+use stamps::Pair;
+
+// ---- Between lent places and places by value: a lent slice of waiting entries is loaded, and the queue as it then is stored back.
+
+// What a queue keeps beside its places: how many of them are taken, and the largest s and x ever accepted in it.
+pub struct Kept {
+    pub count: usize,
+    pub largest: Pair,
+}
+
+// An answer, and what the queue now keeps.
+pub struct LentOutcome {
+    pub answer: LockAnswer,
+    pub kept: Kept,
+}
+
 // A desk asks for the lock in a queue of lent places. Where more than 32 are lent the queue is bad, whatever it holds.
-pub fn ask(places: &mut [Waiting], kept: Kept, new: Waiting) -> Reply
-    ensures { λ r. ⌜ (r .answer ≡ answer (length (now (places .entry))) (held (now (places .entry)) kept) (asks new))
-        × (held (now (places .exit)) (r .kept) ≡ after (length (now (places .entry))) (held (now (places .entry)) kept) (asks new)) ⌝ }
+pub fn ask(places: &mut [Waiting], kept: Kept, new: Waiting) -> LentOutcome
+    ensures { λ r. ⌜ Turns (length (now (places .entry))) (held (now (places .entry)) kept) (asks new) (r .answer) (held (now (places .exit)) (r .kept)) ⌝ }
 {
     let by_value = load(places);
     let outcome = asked(by_value, kept, places.len(), new);
@@ -24,9 +37,8 @@ pub fn ask(places: &mut [Waiting], kept: Kept, new: Waiting) -> Reply
 }
 
 // The desk and start `desk` leaves a queue of lent places.
-pub fn leave(places: &mut [Waiting], kept: Kept, desk: u32) -> Reply
-    ensures { λ r. ⌜ (r .answer ≡ answer (length (now (places .entry))) (held (now (places .entry)) kept) (leaves desk))
-        × (held (now (places .exit)) (r .kept) ≡ after (length (now (places .entry))) (held (now (places .entry)) kept) (leaves desk)) ⌝ }
+pub fn leave(places: &mut [Waiting], kept: Kept, desk: u32) -> LentOutcome
+    ensures { λ r. ⌜ Turns (length (now (places .entry))) (held (now (places .entry)) kept) (leaves desk) (r .answer) (held (now (places .exit)) (r .kept)) ⌝ }
 {
     let by_value = load(places);
     let outcome = left(by_value, kept, places.len(), desk);

@@ -5,7 +5,7 @@ use mathlib.Core.Bool.{true, false}
 use lib.Dec.{ltb}
 use Prim.Native.Nat.{ℕ, _*_}
 use Rattle.lists.specs.Parts.{part, splice, table, spread, every, zeros}
-use Rattle.lists.specs.Tests.{allFrom, all}
+use Rattle.lists.specs.Table.{allFrom, all}
 
 part-inside : part {A = ℕ} 1 2 (7 ∷ 8 ∷ 9 ∷ 10 ∷ []) ≡ 8 ∷ 9 ∷ []
 unfolding part

@@ -2,13 +2,13 @@
 use mathlib.Core.Path.{_≡_, refl}
 use mathlib.Core.List.{[], _∷_}
 use Rattle.lists.specs.Le.{le, toLe}
-use Rattle.lists.specs.Claims.{NumberComesBack, BytesComeBack, NumberFits}
+use Rattle.lists.specs.Claims.{NumberComesBack, DigitsComeBack, NumberFits}
 use Rattle.lists.proofs.Le.{le-toLe, toLe-le, le-bound}
 
 pub number-comes-back : NumberComesBack
 number-comes-back = le-toLe
 
-pub bytes-come-back : BytesComeBack
+pub bytes-come-back : DigitsComeBack
 bytes-come-back = toLe-le
 
 pub number-fits : NumberFits

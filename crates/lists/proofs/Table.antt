@@ -8,7 +8,7 @@ use mathlib.Core.Bool.{Bool, true, false, cond, not, _&&_, _||_}
 use borrow.Author.Tests.{eqb-true, eqb-false}
 use lib.Dec.{T, eqb, T-not}
 use Rattle.lists.proofs.Tests.{eq→eqb, T-and-left, T-and-right, T-or-left, T-or-right}
-use Rattle.lists.specs.Table.{Row, row, first, none, applies, earlier, numbered, once, settled}
+use Rattle.lists.specs.Table.{Row, row, first, noRow, applies, earlier, numbered, once, settled}
 
 -- The number that is given stands on a row.
 pub first-in : (rs : List Row) (n : ℕ) → first rs ≡ suc n → T (numbered (suc n) rs)
@@ -37,12 +37,12 @@ module _ (r : Row) (rs : List Row) (o : T (once (r ∷ rs))) where
   once-rest = T-and-right (not (eqb (r .gives) 0) && not (numbered (r .gives) rs)) (once rs) o
 
 -- "A number is given exactly when its row applies and no earlier row does."
-pub given : (rs : List Row) → T (once rs) → (n : ℕ) → (first rs ≡ suc n) ↔ (T (applies (suc n) rs) × T (none (earlier (suc n) rs)))
+pub given : (rs : List Row) → T (once rs) → (n : ℕ) → (first rs ≡ suc n) ↔ (T (applies (suc n) rs) × T (noRow (earlier (suc n) rs)))
 given [] o n = (λ e. absurd (omega arith), λ h. absurd (h .0))
 given (r ∷ rs) o n = go (r .applies) (eqb (r .gives) (suc n)) refl (given rs (once-rest r rs o) n)
   where
-    go : (a b : Bool) → eqb (r .gives) (suc n) ≡ b → (first rs ≡ suc n) ↔ (T (applies (suc n) rs) × T (none (earlier (suc n) rs))) →
-        (cond a (r .gives) (first rs) ≡ suc n) ↔ (T (cond b a (applies (suc n) rs)) × T (none (cond b [] (row a (r .gives) ∷ earlier (suc n) rs))))
+    go : (a b : Bool) → eqb (r .gives) (suc n) ≡ b → (first rs ≡ suc n) ↔ (T (applies (suc n) rs) × T (noRow (earlier (suc n) rs))) →
+        (cond a (r .gives) (first rs) ≡ suc n) ↔ (T (cond b a (applies (suc n) rs)) × T (noRow (cond b [] (row a (r .gives) ∷ earlier (suc n) rs))))
     go true true q rest = (λ e. (tt, tt), λ h. eqb-true (r .gives) (suc n) q)
     go true false q rest = (λ e. absurd (eqb-false (r .gives) (suc n) q e), λ h. absurd (h .1))
     go false true q rest = (
@@ -52,20 +52,20 @@ given (r ∷ rs) o n = go (r .applies) (eqb (r .gives) (suc n)) refl (given rs (
     go false false q rest = rest
 
 -- Answer 0, accepted, exactly when no row applies.
-pub unapplied : (rs : List Row) → T (once rs) → (first rs ≡ 0) ↔ T (none rs)
+pub unapplied : (rs : List Row) → T (once rs) → (first rs ≡ 0) ↔ T (noRow rs)
 unapplied [] o = (λ e. tt, λ t. refl)
 unapplied (r ∷ rs) o = go (r .applies) (unapplied rs (once-rest r rs o))
   where
-    go : (a : Bool) → (first rs ≡ 0) ↔ T (none rs) → (cond a (r .gives) (first rs) ≡ 0) ↔ T (not a && none rs)
+    go : (a : Bool) → (first rs ≡ 0) ↔ T (noRow rs) → (cond a (r .gives) (first rs) ≡ 0) ↔ T (not a && noRow rs)
     go true rest = (λ e. absurd (once-nonzero r rs o e), λ t. absurd t)
     go false rest = rest
 
 -- Where no row applies, none does by its number.
-pub none-applies : (rs : List Row) → T (none rs) → (n : ℕ) → applies n rs ≡ false
+pub none-applies : (rs : List Row) → T (noRow rs) → (n : ℕ) → applies n rs ≡ false
 none-applies [] t n = refl
 none-applies (r ∷ rs) t n = go (r .applies) (eqb (r .gives) n) t (λ u. none-applies rs u n)
   where
-    go : (a b : Bool) → T (not a && none rs) → (T (none rs) → applies n rs ≡ false) → cond b a (applies n rs) ≡ false
+    go : (a b : Bool) → T (not a && noRow rs) → (T (noRow rs) → applies n rs ≡ false) → cond b a (applies n rs) ≡ false
     go true b u rest = absurd u
     go false true u rest = refl
     go false false u rest = rest u

@@ -12,8 +12,8 @@ abbrev pub NumberComesBack : Type 0
 NumberComesBack = (count n : ℕ) → n < 256 ^ count → le (toLe count n) ≡ n
 
 -- A list of bytes is the bytes of the number that it stands for.
-abbrev pub BytesComeBack : Type 0
-BytesComeBack = (l : List ℕ) → Bytes l → toLe (length l) (le l) ≡ l
+abbrev pub DigitsComeBack : Type 0
+DigitsComeBack = (l : List ℕ) → Bytes l → toLe (length l) (le l) ≡ l
 
 -- A list of bytes stands for a number that fits in as many bytes.
 abbrev pub NumberFits : Type 0

@@ -1,5 +1,4 @@
 pub mod Parts
-pub mod Tests
 pub mod Table
 pub mod Le
 pub mod Claims

@@ -1,10 +1,21 @@
--- A table of numbered refusals, as data: rows in the order in which they are checked (the sheet, "When the store says no": "a number is
--- given exactly when its row applies and no earlier row does").
+-- Lists of tests, one for each sentence of a rule.
 -- Assumes nothing.
-use Prim.Native.Nat.{ℕ, zero, suc}
 use mathlib.Core.List.{List, [], _∷_}
-use mathlib.Core.Bool.{Bool, true, false, cond, not, _&&_, _||_}
+use mathlib.Core.Bool.{Bool, true, _&&_, false, cond, not, _||_}
+use Prim.Native.Nat.{ℕ, zero, suc}
 use lib.Dec.{eqb}
+
+-- b and every test of the list, joined from the left, as `b & t & u` of the code is.
+unfoldable pub allFrom : Bool → List Bool → Bool
+allFrom b [] = b
+allFrom b (t ∷ ts) = allFrom (b && t) ts
+
+-- Every test of the list holds.
+unfoldable pub all : List Bool → Bool
+all ts = allFrom true ts
+
+-- ---- A table of numbered refusals, as data: rows in the order in which they are checked (the sheet, "When the store says no": "a number is
+-- given exactly when its row applies and no earlier row does").
 
 pub record Row : Type 0 where
   pub applies : Bool
@@ -19,9 +30,9 @@ first [] = 0
 first (r ∷ rows) = cond (r .applies) (r .gives) (first rows)
 
 -- No row of the list applies.
-abbrev pub none : List Row → Bool
-none [] = true
-none (r ∷ rows) = not (r .applies) && none rows
+abbrev pub noRow : List Row → Bool
+noRow [] = true
+noRow (r ∷ rows) = not (r .applies) && noRow rows
 
 -- The row with this number applies.
 abbrev pub applies : ℕ → List Row → Bool

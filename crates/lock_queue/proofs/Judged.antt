@@ -10,14 +10,13 @@ use lib.ListN.{drop}
 use Rattle.lists.proofs.Tests.{or-fails}
 use Rattle.lists.proofs.Table.{unapplied, none-applies, settled-old}
 use Rattle.lists.specs.Table.{Row, row, first, applies, once}
-use Rattle.queue_state.proofs.Standing.{stands-below}
-use Rattle.queue_good.proofs.Checks.{Good, good-out, good-count}
-use Rattle.queue_state.specs.Queue.{State, mostPlaces, standing, desks, firstPlace, stands}
-use Rattle.queue_good.specs.Checks.{good}
-use Rattle.queue_state.specs.declared.Waiting.{Waiting}
-use Rattle.queue_effects.specs.Effects.{joined, without}
-use Rattle.lock_queue.specs.Requests.{asking, leaving, answered, blank, Request, asks, leaves, rows, sender, accepted, number, after, answer}
-use Rattle.lock_queue.specs.declared.Answer.{Answer}
+use Rattle.lock_queue.proofs.Standing.{stands-below}
+use Rattle.lock_queue.proofs.Checks.{Good, good-out, good-count}
+use Rattle.lock_queue.specs.Queue.{State, mostPlaces, standing, desks, firstPlace, stands}
+use Rattle.lock_queue.specs.Good.{good}
+use Rattle.lock_queue.specs.declared.Waiting.{Waiting}
+use Rattle.lock_queue.specs.Requests.{joined, without, asking, leaving, answered, blankAnswer, Request, asks, leaves, queueRows, sender, applied, number, after, answer}
+use Rattle.lock_queue.specs.declared.LockAnswer.{LockAnswer}
 
 -- A number that is not that of the first row is given only where that row does not apply.
 pub first-passed : (a : Bool) (n : ℕ) (rs : List Row) → (first (row a n ∷ rs) ≡ n → ⊥) → a ≡ false
@@ -25,7 +24,7 @@ first-passed true n rs h = absurd (h refl)
 first-passed false n rs h = refl
 
 -- An answer that is not blank is not 10, so that the queue is good.
-pub shown-not-bad : (n : ℕ) → blank n ≡ false → n ≡ 10 → ⊥
+pub shown-not-bad : (n : ℕ) → blankAnswer n ≡ false → n ≡ 10 → ⊥
 shown-not-bad n e = eqb-false n 10 (or-fails (eqb n 10) (eqb n 1) e .0)
 
 module _ (lent : ℕ) (q : State) where
@@ -34,20 +33,20 @@ module _ (lent : ℕ) (q : State) where
   not-bad (asks new) h = not-false (good lent q) (first-passed (not (good lent q)) 10 (drop 1 (asking lent q new)) h)
   not-bad (leaves d) h = not-false (good lent q) (first-passed (not (good lent q)) 10 (drop 1 (leaving lent q d)) h)
 
-  pub each-once : (r : Request) → T (once (rows lent q r))
+  pub each-once : (r : Request) → T (once (queueRows lent q r))
   each-once (asks new) = tt
   each-once (leaves d) = tt
 
   -- Accepted: no row applies.
-  pub no-row : (r : Request) → number lent q r ≡ 0 → (n : ℕ) → applies n (rows lent q r) ≡ false
+  pub no-row : (r : Request) → number lent q r ≡ 0 → (n : ℕ) → applies n (queueRows lent q r) ≡ false
   unfolding number
-  no-row r e = none-applies (rows lent q r) (unapplied (rows lent q r) (each-once r) .0 e)
+  no-row r e = none-applies (queueRows lent q r) (unapplied (queueRows lent q r) (each-once r) .0 e)
 
   pub accepted-good : (r : Request) → number lent q r ≡ 0 → Good lent q
   accepted-good r e = good-out lent q (not-bad r (λ bad. absurd (omega arith)))
 
   -- A queue whose answer is not blank has at most 32 entries.
-  pub shown-fits : (r : Request) {n : ℕ} → n ≡ number lent q r → blank n ≡ false → q .count ≤ mostPlaces
+  pub shown-fits : (r : Request) {n : ℕ} → n ≡ number lent q r → blankAnswer n ≡ false → q .count ≤ mostPlaces
   shown-fits r e shown = good-count lent q (not-bad r (λ bad. shown-not-bad _ shown (e ∙ bad)))
 
   -- An accepted asker has a place, and one that leaves has had one.
@@ -71,23 +70,23 @@ module _ (lent : ℕ) (q : State) where
     stands-below d (q .count) (q .places) (leave-stands d e),
   )
 
-  pub accepted-fits : (r : Request) → number lent q r ≡ 0 → accepted r q .count ≤ mostPlaces
+  pub accepted-fits : (r : Request) → number lent q r ≡ 0 → applied r q .count ≤ mostPlaces
   unfolding joined without
   accepted-fits (asks new) e = omega (arith, ask-place new e)
   accepted-fits (leaves d) e = omega (arith, leave-place d e .0)
 
   -- ---- the queue after a request, and the whole outcome
 
-  pub accepted-after : (r : Request) → number lent q r ≡ 0 → after lent q r ≡ accepted r q
+  pub accepted-after : (r : Request) → number lent q r ≡ 0 → after lent q r ≡ applied r q
   unfolding after
   accepted-after r e = rw e
 
   pub refused-after : (r : Request) → (number lent q r ≡ 0 → ⊥) → after lent q r ≡ q
   unfolding after
-  refused-after r h = settled-old (accepted r q) q h
+  refused-after r h = settled-old (applied r q) q h
 
-  module _ (r : Request) {n d : ℕ} {ans : Answer} (number-is : n ≡ number lent q r) (sender-is : d ≡ sender r) where
-    pub accepted-outcome : {s : State} → n ≡ 0 → s ≡ accepted r q → ans ≡ answered n d q s → (ans ≡ answer lent q r) × (s ≡ after lent q r)
+  module _ (r : Request) {n d : ℕ} {ans : LockAnswer} (number-is : n ≡ number lent q r) (sender-is : d ≡ sender r) where
+    pub accepted-outcome : {s : State} → n ≡ 0 → s ≡ applied r q → ans ≡ answered n d q s → (ans ≡ answer lent q r) × (s ≡ after lent q r)
     unfolding answer
     accepted-outcome {s} e f a =
         let now : s ≡ after lent q r = f ∙ sym (accepted-after r (sym number-is ∙ e)) in

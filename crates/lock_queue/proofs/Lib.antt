@@ -1,1 +1,6 @@
+pub mod Array
+pub mod Standing
+pub mod Closing
+pub mod Behind
+pub mod Checks
 pub mod Judged

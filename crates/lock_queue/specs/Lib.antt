@@ -1,1 +1,3 @@
+pub mod Queue
 pub mod Requests
+pub mod Good

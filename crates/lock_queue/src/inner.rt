@@ -1,34 +1,5 @@
-ghost use mathlib.Core.Path.{_≡_};
-ghost use mathlib.Core.Bool.{false};
-ghost use Prim.Native.Nat.{_≤_};
-ghost use Rattle.queue_state.specs.Queue.{state, mostPlaces};
-ghost use Rattle.lock_queue.specs.Requests.{answered, blank};
-use crate::Answer;
-use queue_state::Queue;
-use queue_state::inner::holds;
-use queue_state::inner::looked;
-use stamps::Pair;
-
-// The answer with this number, for the queue at entry and the queue as it now is.
-pub fn answered(number: u8, desk: u32, entry: Queue, exit: Queue) -> Answer
-    requires { ⌜ (blank number ≡ false → (entry .count ≤ mostPlaces) × (exit .count ≤ mostPlaces)) ⌝ }
-    ensures { λ r. ⌜ r ≡ answered number desk (state entry) (state exit) ⌝ }
-{
-    if (number == 10) | (number == 1) {
-        return Answer {
-            number,
-            holds: false,
-            largest: Pair { s: 0, x: 0 },
-            looked: 0,
-        };
-    }
-    let before = entry.places;
-    let after = exit.places;
-    let largest = exit.largest;
-    Answer {
-        number,
-        holds: holds(after, exit.count, desk),
-        largest,
-        looked: looked(before, entry.count, desk),
-    }
-}
+// What other crates need, and what asks something of its caller.
+pub mod answer;
+pub mod effects;
+pub mod rules;
+pub mod state;

@@ -1,12 +1,13 @@
 ghost use mathlib.Core.Path.{_≡_};
 ghost use Prim.Native.Nat.{_≤_};
 ghost use lib.ListN.{take};
-ghost use Rattle.queue_state.specs.Queue.{state, mostPlaces, desks};
+ghost use Rattle.lock_queue.specs.Queue.{state, mostPlaces, desks};
 ghost use Rattle.lock_queue.specs.Requests.{already, full, asks, leaves, number};
-use queue_state::Places;
-use queue_state::Queue;
-use queue_state::Waiting;
-use queue_state::inner::stands;
+use crate::Places;
+use crate::Queue;
+use crate::Waiting;
+use crate::inner::rules;
+use crate::inner::state::stands;
 
 // Number 12's test. The mode makes no difference.
 fn already(mode: u8, places: Places, count: usize, desk: u32) -> bool
@@ -27,7 +28,7 @@ fn full(lent: usize, count: usize) -> bool
 pub fn ask_number(queue: Queue, lent: usize, new: Waiting) -> u8
     ensures { λ r. ⌜ r ≡ number lent (state queue) (asks new) ⌝ }
 {
-    if !queue_good::good(queue, lent) {
+    if !rules::good(queue, lent) {
         return 10;
     }
     let pair = new.pair;
@@ -57,7 +58,7 @@ pub fn ask_number(queue: Queue, lent: usize, new: Waiting) -> u8
 pub fn leave_number(queue: Queue, lent: usize, desk: u32) -> u8
     ensures { λ r. ⌜ r ≡ number lent (state queue) (leaves desk) ⌝ }
 {
-    if !queue_good::good(queue, lent) {
+    if !rules::good(queue, lent) {
         return 10;
     }
     let stood = queue.places;

@@ -4,17 +4,15 @@ use mathlib.Core.Path.{_≡_, refl, ap}
 use mathlib.Core.List.{List, [], _∷_, _++_, reverse, reverse-cons, reverse-append}
 use Rattle.lists.specs.Parts.{part, splice, table, spread, every, zeros}
 use Rattle.lists.specs.Le.{le, toLe}
-use Rattle.lists.specs.Tests.{all, allFrom}
+use Rattle.lists.specs.Table.{all, allFrom}
 use Rattle.commands.specs.Command.{wellFormed}
-use Rattle.command_bytes.specs.CommandBytes.{fieldsOf, payload, formed, commandBytes}
+use Rattle.commands.specs.Bytes.{fieldsOf, payload, formed, commandBytes}
 use Rattle.guard.specs.Entry.{entrySound}
 use Rattle.guard.specs.Judge.{raise}
-use Rattle.replies.specs.Replies.{replied}
-use Rattle.layout.specs.Layout.{shapeOk}
-use Rattle.image_write.specs.Write.{header, entryBytes, pad}
-use Rattle.image.specs.Image.{bodies, encode, cardAt, decode, tailZero, cardSound, headerSound, sound}
-use Rattle.image_read.specs.Read.{readEntry, entryAt}
-use Rattle.fresh.specs.Fresh.{fresh}
+use Rattle.guard.specs.Replies.{replied}
+use Rattle.image.specs.Layout.{shapeOk}
+use Rattle.image.specs.Bytes.{header, entryBytes, pad, readEntry, entryAt}
+use Rattle.image.specs.Image.{bodies, encode, cardAt, decode, tailZero, cardSound, headerSound, sound, fresh}
 use Rattle.model.specs.Serve.{stepped, serveBy, serve}
 use Rattle.model.specs.Cases.{run, RunLogged, Trials}
 use Rattle.model.specs.Words.{Sent, eventOf, imageAfter, history}

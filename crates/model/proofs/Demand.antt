@@ -8,10 +8,9 @@ use mathlib.Core.Bool.{true, false}
 use lib.Dec.{T}
 use lib.ListN.{length, length-replicate, getD-replicate}
 use Rattle.lists.proofs.Tests.{cases}
-use Rattle.image.specs.Image.{Cards, noCard}
-use Rattle.fresh.specs.Fresh.{fresh}
-use Rattle.image_claims.specs.Claims.{freshCards}
-use Rattle.layout.specs.Layout.{shapeOk}
+use Rattle.image.specs.Image.{Cards, noCard, fresh}
+use Rattle.image.specs.Image.{freshCards}
+use Rattle.image.specs.Layout.{shapeOk}
 use Rattle.image_claims.proofs.Claims.{freshSound}
 use Rattle.model.specs.Words.{Sent, Event, history, logOf, commandOf, late}
 use Rattle.model.specs.Claims.{AllBytes, Claim, Demand3}

@@ -6,8 +6,8 @@ use mathlib.Core.Logic.{_↔_}
 use mathlib.Core.List.{List}
 use lib.Dec.{T, leb, leb→le}
 use lib.ListN.{length}
-use Rattle.replies.specs.Replies.{replied}
-use Rattle.lists.specs.Table.{first, applies, earlier, none}
+use Rattle.guard.specs.Replies.{replied}
+use Rattle.lists.specs.Table.{first, applies, earlier, noRow}
 use Rattle.lists.proofs.Table.{given, unapplied, first-all}
 use Rattle.model.specs.Serve.{serveBy, serve, storeRows}
 use Rattle.model.specs.Claims.{Exactly, Refusals}
@@ -22,11 +22,11 @@ exactly image command reply =
     record {
       refused = λ n.
           subst
-          (λ (m : ℕ). (m ≡ suc n) ↔ (T (applies (suc n) (storeRows image command (length reply))) × T (none (earlier (suc n) (storeRows image command (length reply))))))
+          (λ (m : ℕ). (m ≡ suc n) ↔ (T (applies (suc n) (storeRows image command (length reply))) × T (noRow (earlier (suc n) (storeRows image command (length reply))))))
           (sym (number-is image command reply))
           (given (storeRows image command (length reply)) tt n);
       accepts =
-          subst (λ (m : ℕ). (m ≡ 0) ↔ T (none (storeRows image command (length reply)))) (sym (number-is image command reply))
+          subst (λ (m : ℕ). (m ≡ 0) ↔ T (noRow (storeRows image command (length reply)))) (sym (number-is image command reply))
           (unapplied (storeRows image command (length reply)) tt);
     }
 

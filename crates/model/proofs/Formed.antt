@@ -6,9 +6,9 @@ use Prim.Native.Nat.{ℕ}
 use borrow.Author.Tests.{eqb-true}
 use lib.Dec.{eqb}
 use Rattle.commands.specs.Command.{isWrite, wellFormed}
-use Rattle.command_bytes.specs.CommandBytes.{fieldsOf, formed}
+use Rattle.commands.specs.Bytes.{fieldsOf, formed}
 use Rattle.commands.specs.declared.Command.{Command}
-use Rattle.command_bytes.proofs.CommandBytes.{formedness}
+use Rattle.commands.proofs.CommandBytes.{formedness}
 use Rattle.commands.proofs.Rules.{CommandRules, command-rules}
 
 pub formed-well : (bytes : List ℕ) → formed bytes ≡ true → wellFormed (fieldsOf bytes) ≡ true

@@ -12,10 +12,10 @@ use lib.ListN.{length, getD, set, length-set}
 use lib.Seq.{getD-set-same, getD-set-other}
 use Rattle.lists.proofs.Tests.{cases, or-right, not-in, ltb-max}
 use Rattle.commands.specs.Command.{Language, original, translation, writes, update}
-use Rattle.command_bytes.specs.CommandBytes.{fieldsOf, formed, payload}
+use Rattle.commands.specs.Bytes.{fieldsOf, formed, payload}
 use Rattle.stamps.specs.Stamp.{noMark}
-use Rattle.guard.specs.Judge.{behind, textLength, rows, raise, judged}
-use Rattle.replies.specs.Replies.{replied}
+use Rattle.guard.specs.Judge.{behind, textLength, judgeRows, raise, judged}
+use Rattle.guard.specs.Replies.{replied}
 use Rattle.lists.specs.Table.{first, settled, applies}
 use Rattle.commands.specs.declared.Command.{Command}
 use Rattle.stamps.specs.declared.Pair.{Pair}
@@ -25,7 +25,7 @@ use Rattle.lists.proofs.Table.{unapplied, none-applies}
 use Rattle.image.specs.Image.{Card, Cards, text, noCard}
 use Rattle.model.specs.Serve.{cardOf, requestRows, stepped, cardsAfter, answerBy, replyBy}
 use Rattle.model.specs.Words.{Sent, Event, any, last, commandOf, accepted, outdated, lastText}
-use Rattle.command_bytes.proofs.CommandBytes.{length-payload}
+use Rattle.commands.proofs.CommandBytes.{length-payload}
 use Rattle.model.proofs.Formed.{formed-well, formed-rules}
 
 -- ---- one request
@@ -79,7 +79,7 @@ passed cs s e =
     there = not-false (ltb (fieldsOf (s .command) .card) (length (cs .cards))) (unapplied-row 2)
 
     -- Past rows 1 and 2 the entry's own table decides.
-    same : numberOn cs s ≡ first (rows (cardOf cs (fieldsOf (s .command)) .entry) (fieldsOf (s .command)) (cs .room) (length (s .lent)))
+    same : numberOn cs s ≡ first (judgeRows (cardOf cs (fieldsOf (s .command)) .entry) (fieldsOf (s .command)) (cs .room) (length (s .lent)))
     same = rw (is-formed, there, formed-well (s .command) is-formed)
 
 -- ---- texts and their lengths

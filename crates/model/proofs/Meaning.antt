@@ -9,7 +9,7 @@ use borrow.Author.Tests.{not-true, not-false, ltb-true, lt-ltb, eqb-true, eqb-fa
 use lib.Dec.{eqb, ltb}
 use Rattle.lists.proofs.Tests.{never-both, cases, and-in, and-left, and-right, or-left, or-right, or-cases, or-fails, not-in}
 use Rattle.commands.specs.Command.{verifier, update}
-use Rattle.command_bytes.specs.CommandBytes.{fieldsOf}
+use Rattle.commands.specs.Bytes.{fieldsOf}
 use Rattle.stamps.specs.Stamp.{shared, exclusive, deskNumber, deskStart, deskOf}
 use Rattle.commands.specs.declared.Command.{Command}
 use Rattle.stamps.specs.declared.Pair.{Pair}

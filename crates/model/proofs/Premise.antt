@@ -3,34 +3,32 @@ use mathlib.Core.Path.{refl}
 use mathlib.Core.List.{[]}
 use Rattle.lists.specs.Parts.{part, splice, table, spread, every, zeros}
 use Rattle.lists.specs.Le.{le, toLe}
-use Rattle.lists.specs.Tests.{all, allFrom}
+use Rattle.lists.specs.Table.{all, allFrom}
 use Rattle.commands.specs.Command.{wellFormed}
-use Rattle.command_bytes.specs.CommandBytes.{fieldsOf, payload, formed, commandBytes}
+use Rattle.commands.specs.Bytes.{fieldsOf, payload, formed, commandBytes}
 use Rattle.guard.specs.Entry.{entrySound}
 use Rattle.guard.specs.Judge.{raise}
-use Rattle.replies.specs.Replies.{replied}
+use Rattle.guard.specs.Replies.{replied}
 use Rattle.stamps.specs.Stamp.{stamp, shared, exclusive}
-use Rattle.layout.specs.Layout.{shapeOk}
-use Rattle.image_write.specs.Write.{header, entryBytes, pad}
-use Rattle.image.specs.Image.{bodies, encode, cardAt, decode, tailZero, cardSound, headerSound, sound}
-use Rattle.image_read.specs.Read.{readEntry, entryAt}
-use Rattle.fresh.specs.Fresh.{fresh}
+use Rattle.image.specs.Layout.{shapeOk}
+use Rattle.image.specs.Bytes.{header, entryBytes, pad, readEntry, entryAt}
+use Rattle.image.specs.Image.{bodies, encode, cardAt, decode, tailZero, cardSound, headerSound, sound, fresh}
 use Rattle.model.specs.Serve.{stepped, serveBy, serve}
 use Rattle.model.specs.Words.{Sent, Event, imageAfter, history, logOf}
-use Rattle.model.specs.Cases.{got, verify, first, sentD}
+use Rattle.model.specs.Cases.{got, verify, stamp1, sentD}
 use Rattle.model.specs.Claims.{Intruded, PremiseTells}
 
 -- An accepted event of trial d.
 abbrev event : Sent → Event
-event s = record { sent = s; answer = got 0 first first 0 0 0 0 0 [] .answer; reply = [] }
+event s = record { sent = s; answer = got 0 stamp1 stamp1 0 0 0 0 0 [] .answer; reply = [] }
 
 intruded : Intruded (logOf 1 16 sentD)
 unfolding logOf history imageAfter serve serveBy stepped sound headerSound cardSound tailZero decode cardAt entryAt readEntry encode bodies pad entryBytes header shapeOk fresh replied raise entrySound commandBytes formed payload fieldsOf wellFormed all allFrom le toLe part splice table spread every zeros
 intruded =
     record {
-      a = event (verify exclusive first first);
-      e = event (verify shared (stamp 0 2 0) first);
-      b = event (verify exclusive first first);
+      a = event (verify exclusive stamp1 stamp1);
+      e = event (verify shared (stamp 0 2 0) stamp1);
+      b = event (verify exclusive stamp1 stamp1);
       split = refl;
       first = refl;
       second = refl;

@@ -13,9 +13,9 @@ use Rattle.lists.specs.Parts.{splice}
 use Rattle.lists.proofs.Tests.{to-T, from-T, never-both}
 use Rattle.stamps.specs.Stamp.{stale, markFits}
 use Rattle.commands.specs.Command.{Language, original, translation, reads, writes, verifier}
-use Rattle.command_bytes.specs.CommandBytes.{fieldsOf}
+use Rattle.commands.specs.Bytes.{fieldsOf}
 use Rattle.guard.specs.Judge.{behind, textLength, raise}
-use Rattle.replies.specs.Replies.{readLength, replied}
+use Rattle.guard.specs.Replies.{readLength, replied}
 use Rattle.lists.specs.Table.{Row, applies}
 use Rattle.commands.specs.declared.Command.{Command}
 use Rattle.guard.specs.declared.Entry.{Entry}
@@ -50,10 +50,10 @@ read-only (translation zero) c e = let act = eqb-true (c .act) 2 e in (rw act, r
 read-only (translation (suc t)) c e = absurd (never-both e refl)
 
 -- The text that is read, and its length, which the command leaves as it is.
-read-text : (l : Language) (card : Card) (c : Command) → reads l c ≡ true → textRead card c ≡ text l card
-read-text original card c e = rw e
-read-text (translation zero) card c e = let act = eqb-true (c .act) 2 e in rw act
-read-text (translation (suc t)) card c e = absurd (never-both e refl)
+copy-text : (l : Language) (card : Card) (c : Command) → reads l c ≡ true → textRead card c ≡ text l card
+copy-text original card c e = rw e
+copy-text (translation zero) card c e = let act = eqb-true (c .act) 2 e in rw act
+copy-text (translation (suc t)) card c e = absurd (never-both e refl)
 
 read-length : (l : Language) (e : Entry) (c : Command) → reads l c ≡ true → readLength (raise e c) c ≡ textLength l e
 unfolding raise
@@ -135,7 +135,7 @@ module _ (cs : Cards) (s : Sent) (before : List Event) (ties : Ties cs before) w
   shown-text : (l : Language) → numberOn cs s ≡ 0 → reads l c ≡ true → take (length (text l stored)) (event .reply) ≡ text l stored
   shown-text l e r =
       subst (λ (n : ℕ). take (length (text l stored)) (eventBy n cs s .reply) ≡ text l stored) (sym e)
-      (rw (read-text l stored c r) (take-splice (text l stored) (s .lent)))
+      (rw (copy-text l stored c r) (take-splice (text l stored) (s .lent)))
 
   pub told : Told (length (cs .cards)) event before
   told =

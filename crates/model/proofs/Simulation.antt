@@ -10,18 +10,18 @@ use Rattle.lists.specs.Parts.{Bytes}
 use Rattle.lists.proofs.Bytes.{Bytes-nil, Bytes-drop}
 use Rattle.lists.proofs.Tests.{from-T}
 use Rattle.commands.specs.Command.{Language, original, translation, writes}
-use Rattle.command_bytes.specs.CommandBytes.{fieldsOf, payload, fixed}
+use Rattle.commands.specs.Bytes.{fieldsOf, payload, fixed}
 use Rattle.lists.specs.Table.{settled}
 use Rattle.commands.specs.declared.Command.{Command}
 use Rattle.guard.proofs.Raise.{raise-sound, raise-fits}
 use Rattle.image.specs.Image.{Card, Cards, text, encode, decode, sound}
-use Rattle.image_claims.specs.Claims.{GoodCard, GoodCards}
-use Rattle.image_claims.proofs.Cards.{good-with}
+use Rattle.image.specs.Image.{GoodCard, GoodCards}
+use Rattle.image.proofs.Cards.{good-with}
 use Rattle.image_claims.proofs.Claims.{goodEncodes}
 use Rattle.model.specs.Serve.{cardOf, stepped, cardsAfter, serveBy, serve}
 use Rattle.model.specs.Words.{Sent, eventOf, imageAfter, history}
 use Rattle.model.specs.Claims.{SentBytes, AllBytes}
-use Rattle.command_bytes.proofs.CommandBytes.{length-payload, fits-fields}
+use Rattle.commands.proofs.CommandBytes.{length-payload, fits-fields}
 use Rattle.model.proofs.Machine.{numberOn, eventBy, cardsBy, cardsFrom, eventsFrom, Passed, passed, Sized, sized-step}
 
 -- ---- cards stay by the rules

@@ -5,12 +5,11 @@ use Prim.Native.Nat.{ℕ}
 use mathlib.Core.Path.{_≡_}
 use mathlib.Core.List.{List, [], _∷_, _++_, map, reverse}
 use lib.ListN.{length, replicate}
-use Rattle.command_bytes.specs.CommandBytes.{commandBytes}
+use Rattle.commands.specs.Bytes.{commandBytes}
 use Rattle.stamps.specs.Stamp.{stamp, shared, exclusive, noMark, noPair}
-use Rattle.replies.specs.declared.Answer.{Answer}
+use Rattle.guard.specs.declared.Answer.{Answer}
 use Rattle.stamps.specs.declared.Pair.{Pair}
-use Rattle.image.specs.Image.{encode}
-use Rattle.fresh.specs.Fresh.{fresh}
+use Rattle.image.specs.Image.{encode, fresh}
 use Rattle.model.specs.Serve.{serve}
 use Rattle.model.specs.Words.{Sent, Event, history}
 
@@ -42,11 +41,11 @@ pub record Trial : Type 0 where
 -- ---- requests
 
 -- "A = (1.1.0, 0), A' = (1.1.0, 1.1.0), B = (2.2.0, 1.1.0), B' = (2.2.0, 2.2.0)", by the stamps 1.1.0 and 2.2.0.
-abbrev pub first : ℕ
-first = stamp 1 1 0
+abbrev pub stamp1 : ℕ
+stamp1 = stamp 1 1 0
 
-abbrev pub second : ℕ
-second = stamp 2 2 0
+abbrev pub stamp2 : ℕ
+stamp2 = stamp 2 2 0
 
 abbrev pub pair : ℕ → ℕ → Pair
 pair s x = record { s = s; x = x }
@@ -75,10 +74,10 @@ abbrev pub verify : ℕ → ℕ → ℕ → Sent
 verify mode s x = request 5 mode (pair s x) 0 [] []
 
 abbrev pub readOriginal : List ℕ → Sent
-readOriginal lent = request 1 shared (pair second first) 0 [] lent
+readOriginal lent = request 1 shared (pair stamp2 stamp1) 0 [] lent
 
 abbrev pub readTranslation : List ℕ → Sent
-readTranslation lent = request 2 shared (pair second first) 0 [] lent
+readTranslation lent = request 2 shared (pair stamp2 stamp1) 0 [] lent
 
 abbrev pub writeOriginal : ℕ → ℕ → List ℕ → Sent
 writeOriginal s x text = request 3 exclusive (pair s x) 0 text []
@@ -138,32 +137,32 @@ long n = replicate n 97
 
 -- Both texts written by A'.
 abbrev pub bothWritten : List Sent
-bothWritten = writeOriginal first first text205 ∷ writeTranslation first first 1 text401 ∷ []
+bothWritten = writeOriginal stamp1 stamp1 text205 ∷ writeTranslation stamp1 stamp1 1 text401 ∷ []
 
 abbrev pub bothGot : List Got
-bothGot = got 0 first first 0 0 1 0 0 [] ∷ got 0 first first 0 0 1 1 0 [] ∷ []
+bothGot = got 0 stamp1 stamp1 0 0 1 0 0 [] ∷ got 0 stamp1 stamp1 0 0 1 1 0 [] ∷ []
 
 -- ---- the table
 
 -- "a: shared A twice, exclusive A', shared B, exclusive B' twice: all 0."
 abbrev pub sentA : List Sent
 sentA =
-    verify shared first 0
-    ∷ verify shared first 0
-    ∷ verify exclusive first first
-    ∷ verify shared second first
-    ∷ verify exclusive second second
-    ∷ verify exclusive second second
+    verify shared stamp1 0
+    ∷ verify shared stamp1 0
+    ∷ verify exclusive stamp1 stamp1
+    ∷ verify shared stamp2 stamp1
+    ∷ verify exclusive stamp2 stamp2
+    ∷ verify exclusive stamp2 stamp2
     ∷ []
 
 abbrev pub gotA : List Got
 gotA =
-    got 0 first 0 0 0 0 0 0 []
-    ∷ got 0 first 0 0 0 0 0 0 []
-    ∷ got 0 first first 0 0 0 0 0 []
-    ∷ got 0 second first 0 0 0 0 0 []
-    ∷ got 0 second second 0 0 0 0 0 []
-    ∷ got 0 second second 0 0 0 0 0 []
+    got 0 stamp1 0 0 0 0 0 0 []
+    ∷ got 0 stamp1 0 0 0 0 0 0 []
+    ∷ got 0 stamp1 stamp1 0 0 0 0 0 []
+    ∷ got 0 stamp2 stamp1 0 0 0 0 0 []
+    ∷ got 0 stamp2 stamp2 0 0 0 0 0 []
+    ∷ got 0 stamp2 stamp2 0 0 0 0 0 []
     ∷ []
 
 abbrev pub trialA : Trial
@@ -174,8 +173,8 @@ abbrev pub trialB : Trial
 trialB =
     record {
       start = empty;
-      sent = sentA ++ (verify exclusive first first ∷ []);
-      expected = gotA ++ (got 3 second second 0 0 0 0 0 [] ∷ []);
+      sent = sentA ++ (verify exclusive stamp1 stamp1 ∷ []);
+      expected = gotA ++ (got 3 stamp2 stamp2 0 0 0 0 0 [] ∷ []);
     }
 
 -- "c: shared A, shared (2.2.0, 0), shared A: 0; exclusive A': 3."
@@ -183,18 +182,18 @@ abbrev pub trialC : Trial
 trialC =
     record {
       start = empty;
-      sent = verify shared first 0 ∷ verify shared second 0 ∷ verify shared first 0 ∷ verify exclusive first first ∷ [];
+      sent = verify shared stamp1 0 ∷ verify shared stamp2 0 ∷ verify shared stamp1 0 ∷ verify exclusive stamp1 stamp1 ∷ [];
       expected =
-          got 0 first 0 0 0 0 0 0 []
-          ∷ got 0 second 0 0 0 0 0 0 []
-          ∷ got 0 second 0 0 0 0 0 0 []
-          ∷ got 3 second 0 0 0 0 0 0 []
+          got 0 stamp1 0 0 0 0 0 0 []
+          ∷ got 0 stamp2 0 0 0 0 0 0 []
+          ∷ got 0 stamp2 0 0 0 0 0 0 []
+          ∷ got 3 stamp2 0 0 0 0 0 0 []
           ∷ [];
     }
 
 -- "d: exclusive A', shared (0.2.0, 1.1.0), exclusive A': all 0."
 abbrev pub sentD : List Sent
-sentD = verify exclusive first first ∷ verify shared (stamp 0 2 0) first ∷ verify exclusive first first ∷ []
+sentD = verify exclusive stamp1 stamp1 ∷ verify shared (stamp 0 2 0) stamp1 ∷ verify exclusive stamp1 stamp1 ∷ []
 
 abbrev pub trialD : Trial
 trialD =
@@ -202,16 +201,16 @@ trialD =
       start = empty;
       sent = sentD;
       expected =
-          got 0 first first 0 0 0 0 0 []
-          ∷ got 0 first first 0 0 0 0 0 []
-          ∷ got 0 first first 0 0 0 0 0 []
+          got 0 stamp1 stamp1 0 0 0 0 0 []
+          ∷ got 0 stamp1 stamp1 0 0 0 0 0 []
+          ∷ got 0 stamp1 stamp1 0 0 0 0 0 []
           ∷ [];
     }
 
 -- "e: read original at edition 0: 0, length 0."
 abbrev pub trialE : Trial
 trialE =
-    record { start = empty; sent = readOriginal (long 2) ∷ []; expected = got 0 second first 0 0 0 0 0 (long 2) ∷ [] }
+    record { start = empty; sent = readOriginal (long 2) ∷ []; expected = got 0 stamp2 stamp1 0 0 0 0 0 (long 2) ∷ [] }
 
 -- "f: read translation there: 6."
 abbrev pub trialF : Trial
@@ -221,34 +220,34 @@ trialF =
 -- "g: payload C: 0."
 abbrev pub trialG : Trial
 trialG =
-    record { start = empty; sent = writeOriginal first first (long 16) ∷ []; expected = got 0 first first 0 0 1 0 0 [] ∷ [] }
+    record { start = empty; sent = writeOriginal stamp1 stamp1 (long 16) ∷ []; expected = got 0 stamp1 stamp1 0 0 1 0 0 [] ∷ [] }
 
 -- "h: C + 1: 5,
 abbrev pub trialH : Trial
 trialH =
-    record { start = empty; sent = writeOriginal first first (long 17) ∷ []; expected = got 5 0 0 0 0 0 0 0 [] ∷ [] }
+    record { start = empty; sent = writeOriginal stamp1 stamp1 (long 17) ∷ []; expected = got 5 0 0 0 0 0 0 0 [] ∷ [] }
 
 -- or 3 if stale as well."
 abbrev pub trialHStale : Trial
 trialHStale =
     record {
       start = empty;
-      sent = verify exclusive second second ∷ writeOriginal first first (long 17) ∷ [];
-      expected = got 0 second second 0 0 0 0 0 [] ∷ got 3 second second 0 0 0 0 0 [] ∷ [];
+      sent = verify exclusive stamp2 stamp2 ∷ writeOriginal stamp1 stamp1 (long 17) ∷ [];
+      expected = got 0 stamp2 stamp2 0 0 0 0 0 [] ∷ got 3 stamp2 stamp2 0 0 0 0 0 [] ∷ [];
     }
 
 -- "i: edition 65,534 written: 0, now 65,535;
 abbrev pub trialI : Trial
 trialI =
-    record { start = nearlyLast; sent = writeOriginal first first text205 ∷ []; expected = got 0 first first 0 0 65535 0 0 [] ∷ [] }
+    record { start = nearlyLast; sent = writeOriginal stamp1 stamp1 text205 ∷ []; expected = got 0 stamp1 stamp1 0 0 65535 0 0 [] ∷ [] }
 
 -- j: written again: 7."
 abbrev pub trialJ : Trial
 trialJ =
     record {
       start = nearlyLast;
-      sent = writeOriginal first first text205 ∷ writeOriginal first first text205 ∷ [];
-      expected = got 0 first first 0 0 65535 0 0 [] ∷ got 7 first first 0 0 65535 0 0 [] ∷ [];
+      sent = writeOriginal stamp1 stamp1 text205 ∷ writeOriginal stamp1 stamp1 text205 ∷ [];
+      expected = got 0 stamp1 stamp1 0 0 65535 0 0 [] ∷ got 7 stamp1 stamp1 0 0 65535 0 0 [] ∷ [];
     }
 
 -- "k: reply buffer as long as the text: 0;" for each language,
@@ -257,7 +256,7 @@ trialKOriginal =
     record {
       start = empty;
       sent = bothWritten ++ (readOriginal (long 3) ∷ []);
-      expected = bothGot ++ (got 0 second first 0 0 1 1 3 text205 ∷ []);
+      expected = bothGot ++ (got 0 stamp2 stamp1 0 0 1 1 3 text205 ∷ []);
     }
 
 abbrev pub trialKTranslation : Trial
@@ -265,7 +264,7 @@ trialKTranslation =
     record {
       start = empty;
       sent = bothWritten ++ (readTranslation (long 3) ∷ []);
-      expected = bothGot ++ (got 0 second first 0 0 1 1 3 text401 ∷ []);
+      expected = bothGot ++ (got 0 stamp2 stamp1 0 0 1 1 3 text401 ∷ []);
     }
 
 -- "l: one byte less: 8." for each language.
@@ -274,7 +273,7 @@ trialLOriginal =
     record {
       start = empty;
       sent = bothWritten ++ (readOriginal (long 2) ∷ []);
-      expected = bothGot ++ (got 8 first first 0 0 1 1 0 (long 2) ∷ []);
+      expected = bothGot ++ (got 8 stamp1 stamp1 0 0 1 1 0 (long 2) ∷ []);
     }
 
 abbrev pub trialLTranslation : Trial
@@ -282,7 +281,7 @@ trialLTranslation =
     record {
       start = empty;
       sent = bothWritten ++ (readTranslation (long 2) ∷ []);
-      expected = bothGot ++ (got 8 first first 0 0 1 1 0 (long 2) ∷ []);
+      expected = bothGot ++ (got 8 stamp1 stamp1 0 0 1 1 0 (long 2) ∷ []);
     }
 
 -- Case P: "exclusive write of original `205` by (1.1.0, 1.1.0); shared read of translation by (2.2.0, 1.1.0); exclusive write of translation
@@ -292,10 +291,10 @@ caseP =
     record {
       start = empty;
       sent =
-          writeOriginal first first text205
+          writeOriginal stamp1 stamp1 text205
           ∷ readTranslation (long 16)
-          ∷ writeTranslation second second 1 text401
-          ∷ writeOriginal first first text205
+          ∷ writeTranslation stamp2 stamp2 1 text401
+          ∷ writeOriginal stamp1 stamp1 text205
           ∷ [];
       expected =
           got 0 4295032832 4295032832 0 0 1 0 0 []
@@ -311,8 +310,8 @@ abbrev pub slipByLength : Trial
 slipByLength =
     record {
       start = empty;
-      sent = bothWritten ++ (writeOriginal first first text205 ∷ readTranslation (long 3) ∷ []);
-      expected = bothGot ++ (got 0 first first 0 0 2 1 0 [] ∷ got 6 first first 0 0 2 1 0 (long 3) ∷ []);
+      sent = bothWritten ++ (writeOriginal stamp1 stamp1 text205 ∷ readTranslation (long 3) ∷ []);
+      expected = bothGot ++ (got 0 stamp1 stamp1 0 0 2 1 0 [] ∷ got 6 stamp1 stamp1 0 0 2 1 0 (long 3) ∷ []);
     }
 
 -- "Storing the command's pair in place of the larger of each: a shared command with a small s would then reopen the card to an older exclusive
@@ -321,11 +320,11 @@ abbrev pub slipCommandPair : Trial
 slipCommandPair =
     record {
       start = empty;
-      sent = verify exclusive second first ∷ verify shared (stamp 0 2 0) first ∷ verify exclusive first first ∷ [];
+      sent = verify exclusive stamp2 stamp1 ∷ verify shared (stamp 0 2 0) stamp1 ∷ verify exclusive stamp1 stamp1 ∷ [];
       expected =
-          got 0 second first 0 0 0 0 0 []
-          ∷ got 0 second first 0 0 0 0 0 []
-          ∷ got 3 second first 0 0 0 0 0 []
+          got 0 stamp2 stamp1 0 0 0 0 0 []
+          ∷ got 0 stamp2 stamp1 0 0 0 0 0 []
+          ∷ got 3 stamp2 stamp1 0 0 0 0 0 []
           ∷ [];
     }
 
@@ -334,8 +333,8 @@ abbrev pub slipRaised : Trial
 slipRaised =
     record {
       start = empty;
-      sent = bothWritten ++ (readOriginal (long 2) ∷ verify exclusive first first ∷ []);
-      expected = bothGot ++ (got 8 first first 0 0 1 1 0 (long 2) ∷ got 0 first first 0 0 1 1 0 [] ∷ []);
+      sent = bothWritten ++ (readOriginal (long 2) ∷ verify exclusive stamp1 stamp1 ∷ []);
+      expected = bothGot ++ (got 8 stamp1 stamp1 0 0 1 1 0 (long 2) ∷ got 0 stamp1 stamp1 0 0 1 1 0 [] ∷ []);
     }
 
 abbrev pub trials : List Trial

@@ -9,8 +9,8 @@ use lib.ListN.{length, take}
 use lib.Dec.{T}
 use Rattle.lists.specs.Parts.{Bytes}
 use Rattle.commands.specs.Command.{Language, translation, reads}
-use Rattle.lists.specs.Table.{applies, earlier, none as noRow}
-use Rattle.layout.specs.Layout.{shapeOk}
+use Rattle.lists.specs.Table.{applies, earlier, noRow}
+use Rattle.image.specs.Layout.{shapeOk}
 use Rattle.image.specs.Image.{sound}
 use Rattle.model.specs.Serve.{serve, storeRows}
 use Rattle.model.specs.Words.{

@@ -7,11 +7,12 @@ use lib.ListN.{length, getD}
 use lib.Dec.{ltb}
 use Rattle.lists.specs.Parts.{splice}
 use Rattle.commands.specs.Command.{original, translation, reads, writes}
-use Rattle.command_bytes.specs.CommandBytes.{fieldsOf, payload, formed}
+use Rattle.commands.specs.Bytes.{fieldsOf, payload, formed}
 use Rattle.lists.specs.Table.{Row, row, first, settled}
-use Rattle.guard.specs.Judge.{entryRows, raise}
-use Rattle.replies.specs.Replies.{replied}
-use Rattle.replies.specs.declared.Answer.{Answer}
+use Rattle.stamps.specs.Stamp.{MALFORMED}
+use Rattle.guard.specs.Judge.{NO-CARD, UNSOUND, entryRows, raise}
+use Rattle.guard.specs.Replies.{replied}
+use Rattle.guard.specs.declared.Answer.{Answer}
 use Rattle.commands.specs.declared.Command.{Command}
 use Rattle.image.specs.Image.{Card, Cards, text, withCard, noCard, encode, decode, sound}
 
@@ -22,18 +23,15 @@ cardOf cs c = getD (cs .cards) (c .card) noCard
 -- Rows 1 to 8 of the table, on a store's cards, a command's lent bytes and the length of the lent reply buffer.
 abbrev pub requestRows : Cards → List ℕ → ℕ → List Row
 requestRows cs command lent =
-    -- 1: command malformed
-    row (not (formed command)) 1
-    -- 2: card is N or more
-    ∷ row (not (ltb (fieldsOf command .card) (length (cs .cards)))) 2
+    row (not (formed command)) MALFORMED
+    ∷ row (not (ltb (fieldsOf command .card) (length (cs .cards)))) NO-CARD
     -- 3 to 8
     ∷ entryRows (cardOf cs (fieldsOf command) .entry) (fieldsOf command) (cs .room) lent
 
 -- The whole table.
 abbrev pub storeRows : List ℕ → List ℕ → ℕ → List Row
 storeRows image command lent =
-    -- 9: image not sound
-    row (not (sound image)) 9
+    row (not (sound image)) UNSOUND
     ∷ requestRows (decode image) command lent
 
 -- The text that a command reads.

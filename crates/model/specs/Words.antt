@@ -7,10 +7,10 @@ use mathlib.Core.Bool.{Bool, true, false, cond, not, _&&_, _||_}
 use lib.Dec.{ltb, eqb}
 use Rattle.stamps.specs.Stamp.{shared, exclusive, deskStart, noMark, markFits}
 use Rattle.commands.specs.Command.{Language, original, translation, writes, verifier, update, session}
-use Rattle.command_bytes.specs.CommandBytes.{fieldsOf, payload, formed}
-use Rattle.replies.specs.declared.Answer.{Answer}
+use Rattle.commands.specs.Bytes.{fieldsOf, payload, formed}
+use Rattle.guard.specs.declared.Answer.{Answer}
 use Rattle.commands.specs.declared.Command.{Command}
-use Rattle.fresh.specs.Fresh.{fresh}
+use Rattle.image.specs.Image.{fresh}
 use Rattle.model.specs.Serve.{Outcome, serve}
 
 -- A request as it is sent: "any lent bytes .., with a reply buffer of any length and content".

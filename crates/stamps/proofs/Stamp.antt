@@ -6,7 +6,7 @@ use mathlib.Core.Logic.{_⊎_, inl, inr}
 use mathlib.Core.Bool.{true, false, _&&_}
 use borrow.Author.Tests.{ltb-true, ltb-false, ne-eqb, eqb-true, eqb-false, not-true}
 use lib.Dec.{T, ltb, eqb, lt→ltb, ltb→lt}
-use Rattle.lists.specs.Tests.{all}
+use Rattle.lists.specs.Table.{all}
 use Rattle.lists.proofs.Tests.{cases, not-in, or-right, or-cases, all-out, T-and, T-and-left, T-and-right, T-or-left, T-or-right, T-or-cases}
 use Rattle.stamps.specs.Stamp.{stamp, deskNumber, deskStart, stampValid, shared, exclusive, own, sessionChecks, stale, largerOfEach}
 use Rattle.stamps.specs.declared.Pair.{Pair}

@@ -48,6 +48,10 @@ sessionChecks mode pair =
     ∷ not (eqb (own mode pair) 0)
     ∷ []
 
+-- The number of what breaks these rules, in the store and in the lock queue alike.
+abbrev pub MALFORMED : ℕ
+MALFORMED = 1
+
 -- "Shared is stale if its x is below the stored x; exclusive is stale if its s or its x is below the stored one. Equal is not stale."
 -- Minuet: EBADSESSION.
 abbrev pub stale : ℕ → Pair → Pair → Bool

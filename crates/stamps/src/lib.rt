@@ -1,7 +1,7 @@
 // Stamps, pairs of stamps and commit marks: what a session is named by, when a pair is stale, and what the stored pair becomes.
 ghost use mathlib.Core.Path.{_≡_};
 ghost use Prim.Native.Nat.{max};
-ghost use Rattle.lists.specs.Tests.{all};
+ghost use Rattle.lists.specs.Table.{all};
 ghost use Rattle.stamps.specs.Stamp.{stampValid, own, deskOf, sessionChecks, stale, largerOfEach, markWhole, markFits};
 
 // A shared stamp s and an exclusive stamp x (Minuet: a session identifier). Zero means none.
@@ -20,6 +20,9 @@ pub struct Mark {
 pub const SHARED: u8 = 1;
 
 pub const EXCLUSIVE: u8 = 2;
+
+// The number of a mode or of stamps that break the rules.
+pub const MALFORMED: u8 = 1;
 
 // A stamp is T.desk.start: 32, 16 and 16 bits, T highest. So many numbers a start, a desk, and a desk with its start have.
 const STARTS: u64 = 65536;

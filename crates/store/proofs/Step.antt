@@ -12,21 +12,21 @@ use lib.Dec.{ltb}
 use Rattle.lists.specs.Parts.{splice}
 use Rattle.lists.proofs.Tests.{cases, never-both}
 use Rattle.commands.specs.Command.{Language, original, translation, reads}
-use Rattle.command_bytes.specs.CommandBytes.{fieldsOf, payload, formed, parsed, fixed}
+use Rattle.commands.specs.Bytes.{fieldsOf, payload, formed, parsed, fixed}
 use Rattle.lists.specs.Table.{first}
-use Rattle.guard.specs.Judge.{rows, overruns, raise, judged}
-use Rattle.replies.specs.Replies.{readLength, replied, refused}
-use Rattle.replies.specs.declared.Answer.{Answer}
+use Rattle.guard.specs.Judge.{judgeRows, overruns, raise, judged}
+use Rattle.guard.specs.Replies.{readLength, replied, refused}
+use Rattle.guard.specs.declared.Answer.{Answer}
 use Rattle.commands.specs.declared.Command.{Command}
 use Rattle.guard.specs.declared.Entry.{Entry}
 use Rattle.guard.specs.declared.Judged.{Judged}
-use Rattle.command_bytes.specs.declared.Parsed.the-variants.{Malformed, Formed}
-use Rattle.command_bytes.proofs.CommandBytes.{parsed-formed, parsed-malformed, formed-short}
+use Rattle.commands.specs.declared.Parsed.the-variants.{Malformed, Formed}
+use Rattle.commands.proofs.CommandBytes.{parsed-formed, parsed-malformed, formed-short}
 use Rattle.guard.proofs.Judge.{Accepted, accepted, accepted-raises}
 use Rattle.lists.proofs.Table.{settled-old}
 use Rattle.image.specs.Image.{Card, withCard, cardAt, encode, decode, sound}
-use Rattle.image_read.specs.Read.{entryAt, countOf, roomOf}
-use Rattle.image_claims.proofs.Decode.{count-decode, card-decode}
+use Rattle.image.specs.Bytes.{entryAt, countOf, roomOf}
+use Rattle.image.proofs.Decode.{count-decode, card-decode}
 use Rattle.store.specs.Carried.{judgedAt, carried}
 use Rattle.model.specs.Serve.{Outcome, cardOf, textRead, stepped, storeRows, serveBy, serve}
 use Rattle.model.proofs.Formed.{formed-well}
@@ -101,7 +101,7 @@ module _ (image command : List ℕ) (lent : ℕ) where
       sound image ≡ true → formed command ≡ true
       → ltb (fieldsOf command .card) (countOf image) ≡ true
       → first (storeRows image command lent)
-      ≡ first (rows (cardOf (decode image) (fieldsOf command) .entry) (fieldsOf command) (decode image .room) lent)
+      ≡ first (judgeRows (cardOf (decode image) (fieldsOf command) .entry) (fieldsOf command) (decode image .room) lent)
   first-judged e f g = rw (e, f, count-decode image, g, formed-well command f)
 
 -- ---- what a request leaves, by the tests
@@ -135,7 +135,7 @@ module _ (image command reply : List ℕ) where
       (card : Card) → cardOf (decode image) (fieldsOf command) ≡ card
       → cardAt image (fieldsOf command .card) ≡ card
       → entryAt image (fieldsOf command .card) ≡ card .entry
-      → serveBy (first (rows (card .entry) (fieldsOf command) (roomOf image) (length reply))) image command reply
+      → serveBy (first (judgeRows (card .entry) (fieldsOf command) (roomOf image) (length reply))) image command reply
       ≡ carried image (fieldsOf command) (payload command) reply
   unfolding serveBy judged carried
   by-judged card h g f = rw (h, g, f)
@@ -146,10 +146,10 @@ module _ (image command reply : List ℕ) where
   unfolding decode cardAt
   serve-carried e f g =
       serve-by
-      (first (rows (cardAt image (fieldsOf command .card) .entry) (fieldsOf command) (roomOf image) (length reply)))
+      (first (judgeRows (cardAt image (fieldsOf command .card) .entry) (fieldsOf command) (roomOf image) (length reply)))
       (first-judged image command (length reply) e f (lt-ltb (fieldsOf command .card) (countOf image) g)
       ∙ ap
-      (λ (card : Card). first (rows (card .entry) (fieldsOf command) (roomOf image) (length reply)))
+      (λ (card : Card). first (judgeRows (card .entry) (fieldsOf command) (roomOf image) (length reply)))
       (card-decode image (fieldsOf command .card) g))
       ∙ by-judged (cardAt image (fieldsOf command .card)) (card-decode image (fieldsOf command .card) g) refl refl
 

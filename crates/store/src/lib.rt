@@ -3,17 +3,17 @@ pub mod inner;
 
 ghost use mathlib.Core.Path.{_≡_};
 ghost use Rattle.model.specs.Serve.{serve};
-use guard::entries::UNSOUND;
+use guard::UNSOUND;
 
 // One request: a command judged on an image. It gives the number and the seven reply fields, and leaves the image and the reply buffer as
 // the sheet says; every refusal leaves both as they were.
-pub fn answer(image: &mut [u8], command: &[u8], reply: &mut [u8]) -> replies::Answer
+pub fn answer(image: &mut [u8], command: &[u8], reply: &mut [u8]) -> guard::Answer
     ensures answer { λ r. ⌜ r ≡ serve (now (image .entry)) (now (command .entry)) (now (reply .entry)) .answer ⌝ }
     ensures image { λ _. ⌜ now (image .exit) ≡ serve (now (image .entry)) (now (command .entry)) (now (reply .entry)) .image ⌝ }
     ensures reply { λ _. ⌜ now (reply .exit) ≡ serve (now (image .entry)) (now (command .entry)) (now (reply .entry)) .reply ⌝ }
 {
     if !image::sound(image) {
-        return replies::refusal(UNSOUND);
+        return guard::refusal(UNSOUND);
     }
-    inner::step(image, command, reply)
+    inner::step::step(image, command, reply)
 }

@@ -12,7 +12,7 @@ use Rattle.lists.specs.Parts.{part}
 use Rattle.lists.specs.Le.{le}
 use Rattle.lists.proofs.Parts.{part-drop, part-take, part-append-left}
 use Rattle.lists.proofs.Tests.{and-in, and-right}
-use Rattle.command_bytes.specs.CommandBytes.{fixed}
+use Rattle.commands.specs.Bytes.{fixed}
 use Rattle.stream.specs.Stream.{extent, whole, nextAt}
 use Rattle.stream.specs.declared.Next.the-variants.{Whole, Cut}
 

@@ -6,10 +6,12 @@ use mathlib.Core.Bool.{Bool, cond, _&&_}
 use lib.Dec.{leb}
 use lib.ListN.{length, take, drop}
 use Rattle.lists.specs.Parts.{spread}
-use Rattle.command_bytes.specs.CommandBytes.{fixed}
+use Rattle.commands.specs.Bytes.{fixed}
 use Rattle.lists.specs.Le.{field}
 use Rattle.stream.specs.declared.Next.{Next}
 use Rattle.stream.specs.declared.Next.the-variants.{Whole, Cut}
+use denote.Ref.{RefT, now}
+use Rattle.stream.specs.declared.Reader.{Reader}
 
 -- How long the command is that begins these bytes. "Offset 50 is always taken as the payload's length, so a malformed command is answered
 -- and passed over."
@@ -54,3 +56,22 @@ endToEnd cs = spread (λ (c : List ℕ). c) cs
 -- The byte where the command with this number, counted from 0, begins.
 unfoldable pub placeOf : List ℕ → ℕ → ℕ
 placeOf stream i = length (endToEnd (take i (commands stream)))
+
+-- ---- "A reader that keeps the lent stream and its place" (the sheet, "Streams and the program").
+
+-- A reader at the first byte of a lent stream.
+abbrev pub begun : RefT (List ℕ) → Reader
+begun stream = record { stream = stream; at = 0 }
+
+-- A reader at another place of its stream.
+abbrev pub movedTo : Reader → ℕ → Reader
+movedTo r at = record { stream = r .stream; at = at }
+
+-- A reader that was asked for its next command and moved on behind it; where none is whole it stays.
+abbrev pub passed : Reader → Reader
+passed r = movedTo r (onward (r .at) (nextAt (now (r .stream)) (r .at)))
+
+-- The same, so many times.
+unfoldable pub steps : ℕ → Reader → Reader
+steps zero r = r
+steps (suc n) r = passed (steps n r)

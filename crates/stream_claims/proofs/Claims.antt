@@ -10,10 +10,9 @@ use lib.Seq.{length-take-le, drop-drop, take-at, drop-at, take-suc, take-length,
 use denote.Ref.{RefT, now}
 use Rattle.lists.specs.Parts.{part, spread}
 use Rattle.lists.proofs.Spread.{spread-append}
-use Rattle.command_bytes.specs.CommandBytes.{fixed}
-use Rattle.stream.specs.Stream.{extent, whole, nextAt, onward, commands, endOf, endToEnd, placeOf}
-use Rattle.stream_claims.specs.Claims.{OneCommand, Parts, First, Back, Stepping, Visits, Reads, Claims}
-use Rattle.reader.specs.Reader.{begun, movedTo, passed, steps}
+use Rattle.commands.specs.Bytes.{fixed}
+use Rattle.stream.specs.Stream.{extent, whole, nextAt, onward, commands, endOf, endToEnd, placeOf, begun, movedTo, passed, steps}
+use Rattle.stream_claims.specs.Claims.{OneCommand, Parts, First, Back, Stepping, Visits, Reads, StreamClaims}
 use Rattle.stream.specs.declared.Next.{Next}
 use Rattle.stream.specs.declared.Next.the-variants.{Whole}
 use Rattle.stream.proofs.Place.{extent-fixed, extent-take, extent-append, whole-in, whole-out, next-whole, next-cut, says-whole, says-cut}
@@ -223,5 +222,5 @@ module _ (stream : RefT (List ℕ)) where
         ends = λ i h. let past : i ≡ i - length (commands (now stream)) + length (commands (now stream)) = omega arith in rw past (reads-stays (i - length (commands (now stream))));
       }
 
-pub claims : Claims
+pub claims : StreamClaims
 claims = record { parts = parts; first = first; back = back; stepping = stepping; visits = visits; reads = reads }

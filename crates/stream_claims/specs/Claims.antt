@@ -7,10 +7,9 @@ use mathlib.Core.Bool.{false}
 use lib.ListN.{length, drop, getD}
 use denote.Ref.{RefT, now}
 use Rattle.lists.specs.Parts.{part}
-use Rattle.command_bytes.specs.CommandBytes.{fixed}
+use Rattle.commands.specs.Bytes.{fixed}
 use Rattle.lists.specs.Le.{field}
-use Rattle.stream.specs.Stream.{whole, nextAt, commands, endOf, endToEnd, placeOf}
-use Rattle.reader.specs.Reader.{begun, movedTo, steps}
+use Rattle.stream.specs.Stream.{whole, nextAt, commands, endOf, endToEnd, placeOf, begun, movedTo, steps}
 use Rattle.stream.specs.declared.Next.the-variants.{Whole, Cut}
 
 -- A list of bytes is one whole command, by its own length field.
@@ -55,7 +54,7 @@ pub record Reads (stream : RefT (List ℕ)) : Type 0 where
   pub stands : (i : ℕ) → i ≤ length (commands (now stream)) → steps i (begun stream) ≡ movedTo (begun stream) (placeOf (now stream) i)
   pub ends : (i : ℕ) → length (commands (now stream)) ≤ i → steps i (begun stream) ≡ movedTo (begun stream) (endOf (now stream))
 
-pub record Claims : Type 0 where
+pub record StreamClaims : Type 0 where
   pub parts : (stream : List ℕ) → Parts stream
   pub first : First
   pub back : Back

@@ -2,6 +2,6 @@
 fn main() {
     let mut bytes = [0u8; 120];
     bytes[50] = 3;
-    check::expect(reader::read_to_end(&bytes) == 107);
+    check::expect(stream::read_to_end(&bytes) == 107);
     check::expect(stream::end_of(&bytes) == 107);
 }

@@ -62,11 +62,16 @@ kinds! {
     InputLengths 2 "the program: inputs of 65,536 bytes, of 65,537"
 }
 
+/// The largest number that any operation answers with, and those that some
+/// operation gives today.
+const MOST: usize = 26;
+const GIVEN: &[usize] = &[0, 1, 2, 3, 4, 5, 6, 7, 8, 9, 10, 11, 12, 13, 14, 15];
+
 /// What was run.
 pub struct Run {
     /// Calls of the proved library that were compared.
     pub cases: u64,
-    numbers: [u64; 16],
+    numbers: [u64; MOST + 1],
     counts: Vec<Vec<u64>>,
 }
 
@@ -74,7 +79,7 @@ impl Default for Run {
     fn default() -> Run {
         Run {
             cases: 0,
-            numbers: [0; 16],
+            numbers: [0; MOST + 1],
             counts: KINDS.iter().map(|(_, size, _)| vec![0; *size]).collect(),
         }
     }
@@ -124,13 +129,14 @@ impl Run {
             };
             let _ = writeln!(table, "{sum:>12}  {text}{more}");
         }
-        for (number, times) in self.numbers.iter().enumerate() {
+        for number in GIVEN {
+            let times = self.numbers[*number];
             let _ = writeln!(table, "{times:>12}  answered {number}");
         }
         table
     }
 
-    /// What never came: a number from 0 to 15, or a count of a kind.
+    /// What never came: a number that is given, or a count of a kind.
     pub fn missing(&self) -> Vec<String> {
         let none = |counts: &[u64]| -> Vec<usize> {
             let places = counts.iter().enumerate();
@@ -139,8 +145,8 @@ impl Run {
                 .map(|(at, _)| at)
                 .collect()
         };
-        let numbers = none(&self.numbers);
-        let numbers = numbers.iter().map(|number| format!("number {number}"));
+        let numbers = GIVEN.iter().filter(|number| self.numbers[**number] == 0);
+        let numbers = numbers.map(|number| format!("number {number}"));
         let kinds = KINDS
             .iter()
             .zip(&self.counts)

@@ -3,7 +3,7 @@ use Prim.Native.Nat.{_-_, _*_, _≤_}
 use mathlib.Core.Path.{_≡_}
 use native.Mathlib.Omega.{arith}
 use borrow.Author.Needs.{needs}
-use Rattle.lines.specs.Lines.{perLine}
+use Rattle.program.specs.Program.{perLine}
 use Rattle.cards.proofs.print_line.Statement.{statement}
 use Rattle.cards.proofs.print_line.Tie as tie
 

@@ -1,16 +1,13 @@
 -- The lines of a report have a place. Assumes nothing.
 use mathlib.Core.Path.{sym, _∙_}
 use native.Mathlib.Omega.{arith}
-use Rattle.report.proofs.Cases.{lines-place}
+use Rattle.program.proofs.Cases.{lines-place}
 use borrow.Author.Needs.{needs}
 use Rattle.cards.proofs.serve.Statement.{statement}
 use Rattle.cards.proofs.serve.Tie as tie
 
-slice-aggregate-report : tie.Need-slice-aggregate-report
-slice-aggregate-report c = search needs
-
-report-requires : tie.Need-report-requires
-report-requires c κs = search needs
+answer-requires : tie.Need-answer-requires
+answer-requires c κs = search needs
 
 enum-told : tie.Need-enum-told
 enum-told c = search needs
@@ -33,12 +30,9 @@ write-all-requires-2 c κs = search needs
 enum-known-summary : tie.Need-enum-known-summary
 enum-known-summary c = search needs
 
-slice-aggregate-print-summary : tie.Need-slice-aggregate-print-summary
-slice-aggregate-print-summary c = search needs
-
 print-summary-requires : tie.Need-print-summary-requires
 print-summary-requires c κs =
-    let l = lines-place (c .before .before .before .before .before .before .before .before .args .input .now) (sym (c .before .before .summary .given .1) ∙ c .before .before .before .before .before .report .ensures .0) in
+    let l = lines-place (c .before .before .before .before .before .before .before .args .input .now) (sym (c .before .before .summary .given .1) ∙ c .before .before .before .before .answer .ensures .0) in
     omega (arith, l)
 
 returns : tie.Need-returns
@@ -54,8 +48,7 @@ pub serve-spec : {M : Type 1} → statement M
 serve-spec =
     tie.close
     (tie.spec
-    slice-aggregate-report
-    report-requires
+    answer-requires
     enum-told
     slice-aggregate-write-all
     write-all-requires
@@ -63,7 +56,6 @@ serve-spec =
     slice-aggregate-write-all-2
     write-all-requires-2
     enum-known-summary
-    slice-aggregate-print-summary
     print-summary-requires
     returns
     returns-2

@@ -12,8 +12,11 @@ enum-told-2 c = search needs
 returns : tie.Need-returns
 returns c = search needs
 
+behind-requires : tie.Need-behind-requires
+behind-requires c κs = search needs
+
 returns-2 : tie.Need-returns-2
-returns-2 c = rw (c .enum-told2 .given .1)
+returns-2 c = rw (c .before .enum-told2 .given .1) (c .behind .ensures)
 
 pub behind-asked-spec : {M : Type 1} → statement M
-behind-asked-spec = tie.close (tie.spec enum-told enum-told-2 returns returns-2)
+behind-asked-spec = tie.close (tie.spec enum-told enum-told-2 behind-requires returns returns-2)

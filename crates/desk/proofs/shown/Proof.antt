@@ -6,9 +6,9 @@ use borrow.Author.Needs.{needs}
 use denote.Ref.{now}
 use lib.ListN.{length, take}
 use Rattle.lists.specs.Table.{first, settled}
-use Rattle.desk.specs.Show.{Text, text, of, beyond, showRows, shownNumber, shownPart}
-use Rattle.desk.specs.declared.Language.{Language}
-use Rattle.desk.specs.declared.Language.the-variants.{Original, Translation}
+use Rattle.desk.specs.Show.{Text, heldText, of, beyond, showRows, shownNumber, shownPart}
+use Rattle.desk.specs.declared.Asked.{Asked}
+use Rattle.desk.specs.declared.Asked.the-variants.{Original, Translation}
 use Rattle.desk.proofs.Show.{fits, settles}
 use Rattle.desk.proofs.shown.Statement.{statement}
 use Rattle.desk.proofs.shown.Tie as tie
@@ -16,10 +16,10 @@ use Rattle.desk.proofs.shown.Tie as tie
 -- What the desk holds, and the number that is given.
 module _ (c : tie.After-number-of) where
   abbrev original : Text
-  original = text (now (c .before .before .before .before .args .original)) (c .before .before .before .before .args .original-length)
+  original = heldText (now (c .before .before .before .before .args .original)) (c .before .before .before .before .args .original-length)
 
   abbrev translation : Text
-  translation = text (now (c .before .before .before .before .args .translation)) (c .before .before .before .before .args .translation-length)
+  translation = heldText (now (c .before .before .before .before .args .translation)) (c .before .before .before .before .args .translation-length)
 
   abbrev edition : ℕ
   edition = c .before .before .before .before .args .edition
@@ -27,16 +27,16 @@ module _ (c : tie.After-number-of) where
   abbrev from : ℕ
   from = c .before .before .before .before .args .from
 
-  abbrev asked : Language
+  abbrev asked : Asked
   asked = c .before .before .before .before .args .asked
 
   number : c .number-of .result ≡ shownNumber original translation edition from asked
   number = c .number-of .ensures ∙ ap (λ (b : Bool). first (showRows (beyond original || beyond translation) b)) (c .before .behind-asked .ensures)
 
-  within : (l : Language) → c .number-of .result ≡ 0 → of l original translation .length ≤ length (of l original translation .buffer)
+  within : (l : Asked) → c .number-of .result ≡ 0 → of l original translation .length ≤ length (of l original translation .buffer)
   within l e = fits l original translation (c .before .behind-asked .result) (sym (c .number-of .ensures) ∙ e)
 
-  part : (l : Language) → asked ≡ l →
+  part : (l : Asked) → asked ≡ l →
       take (settled (c .number-of .result) (of l original translation .length) 0) (of l original translation .buffer)
       ≡ shownPart original translation edition from asked
   part l told = settles original translation edition from (c .number-of .result) asked l told number

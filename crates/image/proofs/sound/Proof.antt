@@ -1,7 +1,7 @@
 -- The loop: every card before k keeps the rules. Assumes nothing.
 use Rattle.image.proofs.Bytes.{short, header-size, header-fails, card-fails, all-hold}
 use Rattle.image.specs.Image.{cardSound}
-use Rattle.image_read.specs.Read.{countOf}
+use Rattle.image.specs.Bytes.{countOf}
 use Rattle.lists.proofs.Every.{every-none, every-more}
 use Rattle.lists.specs.Parts.{every}
 use native.Mathlib.Omega.{arith}

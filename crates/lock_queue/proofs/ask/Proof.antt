@@ -2,7 +2,7 @@
 use mathlib.Core.Path.{sym, subst, _∙_}
 use borrow.Author.Needs.{needs}
 use Prim.Native.Nat.{_≤_}
-use Rattle.queue_state.specs.Queue.{State, state, mostPlaces}
+use Rattle.lock_queue.specs.Queue.{State, state, mostPlaces}
 use Rattle.lock_queue.specs.Requests.{asks}
 use Rattle.lock_queue.proofs.Judged.{shown-fits, ask-place, accepted-fits, accepted-outcome, refused-outcome}
 use Rattle.lock_queue.proofs.ask.Statement.{statement}

@@ -2,7 +2,7 @@
 use mathlib.Core.Path.{refl, sym, subst, _∙_}
 use borrow.Author.Needs.{needs}
 use Prim.Native.Nat.{_≤_}
-use Rattle.queue_state.specs.Queue.{State, state, mostPlaces}
+use Rattle.lock_queue.specs.Queue.{State, state, mostPlaces}
 use Rattle.lock_queue.specs.Requests.{leaves}
 use Rattle.lock_queue.proofs.Judged.{shown-fits, leave-place, accepted-fits, accepted-outcome, refused-outcome}
 use Rattle.lock_queue.proofs.leave.Statement.{statement}

@@ -1,6 +1,6 @@
 -- The tests in their order, by what each call ensures. Assumes nothing.
 use borrow.Author.Needs.{needs}
-use Rattle.lists.specs.Tests.{all, allFrom}
+use Rattle.lists.specs.Table.{all, allFrom}
 use Rattle.stamps.proofs.session_ok.Statement.{statement}
 use Rattle.stamps.proofs.session_ok.Tie as tie
 

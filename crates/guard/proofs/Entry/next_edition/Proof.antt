@@ -1,9 +1,8 @@
 -- By the test of the act. An edition that is not the last one can be raised. Assumes nothing.
 use borrow.Author.Needs.{needs}
-use mathlib.Core.Path.{sym, _∙_}
+use mathlib.Core.Path.{sym, _∙_, _≡_}
 use Rattle.guard.specs.Judge.{raise}
 use native.Mathlib.Omega.{arith}
-use mathlib.Core.Path.{_≡_}
 use mathlib.Core.Bool.{false}
 use borrow.Author.Tests.{eqb-false}
 use lib.Dec.{eqb}

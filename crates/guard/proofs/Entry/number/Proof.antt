@@ -5,14 +5,14 @@ use mathlib.Core.Path.{_≡_, sym, ap, _∙_}
 use mathlib.Core.Bool.{not}
 use borrow.Author.Tests.{lt-ltb, le-ltb}
 use lib.ListN.{drop}
-use Rattle.guard.specs.Judge.{rows}
+use Rattle.guard.specs.Judge.{judgeRows}
 use Rattle.lists.specs.Table.{first}
 use Rattle.guard.proofs.Entry.number.Statement.{statement}
 use Rattle.guard.proofs.Entry.number.Tie as tie
 
 -- What is left of the table when its first n rows do not apply.
 abbrev left : ℕ → tie.Start → ℕ
-left n c = first (drop n (rows (c .args .self) (c .args .c) (c .args .room) (c .args .lent)))
+left n c = first (drop n (judgeRows (c .args .self) (c .args .c) (c .args .room) (c .args .lent)))
 
 past-1 : (c : tie.Else1) → let s = c .before .before in left 0 s ≡ left 1 s
 past-1 c = rw (ap not (sym (c .before .well-formed .ensures)) ∙ c .if1 .left)

@@ -1,9 +1,9 @@
 -- Each return, by the tests on the way. Assumes nothing.
 use mathlib.Core.Path.{sym, _∙_}
 use borrow.Author.Tests.{not-false}
-use Rattle.queue_state.specs.Queue.{state}
+use Rattle.lock_queue.specs.Queue.{state}
 use Rattle.lock_queue.specs.Requests.{number}
-use Rattle.queue_good.proofs.Checks.{good-count}
+use Rattle.lock_queue.proofs.Checks.{good-count}
 use borrow.Author.Needs.{needs}
 use Rattle.lock_queue.proofs.judge.ask_number.Statement.{statement}
 use Rattle.lock_queue.proofs.judge.ask_number.Tie as tie

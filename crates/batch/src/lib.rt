@@ -1,2 +1,0 @@
-// An input judged whole: the stream behind the image in front.
-pub mod inner;

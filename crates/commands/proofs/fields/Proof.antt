@@ -1,0 +1,54 @@
+use borrow.Author.Needs.{needs}
+use Rattle.commands.specs.Bytes.{fieldsOf}
+use Rattle.commands.proofs.fields.Statement.{statement}
+use Rattle.commands.proofs.fields.Tie as tie
+
+shared-slice-read-t3 : tie.Need-shared-slice-read-t3
+shared-slice-read-t3 c = search needs
+
+shared-slice-read-t5 : tie.Need-shared-slice-read-t5
+shared-slice-read-t5 c = search needs
+
+read-u16-requires : tie.Need-read-u16-requires
+read-u16-requires c κs = search needs
+
+pair-of-requires : tie.Need-pair-of-requires
+pair-of-requires c κs = search needs
+
+mark-at-requires : tie.Need-mark-at-requires
+mark-at-requires c κs = search needs
+
+mark-at-requires-2 : tie.Need-mark-at-requires-2
+mark-at-requires-2 c κs = search needs
+
+read-u16-requires-2 : tie.Need-read-u16-requires-2
+read-u16-requires-2 c κs = search needs
+
+read-u16-requires-3 : tie.Need-read-u16-requires-3
+read-u16-requires-3 c κs = search needs
+
+returns : tie.Need-returns
+unfolding fieldsOf
+returns c =
+    rw (
+      c .read-u163 .ensures,
+      c .before .read-u162 .ensures,
+      c .before .before .mark-at2 .ensures,
+      c .before .before .before .mark-at .ensures,
+      c .before .before .before .before .pair-of .ensures,
+      c .before .before .before .before .before .read-u16 .ensures,
+    )
+
+pub fields-spec : {M : Type 1} → statement M
+fields-spec =
+    tie.close
+    (tie.spec
+    shared-slice-read-t3
+    shared-slice-read-t5
+    read-u16-requires
+    pair-of-requires
+    mark-at-requires
+    mark-at-requires-2
+    read-u16-requires-2
+    read-u16-requires-3
+    returns)

@@ -1,0 +1,74 @@
+-- A command in bytes (the sheet, "A command").
+-- Assumes nothing.
+use Prim.Native.Nat.{ℕ, _+_}
+use mathlib.Core.List.{List, [], _∷_, _++_}
+use mathlib.Core.Bool.{Bool, cond, _&&_}
+use lib.ListN.{length, drop, getD, replicate}
+use lib.Dec.{eqb}
+use Rattle.lists.specs.Parts.{part, zeros}
+use Rattle.lists.specs.Le.{toLe, field}
+use Rattle.stamps.specs.Stamp.{noPair, noMark, MALFORMED}
+use Rattle.stamps.specs.declared.Mark.{Mark}
+use Rattle.commands.specs.declared.Command.{Command}
+use Rattle.commands.specs.Command.{wellFormed}
+use Rattle.commands.specs.declared.Parsed.{Parsed}
+use Rattle.commands.specs.declared.Parsed.the-variants.{Malformed, Formed}
+
+-- "52 bytes, then its payload".
+abbrev pub fixed : ℕ
+fixed = 52
+
+-- "36 expected commit desk u16; 38 expected transaction u32; 42 next desk u16; 44 next transaction u32".
+abbrev pub markAt : ℕ → List ℕ → Mark
+markAt at bytes = record { desk = field at 2 bytes; transaction = field (at + 2) 4 bytes }
+
+-- The numbers of a command, by the sheet's offsets.
+unfoldable pub fieldsOf : List ℕ → Command
+fieldsOf bytes =
+    record {
+      act = getD bytes 0 0;
+      mode = getD bytes 1 0;
+      card = field 2 2 bytes;
+      pair = record { s = field 4 8 bytes; x = field 12 8 bytes };
+      expected = markAt 36 bytes;
+      next = markAt 42 bytes;
+      edition = field 48 2 bytes;
+      length = field 50 2 bytes;
+    }
+
+unfoldable pub payload : List ℕ → List ℕ
+payload bytes = drop fixed bytes
+
+-- Lent bytes are a command: exactly 52 plus length ("Lent bytes that are not exactly 52 plus length are malformed"), "20 sixteen zeros",
+-- and the rules of its numbers.
+unfoldable pub formed : List ℕ → Bool
+formed bytes = eqb (length bytes) (fixed + field 50 2 bytes) && zeros (part 20 16 bytes) && wellFormed (fieldsOf bytes)
+
+unfoldable pub parsed : List ℕ → Parsed
+parsed bytes = cond (formed bytes) (Formed (fieldsOf bytes)) Malformed
+
+-- What a parse is on the sheet: number 1 and zeros where it is malformed, else the command, with nothing refused yet.
+abbrev pub parsedNumber : Parsed → ℕ
+parsedNumber Malformed = MALFORMED
+parsedNumber (Formed c) = 0
+
+abbrev pub parsedCommand : Parsed → Command
+parsedCommand Malformed = record { act = 0; mode = 0; card = 0; pair = noPair; expected = noMark; next = noMark; edition = 0; length = 0 }
+parsedCommand (Formed c) = c
+
+-- The bytes of a command, the other way round.
+abbrev pub markBytes : Mark → List ℕ
+markBytes m = toLe 2 (m .desk) ++ toLe 4 (m .transaction)
+
+unfoldable pub commandBytes : Command → List ℕ → List ℕ
+commandBytes c text =
+    (c .act ∷ c .mode ∷ [])
+    ++ toLe 2 (c .card)
+    ++ toLe 8 (c .pair .s)
+    ++ toLe 8 (c .pair .x)
+    ++ replicate 16 0
+    ++ markBytes (c .expected)
+    ++ markBytes (c .next)
+    ++ toLe 2 (c .edition)
+    ++ toLe 2 (c .length)
+    ++ text

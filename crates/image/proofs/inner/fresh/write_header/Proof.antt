@@ -1,0 +1,44 @@
+-- The numbers end to end. Assumes nothing.
+use Rattle.image.specs.Bytes.{magic, version}
+use native.Mathlib.Omega.{arith}
+use Rattle.lists.specs.Le.{toLe}
+use Rattle.image.proofs.Written.{splice-four}
+use borrow.Author.Needs.{needs}
+use Rattle.image.proofs.inner.fresh.write_header.Statement.{statement}
+use Rattle.image.proofs.inner.fresh.write_header.Tie as tie
+
+write-u32-requires : tie.Need-write-u32-requires
+write-u32-requires c κs = search needs
+
+write-u16-requires : tie.Need-write-u16-requires
+write-u16-requires c κs = search needs
+
+write-u16-requires-2 : tie.Need-write-u16-requires-2
+write-u16-requires-2 c κs = search needs
+
+write-u16-requires-3 : tie.Need-write-u16-requires-3
+write-u16-requires-3 c κs = search needs
+
+same-length : tie.Need-same-length
+same-length c = search needs
+
+returns : tie.Need-returns
+unfolding toLe
+returns c = rw (
+  c .before .before .write-u163 .ensures,
+  c .before .before .before .before .before .before .write-u162 .ensures,
+  c .before .before .before .before .before .before .before .before .before .before .write-u16 .ensures,
+  c .before .before .before .before .before .before .before .before .before .before .before .before .before .before .write-u32 .ensures,
+)
+    (splice-four 0 magic (toLe 2 version) (toLe 2 (c .before .before .before .before .before .before .before .before .before .before .before .before .before .before .before .before .before .args .n)) (toLe 2 (c .before .before .before .before .before .before .before .before .before .before .before .before .before .before .before .before .before .args .c)) _ (omega arith))
+
+pub write-header-spec : {M : Type 1} → statement M
+write-header-spec =
+    tie.close
+    (tie.spec
+    write-u32-requires
+    write-u16-requires
+    write-u16-requires-2
+    write-u16-requires-3
+    same-length
+    returns)

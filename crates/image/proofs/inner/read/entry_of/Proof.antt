@@ -1,0 +1,56 @@
+-- Each number, by what its read ensures. Assumes nothing.
+use Rattle.image.specs.Bytes.{readEntry}
+use borrow.Author.Needs.{needs}
+use Rattle.image.proofs.inner.read.entry_of.Statement.{statement}
+use Rattle.image.proofs.inner.read.entry_of.Tie as tie
+
+read-u64-requires : tie.Need-read-u64-requires
+read-u64-requires c κs = search needs
+
+read-u64-requires-2 : tie.Need-read-u64-requires-2
+read-u64-requires-2 c κs = search needs
+
+read-u16-requires : tie.Need-read-u16-requires
+read-u16-requires c κs = search needs
+
+read-u32-requires : tie.Need-read-u32-requires
+read-u32-requires c κs = search needs
+
+read-u16-requires-2 : tie.Need-read-u16-requires-2
+read-u16-requires-2 c κs = search needs
+
+read-u16-requires-3 : tie.Need-read-u16-requires-3
+read-u16-requires-3 c κs = search needs
+
+read-u16-requires-4 : tie.Need-read-u16-requires-4
+read-u16-requires-4 c κs = search needs
+
+read-u16-requires-5 : tie.Need-read-u16-requires-5
+read-u16-requires-5 c κs = search needs
+
+returns : tie.Need-returns
+unfolding readEntry
+returns c = rw (
+  c .read-u165 .ensures,
+  c .before .read-u164 .ensures,
+  c .before .before .read-u163 .ensures,
+  c .before .before .before .read-u162 .ensures,
+  c .before .before .before .before .read-u32 .ensures,
+  c .before .before .before .before .before .read-u16 .ensures,
+  c .before .before .before .before .before .before .read-u642 .ensures,
+  c .before .before .before .before .before .before .before .read-u64 .ensures,
+)
+
+pub entry-of-spec : {M : Type 1} → statement M
+entry-of-spec =
+    tie.close
+    (tie.spec
+    read-u64-requires
+    read-u64-requires-2
+    read-u16-requires
+    read-u32-requires
+    read-u16-requires-2
+    read-u16-requires-3
+    read-u16-requires-4
+    read-u16-requires-5
+    returns)

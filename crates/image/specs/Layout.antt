@@ -1,0 +1,51 @@
+-- Sizes, limits and places in an image (the sheet, "The image: contents first, then bodies").
+-- Assumes nothing.
+use Prim.Native.Nat.{ℕ, _+_, _*_, _%_}
+use mathlib.Core.List.{[], _∷_}
+use mathlib.Core.Bool.{Bool}
+use lib.Dec.{leb, eqb}
+use Rattle.lists.specs.Table.{all}
+
+-- "N is 1 to 64, C is 16 to 1,024 in steps of 16, and the whole, 16 + 32N + 2CN, is at most 32,768".
+abbrev pub mostCards : ℕ
+mostCards = 64
+
+abbrev pub leastRoom : ℕ
+leastRoom = 16
+
+abbrev pub mostRoom : ℕ
+mostRoom = 1024
+
+abbrev pub roomStep : ℕ
+roomStep = 16
+
+abbrev pub mostBytes : ℕ
+mostBytes = 32768
+
+-- "Header, 16 bytes"; "N entries of 32 bytes".
+abbrev pub headerSize : ℕ
+headerSize = 16
+
+abbrev pub entrySize : ℕ
+entrySize = 32
+
+abbrev pub sizeOf : ℕ → ℕ → ℕ
+sizeOf n c = headerSize + entrySize * n + 2 * c * n
+
+unfoldable pub shapeOk : ℕ → ℕ → Bool
+shapeOk n c =
+    all
+    (leb 1 n
+    ∷ leb n mostCards
+    ∷ leb leastRoom c
+    ∷ leb c mostRoom
+    ∷ eqb (c % roomStep) 0
+    ∷ leb (sizeOf n c) mostBytes
+    ∷ [])
+
+-- Where an entry stands, and where the body of a card's text stands: side 0 is the original, side 1 the translation.
+abbrev pub entryPlace : ℕ → ℕ
+entryPlace k = headerSize + entrySize * k
+
+abbrev pub bodyPlace : ℕ → ℕ → ℕ → ℕ → ℕ
+bodyPlace n c k side = headerSize + entrySize * n + (2 * k + side) * c

@@ -1,0 +1,35 @@
+ghost use mathlib.Core.Path.{_≡_};
+ghost use Prim.Native.Nat.{_≤_};
+ghost use lib.ListN.{length};
+ghost use Rattle.lists.specs.Parts.{splice};
+ghost use Rattle.image.specs.Bytes.{headerNumbers};
+ghost use Rattle.image.specs.Layout.{sizeOf};
+ghost use Rattle.image.specs.Image.{fresh};
+use crate::inner::layout::CARDS_AT;
+use crate::inner::layout::MAGIC;
+use crate::inner::layout::ROOM_AT;
+use crate::inner::layout::VERSION;
+use crate::inner::layout::VERSION_AT;
+use crate::inner::layout::ZEROS_AT;
+use slices::inner::fixed_width as le;
+
+// Writes the numbers of a header.
+fn write_header(image: &mut [u8], n: u16, c: u16)
+    requires { ⌜ 16 ≤ length (now image) ⌝ }
+    ensures { λ _. ⌜ now (image .exit) ≡ splice 0 (headerNumbers n c) (now (image .entry)) ⌝ }
+{
+    le::write_u32(image, 0, MAGIC);
+    le::write_u16(image, VERSION_AT, VERSION);
+    le::write_u16(image, CARDS_AT, n);
+    le::write_u16(image, ROOM_AT, c);
+}
+
+// Writes a fresh image of n cards with room c.
+pub fn fill(image: &mut [u8], n: u16, c: u16)
+    requires { ⌜ length (now image) ≡ sizeOf n c ⌝ }
+    ensures { λ _. ⌜ now (image .exit) ≡ fresh n c ⌝ }
+{
+    let size = image.len();
+    write_header(image, n, c);
+    slices::inner::clear(image, ZEROS_AT, size - ZEROS_AT);
+}

@@ -1,2 +1,0 @@
-// What the bytes of an image say: N and C, an entry, a text.
-pub mod inner;

@@ -1,2 +1,0 @@
-// Writing an entry and a text into an image.
-pub mod inner;

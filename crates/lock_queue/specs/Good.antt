@@ -1,0 +1,54 @@
+-- When the lock queue of one card is good (the sheet, "The lock queue of one card", number 10): a queue that is not good is bad, whatever is
+-- sent to it.
+-- Assumes nothing.
+use Prim.Native.Nat.{ℕ}
+use mathlib.Core.List.{List, [], _∷_, map}
+use mathlib.Core.Bool.{Bool, true, not, _&&_}
+use lib.Dec.{leb}
+use Rattle.lists.specs.Table.{all}
+use Rattle.stamps.specs.Stamp.{stampValid, sessionChecks}
+use Rattle.stamps.specs.declared.Pair.{Pair}
+use Rattle.lock_queue.specs.Queue.{State, mostPlaces, standing, desks, stands, desk}
+use Rattle.lock_queue.specs.declared.Waiting.{Waiting}
+
+-- No desk and start stands twice.
+unfoldable pub distinct : List ℕ → Bool
+distinct [] = true
+distinct (e ∷ es) = not (stands e es) && distinct es
+
+-- An entry's mode and stamps, by a command's rules.
+abbrev pub waitingFormed : Waiting → Bool
+waitingFormed w = all (sessionChecks (w .mode) (w .pair))
+
+-- Neither of an entry's stamps is above the largest.
+abbrev pub within : Pair → Waiting → Bool
+within largest w = leb (w .pair .s) (largest .s) && leb (w .pair .x) (largest .x)
+
+-- A queue that is not bad, one test for each part of the sheet's sentence on number 10.
+abbrev pub queueChecks : ℕ → State → List Bool
+queueChecks lent q =
+    -- length: 1 to 32 places
+    (leb 1 lent && leb lent mostPlaces)
+    -- count above length
+    ∷ leb (q .count) lent
+    -- largest s or x no valid stamp
+    ∷ stampValid (q .largest .s)
+    ∷ stampValid (q .largest .x)
+    -- malformed entry
+    ∷ all (map waitingFormed (standing q))
+    -- same desk and start twice
+    ∷ distinct (desks (standing q))
+    -- an entry's stamp above the largest
+    ∷ all (map (within (q .largest)) (standing q))
+    ∷ []
+
+unfoldable pub good : ℕ → State → Bool
+good lent q = all (queueChecks lent q)
+
+-- ---- The three tests on the standing entries, and the same for one entry behind those before it: what a pass over the places computes.
+
+unfoldable pub entriesGood : Pair → List Waiting → Bool
+entriesGood largest ws = all (map waitingFormed ws) && distinct (desks ws) && all (map (within largest) ws)
+
+abbrev pub fitsBehind : Pair → List Waiting → Waiting → Bool
+fitsBehind largest ws w = waitingFormed w && not (stands (desk w) (desks ws)) && within largest w

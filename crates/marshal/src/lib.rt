@@ -1,2 +1,0 @@
-// What a request and a desk's text are answered with, as plain numbers.
-pub mod inner;

@@ -1,0 +1,99 @@
+-- The program's input: an image in front, a stream behind it (the sheet, "Streams and the program").
+-- Assumes nothing.
+use Prim.Native.Nat.{ℕ, _*_, _/_, _≤_, _-_}
+use mathlib.Core.List.{List, [], _∷_}
+use mathlib.Core.Bool.{cond, _&&_, not}
+use lib.Dec.{ltb}
+use lib.ListN.{length, take, drop, replicate}
+use Rattle.image.specs.Layout.{mostBytes, mostRoom}
+use Rattle.image.specs.Bytes.{countOf, roomOf}
+use Rattle.image.specs.Image.{goodFront, frontSize}
+use Rattle.guard.specs.Replies.{replyFields}
+use Rattle.guard.specs.declared.Answer.{Answer}
+use Rattle.lists.specs.Parts.{spread, splice}
+use Rattle.model.specs.Serve.{serve}
+use Rattle.commands.specs.Bytes.{fixed}
+use Rattle.stream.specs.Stream.{commands, endOf}
+use Rattle.program.specs.declared.Summary.{Summary}
+use Rattle.program.specs.declared.Report.{Report}
+use Rattle.program.specs.declared.Report.the-variants.{TooLong, BadStore, Lines}
+
+-- "Standard input, at most 65,536 bytes".
+abbrev pub mostInput : ℕ
+mostInput = 65536
+
+-- ---- What a line of the program's output shows of an answer (the sheet, "Streams and the program").
+
+-- "Number, then the seven fields": the numbers of a line, in the sheet's order, and how many they are.
+unfoldable pub numbersOf : Answer → List ℕ
+numbersOf a = a .number ∷ replyFields a
+
+abbrev pub perLine : ℕ
+perLine = 8
+
+-- ---- A run of commands over one image (the sheet, "Streams and the program"): the answers, what is printed of them, and what is left.
+
+-- A run of commands over an image, with one reply buffer for all of them: the answers in order, the image and the reply buffer after.
+pub record Run : Type 0 where
+  pub answers : List Answer
+  pub image : List ℕ
+  pub reply : List ℕ
+
+-- Command by command: each is judged on the image as the one before left it.
+unfoldable pub runs : List ℕ → List ℕ → List (List ℕ) → Run
+runs image reply [] = record { answers = []; image = image; reply = reply }
+runs image reply (c ∷ cs) =
+    record {
+      answers = serve image c reply .answer ∷ runs (serve image c reply .image) (serve image c reply .reply) cs .answers;
+      image = runs (serve image c reply .image) (serve image c reply .reply) cs .image;
+      reply = runs (serve image c reply .image) (serve image c reply .reply) cs .reply;
+    }
+
+-- What is printed of a run, line after line.
+abbrev pub printed : Run → List ℕ
+printed r = spread numbersOf (r .answers)
+
+-- ---- What the program makes of its input: a run of the stream over the image in front of it (the sheet, "Streams and the program").
+
+-- As many numbers as the lines of the longest input can have: a command has at least 52 bytes.
+abbrev pub mostNumbers : ℕ
+mostNumbers = mostInput / fixed * perLine
+
+-- "An image as long as its header says, then a stream"; "its reply buffer has C bytes", zeros at first.
+abbrev pub runBehind : ℕ → ℕ → List ℕ → Run
+runBehind size room input = runs (take size input) (replicate room 0) (commands (drop size input))
+
+-- What the judging of an input needs: an image within the input and the limits, and a place for each number that is to be printed.
+pub record Lent (input : List ℕ) (size room : ℕ) (out : List ℕ) : Type 0 where
+  pub within : size ≤ length input
+  pub small : size ≤ mostBytes
+  pub most : room ≤ mostRoom
+  pub lines : length (commands (drop size input)) * perLine ≤ length out
+
+-- ---- What the program prints for an input (the sheet, "Streams and the program").
+
+-- "An image as long as its header says, then a stream."
+abbrev pub streamOf : List ℕ → List ℕ
+streamOf input = drop (frontSize input) input
+
+-- The run of an input: "its reply buffer has C bytes".
+abbrev pub runOf : List ℕ → Run
+runOf input = runBehind (frontSize input) (roomOf input) input
+
+-- The first line has N; there is one line for each whole command; "it ends with `end`, or `cut` and the bytes left over".
+abbrev pub summaryOf : List ℕ → Summary
+summaryOf input =
+    record {
+      cards = countOf input;
+      lines = length (commands (streamOf input));
+      left = length (streamOf input) - endOf (streamOf input);
+    }
+
+-- "It prints `too long` alone for more, else `bad store` alone if the header or the image is short or unsound, else the lines".
+unfoldable pub reportOf : List ℕ → Report
+reportOf input = cond (ltb mostInput (length input)) TooLong (cond (goodFront input) (Lines (summaryOf input)) BadStore)
+
+-- The numbers of the lines, written from the front of a list; nothing where there are no lines.
+unfoldable pub shownOf : List ℕ → List ℕ → List ℕ
+shownOf input out =
+    cond (not (ltb mostInput (length input)) && goodFront input) (splice 0 (printed (runOf input)) out) out

@@ -1,0 +1,62 @@
+-- A run is the log of its requests. Assumes nothing.
+use Prim.Native.Nat.{ℕ}
+use mathlib.Core.Path.{_≡_, refl, ap, _∙_}
+use mathlib.Core.List.{List, [], _∷_, _++_, map, reverse, reverse-cons}
+use Rattle.guard.specs.declared.Answer.{Answer}
+use Rattle.model.specs.Serve.{serve}
+use Rattle.model.specs.Words.{Sent, Event, imageAfter}
+use Rattle.model.specs.Cases.{Got, run, shown}
+use Rattle.model.proofs.Cases.{run-logged, image-first}
+use Rattle.program.specs.Program.{runs}
+use Rattle.program_claims.specs.Claims.{requests, logged, Logged}
+
+-- What `f` says of what is shown is what it says of the events.
+of-shown : {A : Type 0} (f : Got → A) (l : List Event) → map f (map shown l) ≡ map (λ (e : Event). f (shown e)) l
+of-shown f [] = refl
+of-shown f (e ∷ l) = ap (λ (m : List _). f (shown e) ∷ m) (of-shown f l)
+
+sends : (image reply : List ℕ) (cs : List (List ℕ)) → map (λ (s : Sent). s .command) (requests image reply cs) ≡ cs
+unfolding requests
+sends image reply [] = refl
+sends image reply (c ∷ cs) = ap (λ (l : List (List ℕ)). c ∷ l) (sends (serve image c reply .image) (serve image c reply .reply) cs)
+
+-- ---- a run is the table's run of its requests
+
+lends-run : (image reply : List ℕ) (cs : List (List ℕ)) →
+    map (λ (s : Sent). s .lent) (requests image reply cs) ++ (runs image reply cs .reply ∷ [])
+    ≡ reply ∷ map (λ (g : Got). g .reply) (run image (requests image reply cs))
+unfolding requests runs run
+lends-run image reply [] = refl
+lends-run image reply (c ∷ cs) =
+    ap (λ (l : List (List ℕ)). reply ∷ l) (lends-run (serve image c reply .image) (serve image c reply .reply) cs)
+
+answers-run : (image reply : List ℕ) (cs : List (List ℕ)) →
+    runs image reply cs .answers ≡ map (λ (g : Got). g .answer) (run image (requests image reply cs))
+unfolding requests runs run
+answers-run image reply [] = refl
+answers-run image reply (c ∷ cs) =
+    ap (λ (l : List Answer). serve image c reply .answer ∷ l) (answers-run (serve image c reply .image) (serve image c reply .reply) cs)
+
+leaves : (image reply : List ℕ) (cs : List (List ℕ)) → runs image reply cs .image ≡ imageAfter image (reverse (requests image reply cs))
+unfolding requests runs imageAfter
+leaves image reply [] = refl
+leaves image reply (c ∷ cs) =
+    let s : Sent = record { command = c; lent = reply } in
+    let later : List Sent = requests (serve image c reply .image) (serve image c reply .reply) cs in
+    rw (reverse-cons s later, image-first image s (reverse later)) (leaves (serve image c reply .image) (serve image c reply .reply) cs)
+
+pub logs : (image reply : List ℕ) (cs : List (List ℕ)) → Logged image reply cs
+logs image reply cs =
+    let same = run-logged image (requests image reply cs) in
+    record {
+      sends = sends image reply cs;
+      lends =
+          lends-run image reply cs
+          ∙ ap (λ (l : List Got). reply ∷ map (λ (g : Got). g .reply) l) same
+          ∙ ap (λ (l : List (List ℕ)). reply ∷ l) (of-shown (λ (g : Got). g .reply) (reverse (logged image reply cs)));
+      answers =
+          answers-run image reply cs
+          ∙ ap (λ (l : List Got). map (λ (g : Got). g .answer) l) same
+          ∙ of-shown (λ (g : Got). g .answer) (reverse (logged image reply cs));
+      leaves = leaves image reply cs;
+    }

@@ -1,0 +1,78 @@
+-- What is claimed of a run, and of the program's (the sheet, "Streams and the program" and "The words of demand 3").
+-- Assumes nothing.
+use Prim.Native.Nat.{ℕ, _*_, _<_}
+use mathlib.Core.Path.{_≡_}
+use mathlib.Core.List.{List, [], _∷_, _++_, map, reverse}
+use mathlib.Core.Bool.{true}
+use lib.Dec.{T, eqb}
+use lib.ListN.{length, take, getD, replicate}
+use Rattle.lists.specs.Parts.{part, Bytes}
+use Rattle.guard.specs.declared.Answer.{Answer}
+use Rattle.image.specs.Layout.{shapeOk}
+use Rattle.image.specs.Image.{sound, fresh}
+use Rattle.model.specs.Serve.{serve}
+use Rattle.model.specs.Words.{Sent, Event, imageAfter, history, none}
+use Rattle.model.specs.Claims.{Claim}
+use Rattle.stream.specs.Stream.{commands}
+use Rattle.image.specs.Image.{goodFront}
+use Rattle.program.specs.Program.{numbersOf, perLine, runs, printed, runOf}
+
+-- The answers of a run are those of judging command by command: one for each command, and each is the store's, on the image and the reply
+-- buffer as the commands before leave them.
+pub record Stepwise (image reply : List ℕ) (cs : List (List ℕ)) : Type 0 where
+  pub whole : length (runs image reply cs .answers) ≡ length cs
+  pub each : (i : ℕ) (none : Answer) → i < length cs →
+      getD (runs image reply cs .answers) i none ≡ serve (runs image reply (take i cs) .image) (getD cs i []) (runs image reply (take i cs) .reply) .answer
+  -- Line i, counted from 0, has the numbers of answer i.
+  pub lines : (i : ℕ) (none : Answer) → i < length cs →
+      part (i * perLine) perLine (printed (runs image reply cs)) ≡ numbersOf (getD (runs image reply cs .answers) i none)
+
+-- ---- a run and the log that demand 3 speaks of
+
+-- A run's commands as requests: each is sent with the reply buffer as the one before left it.
+unfoldable pub requests : List ℕ → List ℕ → List (List ℕ) → List Sent
+requests image reply [] = []
+requests image reply (c ∷ cs) =
+    record { command = c; lent = reply } ∷ requests (serve image c reply .image) (serve image c reply .reply) cs
+
+-- Their log from the same image, latest first.
+abbrev pub logged : List ℕ → List ℕ → List (List ℕ) → List Event
+logged image reply cs = history image (reverse (requests image reply cs))
+
+-- A run is the log of its requests.
+pub record Logged (image reply : List ℕ) (cs : List (List ℕ)) : Type 0 where
+  -- the requests are the commands, in their order,
+  pub sends : map (λ (s : Sent). s .command) (requests image reply cs) ≡ cs
+  -- with one reply buffer: the first is lent it as it is at first, each later one as the log shows it after the one before, and the last one
+  -- leaves it as the run does,
+  pub lends :
+      map (λ (s : Sent). s .lent) (requests image reply cs) ++ (runs image reply cs .reply ∷ [])
+      ≡ reply ∷ map (λ (e : Event). e .reply) (reverse (logged image reply cs))
+  -- the answers are those of the log, in order, and the image is left as the requests leave it
+  pub answers : runs image reply cs .answers ≡ map (λ (e : Event). e .answer) (reverse (logged image reply cs))
+  pub leaves : runs image reply cs .image ≡ imageAfter image (reverse (requests image reply cs))
+
+-- So demand 3 speaks of the program: every sentence of it holds of the log of a stream's commands behind a fresh image, with a reply buffer of C
+-- zeros.
+abbrev pub Guarded : Type 0
+Guarded =
+    (n c : ℕ) (stream : List ℕ) → T (shapeOk n c) → Bytes stream
+    → Claim n (requests (fresh n c) (replicate c 0) (commands stream)) (logged (fresh n c) (replicate c 0) (commands stream))
+
+-- ---- the program on a good store
+
+-- Once the store is good, it stays sound: no command is answered 9. Nor is any answered 8: a text has at most C bytes, and so many has the reply
+-- buffer.
+pub record Served (input : List ℕ) : Type 0 where
+  pub never-9 : none (λ (a : Answer). eqb (a .number) 9) (runOf input .answers) ≡ true
+  pub never-8 : none (λ (a : Answer). eqb (a .number) 8) (runOf input .answers) ≡ true
+  pub stays : sound (runOf input .image) ≡ true
+
+abbrev pub Serves : Type 0
+Serves = (input : List ℕ) → Bytes input → goodFront input ≡ true → Served input
+
+pub record ProgramClaims : Type 0 where
+  pub stepwise : (image reply : List ℕ) (cs : List (List ℕ)) → Stepwise image reply cs
+  pub logs : (image reply : List ℕ) (cs : List (List ℕ)) → Logged image reply cs
+  pub guarded : Guarded
+  pub serves : Serves
