@@ -59,13 +59,27 @@ kinds! {
     EveryCut 1 "streams cut at every byte"
     Places 2 "places of a stream where a whole command stands, where none does"
     Outputs 4 "the program: too long, bad store, runs to the end, to a cut"
+    TextsIll 3 "texts: the first ill formed alone, both, the second alone"
+    TextsDamaged 4 "texts by one byte: changed and ill formed, changed and still well formed, taken, added"
+    TextsRandom 1 "texts of random bytes"
+    TextsCut 1 "texts cut at every byte, and with one more"
+    TextsFull 1 "texts of 255 steps, and of 254"
+    TextsDepth 8 "texts that agree, by how deep their first steps nest: 1 to 8"
+    TextsDeep 1 "texts refused for the ninth section alone"
+    TextsKinds 6 "texts that part at words for a drop, a section; a drop for words, a section; a section for words, a drop"
+    TextsFar 2 "texts that part at a drop in the outer section, in an inner one"
+    TextsMore 4 "texts that part where the first has a step more, outer, inner; the second has, outer, inner"
+    TextsPast 2 ".. the second: just past the text, just past a section inside it"
+    TextsTies 2 "drops exactly half a degree apart: near, refused by rounding"
     InputLengths 2 "the program: inputs of 65,536 bytes, of 65,537"
 }
 
 /// The largest number that any operation answers with, and those that some
 /// operation gives today.
 const MOST: usize = 26;
-const GIVEN: &[usize] = &[0, 1, 2, 3, 4, 5, 6, 7, 8, 9, 10, 11, 12, 13, 14, 15];
+const GIVEN: &[usize] = &[
+    0, 1, 2, 3, 4, 5, 6, 7, 8, 9, 10, 11, 12, 13, 14, 15, 18, 19, 20,
+];
 
 /// What was run.
 pub struct Run {

@@ -4,7 +4,7 @@
 //! - [`proved`]: the proved library by its exported functions.
 //! - [`run`]: how a difference is told. [`coverage`]: what a run counts.
 //! - [`answers`], [`images`], [`lists`], [`queues`], [`desks`], [`streams`],
-//!   [`program`]: what is compared, part by part.
+//!   [`texts`], [`program`]: what is compared, part by part.
 //! - [`trials`]: the sheet's trials, by both.
 //! - [`sessions`]: lists of commands as desks send them, sessions interleaved.
 //! - [`demand3`]: the sentences of demand 3, over a list of events.
@@ -23,4 +23,5 @@ pub mod queues;
 pub mod run;
 pub mod sessions;
 pub mod streams;
+pub mod texts;
 pub mod trials;

@@ -9,7 +9,7 @@ use std::time::{Instant, SystemTime, UNIX_EPOCH};
 
 use compare::coverage::Run;
 use compare::run::Compared;
-use compare::{answers, desks, images, lists, program, queues, streams, trials};
+use compare::{answers, desks, images, lists, program, queues, streams, texts, trials};
 use second::random::Random;
 
 /// The fixed seed and the cases of `make test`, and its inputs to the program.
@@ -70,6 +70,7 @@ fn compared(run: &mut Run, seed: u64, cases: u64, inputs: u64) -> Compared<()> {
             shown += 5;
         }
     }
+    texts::ties(run)?;
     program::any(run, &mut random, inputs)?;
     let seconds = started.elapsed().as_secs();
     println!("compare: {} cases, {seconds} s", run.cases);
@@ -88,7 +89,8 @@ fn round(run: &mut Run, random: &mut Random) -> Compared<()> {
     lists::any(run, random)?;
     queues::any(run, random)?;
     desks::any(run, random)?;
-    streams::any(run, random)
+    streams::any(run, random)?;
+    texts::any(run, random)
 }
 
 /// Prints the table, and what never came.

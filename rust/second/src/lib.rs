@@ -12,6 +12,7 @@
 //!   0 to 9.
 //! - [`desk`]: the text a desk shows.
 //! - [`queue`]: the lock queue of one card, numbers 10 to 13 and 15.
+//! - [`texts`]: structured texts and whether two agree, numbers 18 to 20.
 //! - [`stream`], [`program`]: streams and the program's output.
 //! - [`number`]: the names of the numbers. [`endian`]: little-endian numbers.
 //!   [`random`]: random numbers for tests. [`short`], [`generate`], [`trials`]:
@@ -44,6 +45,7 @@ pub mod short;
 pub mod stamp;
 pub mod store;
 pub mod stream;
+pub mod texts;
 pub mod trials;
 
 pub use command::{Act, Command, CommandFields};

@@ -34,3 +34,9 @@ pub const FULL: u8 = 13;
 pub const NOT_MADE: u8 = 14;
 /// This desk and start does not stand in the queue.
 pub const NOT_STANDING: u8 = 15;
+/// The first of two texts is ill formed.
+pub const FIRST_ILL_FORMED: u8 = 18;
+/// The second of two texts is ill formed.
+pub const SECOND_ILL_FORMED: u8 = 19;
+/// Two texts differ.
+pub const TEXTS_DIFFER: u8 = 20;

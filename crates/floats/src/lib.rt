@@ -1,0 +1,1 @@
+// Numbers of f64, as definitions: no function.

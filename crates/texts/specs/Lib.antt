@@ -1,0 +1,4 @@
+pub mod Text
+pub mod Agree
+pub mod Read
+pub mod Walk

@@ -1,0 +1,4 @@
+pub mod Agree
+pub mod Claims
+pub mod Deciding
+pub mod Cases

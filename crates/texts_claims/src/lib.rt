@@ -1,0 +1,1 @@
+// What is claimed of structured texts, and worked cases: no function.
