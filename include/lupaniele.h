@@ -17,8 +17,10 @@ bool lupaniele_sound(const uint8_t *image, size_t image_length);
 uint8_t lupaniele_answer(uint8_t *image, size_t image_length, const uint8_t *command, size_t command_length,
                          uint8_t *reply, size_t reply_length, uint64_t fields[7]);
 
-/* The lock queue of one card: the mode, the s and the x of each place, of which the first `places` are lent;
-   kept: count, largest s, largest x. fields: holds (1 or 0), largest s, largest x, entries looked at. */
+/* The lock queue of one card (rules 7.1 to 7.16): the mode, the s and the x of each place, of which the first `places`
+   are lent; kept: count, largest s, largest x. An empty queue is made by three zeros in kept, whatever the places hold.
+   fields: holds (1 or 0), largest s, largest x, entries looked at. Asking: 0, 10, 1, 12, 11 or 13; a desk that stands
+   shared and asks for exclusive upgrades. Leaving: 0, 10 or 15. */
 uint8_t lupaniele_ask(uint8_t modes[32], uint64_t s[32], uint64_t x[32], uint64_t kept[3], uint64_t places,
                       uint8_t mode, uint64_t asked_s, uint64_t asked_x, uint64_t fields[4]);
 uint8_t lupaniele_leave(uint8_t modes[32], uint64_t s[32], uint64_t x[32], uint64_t kept[3], uint64_t places,

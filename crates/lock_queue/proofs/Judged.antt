@@ -3,20 +3,22 @@ use Prim.Native.Nat.{ℕ, _-_, _≤_, _<_}
 use native.Mathlib.Omega.{arith}
 use mathlib.Core.Path.{_≡_, refl, sym, ap, _∙_}
 use mathlib.Core.List.{List, _∷_}
-use mathlib.Core.Bool.{Bool, true, false, not}
+use mathlib.Core.Bool.{Bool, true, false, not, _&&_, and-true}
 use borrow.Author.Tests.{eqb-false, not-false}
 use lib.Dec.{T, eqb}
 use lib.ListN.{drop}
-use Rattle.lists.proofs.Tests.{or-fails}
+use mathlib.Core.Logic.{_⊎_, inl, inr}
+use Rattle.lists.proofs.Tests.{cases, or-fails}
 use Rattle.lists.proofs.Table.{unapplied, none-applies, settled-old}
 use Rattle.lists.specs.Table.{Row, row, first, applies, once}
 use Rattle.lock_queue.proofs.Standing.{stands-below}
 use Rattle.lock_queue.proofs.Checks.{Good, good-out, good-count}
-use Rattle.lock_queue.specs.Queue.{State, mostPlaces, standing, desks, firstPlace, stands}
+use Rattle.lock_queue.specs.Queue.{State, mostPlaces, standing, desk, desks, firstPlace, stands}
 use Rattle.lock_queue.specs.Good.{good}
 use Rattle.lock_queue.specs.declared.Waiting.{Waiting}
-use Rattle.lock_queue.specs.Requests.{joined, without, asking, leaving, answered, blankAnswer, Request, asks, leaves, queueRows, sender, applied, number, after, answer}
+use Rattle.lock_queue.specs.Requests.{joined, without, upgrading, onto, asking, leaving, answered, blankAnswer, Request, asks, leaves, queueRows, sender, applied, number, after, answer}
 use Rattle.lock_queue.specs.declared.LockAnswer.{LockAnswer}
+use Rattle.lock_queue.proofs.Upgrades.{up-stands, onto-up, onto-plain}
 
 -- A number that is not that of the first row is given only where that row does not apply.
 pub first-passed : (a : Bool) (n : ℕ) (rs : List Row) → (first (row a n ∷ rs) ≡ n → ⊥) → a ≡ false
@@ -50,15 +52,26 @@ module _ (lent : ℕ) (q : State) where
   shown-fits r e shown = good-count lent q (not-bad r (λ bad. shown-not-bad _ shown (e ∙ bad)))
 
   -- An accepted asker has a place, and one that leaves has had one.
-  pub ask-room : (new : Waiting) → number lent q (asks new) ≡ 0 → q .count < lent
-  ask-room new e =
-      let room = eqb-false (q .count) lent (no-row (asks new) e 13) in
-      below (q .count) lent (accepted-good (asks new) e .counted) room
+  pub ask-room : (new : Waiting) → number lent q (asks new) ≡ 0 → onto (new .mode) (desk new) q .count < lent
+  unfolding without
+  ask-room new e = go (cases (upgrading (new .mode) (desk new) (standing q)))
     where
+      counted : q .count ≤ lent
+      counted = accepted-good (asks new) e .counted
+
       below : (a b : ℕ) → a ≤ b → (a ≡ b → ⊥) → a < b
       below a b h k = omega arith
 
-  pub ask-place : (new : Waiting) → number lent q (asks new) ≡ 0 → q .count < mostPlaces
+      go : (upgrading (new .mode) (desk new) (standing q) ≡ true) ⊎ (upgrading (new .mode) (desk new) (standing q) ≡ false)
+          → onto (new .mode) (desk new) q .count < lent
+      go (inl up) =
+          let stood = stands-below (desk new) (q .count) (q .places) (up-stands (new .mode) (desk new) (standing q) up) in
+          rw (onto-up (new .mode) (desk new) q up) (omega (arith, counted))
+      go (inr plain) =
+          let space : eqb (q .count) lent ≡ false = sym (and-true (eqb (q .count) lent)) ∙ rw plain at (no-row (asks new) e 13) in
+          rw (onto-plain (new .mode) (desk new) q plain) (below (q .count) lent counted (eqb-false (q .count) lent space))
+
+  pub ask-place : (new : Waiting) → number lent q (asks new) ≡ 0 → onto (new .mode) (desk new) q .count < mostPlaces
   ask-place new e = omega (arith, ask-room new e, accepted-good (asks new) e .short)
 
   pub leave-stands : (d : ℕ) → number lent q (leaves d) ≡ 0 → stands d (desks (standing q)) ≡ true

@@ -3,4 +3,5 @@ pub mod Standing
 pub mod Closing
 pub mod Behind
 pub mod Checks
+pub mod Upgrades
 pub mod Judged

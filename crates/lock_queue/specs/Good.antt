@@ -1,5 +1,4 @@
--- When the lock queue of one card is good (the sheet, "The lock queue of one card", number 10): a queue that is not good is bad, whatever is
--- sent to it.
+-- When the lock queue of one card is good (rule 7.4): a queue that is not is answered with 10, whatever is sent to it.
 -- Assumes nothing.
 use Prim.Native.Nat.{ℕ}
 use mathlib.Core.List.{List, [], _∷_, map}
@@ -24,21 +23,21 @@ waitingFormed w = all (sessionChecks (w .mode) (w .pair))
 abbrev pub within : Pair → Waiting → Bool
 within largest w = leb (w .pair .s) (largest .s) && leb (w .pair .x) (largest .x)
 
--- A queue that is not bad, one test for each part of the sheet's sentence on number 10.
+-- Rule 7.4, test by test.
 abbrev pub queueChecks : ℕ → State → List Bool
 queueChecks lent q =
-    -- length: 1 to 32 places
+    -- 1 to 32 lent places
     (leb 1 lent && leb lent mostPlaces)
-    -- count above length
+    -- no more taken than lent
     ∷ leb (q .count) lent
-    -- largest s or x no valid stamp
+    -- the largest stamps are stamps, or none
     ∷ stampValid (q .largest .s)
     ∷ stampValid (q .largest .x)
-    -- malformed entry
+    -- each entry could be asked for
     ∷ all (map waitingFormed (standing q))
-    -- same desk and start twice
+    -- no desk and start stands twice
     ∷ distinct (desks (standing q))
-    -- an entry's stamp above the largest
+    -- no entry has a stamp above the largest
     ∷ all (map (within (q .largest)) (standing q))
     ∷ []
 

@@ -1,3 +1,4 @@
+pub mod Numbers
 pub mod Queue
-pub mod Requests
 pub mod Good
+pub mod Requests

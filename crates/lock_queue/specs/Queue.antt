@@ -1,5 +1,5 @@
--- The lock queue of one card, as lists (the sheet, "The lock queue of one card"): who stands in it, who holds the lock, and how many entries
--- are looked at. Minuet: the lock manager's queue for one shared resource.
+-- The lock queue of one card, as lists (rules 7.1 to 7.5): who stands in it, who holds the lock, and how many entries are looked at. Minuet: the
+-- lock manager's queue for one shared resource.
 -- Assumes nothing.
 use Prim.Native.Nat.{ℕ, suc, _+_}
 use mathlib.Core.List.{List, [], _∷_, map}
@@ -11,12 +11,12 @@ use Rattle.stamps.specs.declared.Pair.{Pair}
 use Rattle.lock_queue.specs.declared.Queue.{Queue}
 use Rattle.lock_queue.specs.declared.Waiting.{Waiting}
 
--- "1 to 32 places".
+-- Rule 7.1: a queue has 1 to so many places.
 abbrev pub mostPlaces : ℕ
 mostPlaces = 32
 
--- "The queue is a lent slice of waiting entries, .., with a count and the largest s and x ever accepted there". How many places were lent is
--- a number of its own below: the list may be shorter or longer than that.
+-- Rule 7.1: the places, how many of them are taken, and the largest stamps that were accepted. How many places were lent is a number of its own
+-- below: the list may be shorter or longer than that.
 pub record State : Type 0 where
   pub places : List Waiting
   pub count : ℕ
@@ -30,7 +30,11 @@ state q = record { places = q .places .at; count = q .count; largest = q .larges
 abbrev pub noWaiting : Waiting
 noWaiting = record { mode = 0; pair = noPair }
 
--- The entries that stand, from the front: "places past the count are not looked at".
+-- Rule 7.3: an empty queue, over any places. None of them is taken, and nothing was accepted yet.
+abbrev pub emptyQueue : List Waiting → State
+emptyQueue places = record { places = places; count = 0; largest = noPair }
+
+-- Rule 7.2: the entries that stand, from the front.
 abbrev pub standing : State → List Waiting
 standing q = take (q .count) (q .places)
 
@@ -51,7 +55,7 @@ unfoldable pub firstPlace : ℕ → List ℕ → ℕ
 firstPlace d [] = 0
 firstPlace d (e ∷ es) = cond (eqb e d) 0 (suc (firstPlace d es))
 
--- "How many entries were looked at, ..: those from the front up to and including the desk's own, or all standing if it has none".
+-- Rule 7.14: a desk that stands is found at its first place, after those before it; one that does not stand is found missing after all.
 unfoldable pub looked : ℕ → List ℕ → ℕ
 looked d es = cond (stands d es) (firstPlace d es + 1) (length es)
 
@@ -60,7 +64,7 @@ unfoldable pub noExclusive : List Waiting → Bool
 noExclusive [] = true
 noExclusive (w ∷ ws) = not (eqb (w .mode) exclusive) && noExclusive ws
 
--- "Shared holds the lock if no exclusive stands before it; exclusive holds if it is first": the entry at a place.
+-- Rule 7.5, of the entry at a place.
 unfoldable pub holdsAt : ℕ → List Waiting → Bool
 holdsAt place ws = cond (eqb (getD ws place noWaiting .mode) exclusive) (eqb place 0) (noExclusive (take place ws))
 

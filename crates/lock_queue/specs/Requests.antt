@@ -1,21 +1,24 @@
--- What an accepted request makes of the queue (the sheet, "The lock queue of one card"): an entry joins the end, or the gap that a desk's entry
--- leaves is closed.
+-- Asking and leaving (rules 7.6 to 7.14): what an accepted request makes of the queue, the numbers as tables of rows, and the answer. Minuet:
+-- UpgradeLock, and DowngradeLock to no lock.
 -- Assumes nothing.
 use Prim.Native.Nat.{ℕ, _+_, _-_}
 use mathlib.Core.Path.{_≡_}
 use mathlib.Core.List.{List, [], _∷_, _++_}
 use mathlib.Core.Bool.{cond, Bool, not, _&&_, _||_}
-use lib.ListN.{drop, set}
+use lib.ListN.{drop, set, getD}
 use lib.Dec.{eqb}
-use Rattle.stamps.specs.Stamp.{largerOfEach, stale, noPair}
-use Rattle.lock_queue.specs.Queue.{State, noWaiting, standing, desk, desks, stands, looked, holds}
+use Rattle.stamps.specs.Stamp.{largerOfEach, shared, exclusive, stale, noPair, MALFORMED}
+use Rattle.lock_queue.specs.Numbers.{BAD-QUEUE, PAIR-DENIED, STANDS-ALREADY, QUEUE-FULL, NOT-STANDING}
+use Rattle.lock_queue.specs.Queue.{State, noWaiting, standing, desk, desks, stands, firstPlace, looked, holds}
 use Rattle.lock_queue.specs.declared.Waiting.{Waiting}
 use Rattle.lists.specs.Table.{Row, row, first, settled}
 use Rattle.stamps.specs.declared.Pair.{Pair}
 use Rattle.lock_queue.specs.Good.{waitingFormed, good}
 use Rattle.lock_queue.specs.declared.LockAnswer.{LockAnswer}
 
--- "Accepted entries join the end and raise the largest s and x."
+-- ---- What an accepted request makes of the queue.
+
+-- Rule 7.10: the entry takes the first free place, and each largest stamp is the larger of what it was and the entry's.
 unfoldable pub joined : Waiting → State → State
 joined new q =
     record {
@@ -29,7 +32,8 @@ unfoldable pub removed : ℕ → List Waiting → List Waiting
 removed d [] = []
 removed d (w ∷ ws) = cond (eqb (desk w) d) ws (w ∷ removed d ws)
 
--- "Leaving closes the gap and zeroes the freed last place, ..; other places past the count keep what they hold."
+-- Rule 7.13: those behind the desk's entry go one place forward, the place that this frees holds nothing, and the places past the count are as
+-- they were.
 unfoldable pub without : ℕ → State → State
 without d q =
     record {
@@ -38,47 +42,55 @@ without d q =
       largest = q .largest;
     }
 
--- ---- Asking and leaving: the numbers as tables of rows, the queue as it is afterwards, and the answer (the sheet, "The lock queue of one card").
--- Minuet: UpgradeLock, and DowngradeLock to no lock.
+-- ---- Upgrading.
 
--- "Asking shared is denied if its x is below the largest x; asking exclusive, if s or x is below its largest": as a command is stale. Minuet:
--- UpgradeDenied.
+-- The mode of the entry of a desk that stands.
+abbrev pub modeOf : ℕ → List Waiting → ℕ
+modeOf d ws = getD ws (firstPlace d (desks ws)) noWaiting .mode
+
+-- Rule 7.8: a desk that stands shared asks in mode exclusive. Minuet: UpgradeLock of a client that holds, or waits for, a shared lock.
+unfoldable pub upgrading : ℕ → ℕ → List Waiting → Bool
+upgrading mode d ws = stands d (desks ws) && (eqb mode exclusive && eqb (modeOf d ws) shared)
+
+-- Rule 7.10: the queue that an accepted entry joins. An upgrade joins the queue that its desk's old entry has left.
+unfoldable pub onto : ℕ → ℕ → State → State
+onto mode d q = cond (upgrading mode d (standing q)) (without d q) q
+
+-- ---- The numbers, as tables of rows.
+
+-- Rule 7.7: a pair is denied by the largest pair as a command is stale by the stored one.
 abbrev pub denied : Pair → Waiting → Bool
 denied largest new = stale (new .mode) largest (new .pair)
 
--- "Full, exactly when count equals length".
-abbrev pub full : ℕ → ℕ → Bool
-full lent count = eqb count lent
+-- Rule 7.9: the desk and start stands, and this is no upgrade.
+abbrev pub already : Bool → ℕ → List ℕ → Bool
+already upgrade d es = stands d es && not upgrade
 
--- "This desk and start already stands". The mode that is asked for makes no difference.
-abbrev pub already : ℕ → ℕ → List ℕ → Bool
-already mode d es = stands d es
+-- Rule 7.9: no place is free, and this is no upgrade, which needs none.
+abbrev pub full : Bool → ℕ → ℕ → Bool
+full upgrade lent count = eqb count lent && not upgrade
 
--- The order for asking.
+-- Rule 7.6.
 abbrev pub asking : ℕ → State → Waiting → List Row
 asking lent q new =
-    -- 10: bad queue
-    row (not (good lent q)) 10
-    -- 1: malformed
-    ∷ row (not (waitingFormed new)) 1
-    -- 12: this desk and start already stands
-    ∷ row (already (new .mode) (desk new) (desks (standing q))) 12
-    -- 11: denied
-    ∷ row (denied (q .largest) new) 11
-    -- 13: full
-    ∷ row (full lent (q .count)) 13
+    row (not (good lent q)) BAD-QUEUE
+    ∷ row (not (waitingFormed new)) MALFORMED
+    ∷ row (already (upgrading (new .mode) (desk new) (standing q)) (desk new) (desks (standing q))) STANDS-ALREADY
+    ∷ row (denied (q .largest) new) PAIR-DENIED
+    ∷ row (full (upgrading (new .mode) (desk new) (standing q)) lent (q .count)) QUEUE-FULL
     ∷ []
 
--- "Leaving: 10, then 15 if not standing."
+-- Rule 7.12.
 abbrev pub leaving : ℕ → State → ℕ → List Row
-leaving lent q d = row (not (good lent q)) 10 ∷ row (not (stands d (desks (standing q)))) 15 ∷ []
+leaving lent q d = row (not (good lent q)) BAD-QUEUE ∷ row (not (stands d (desks (standing q)))) NOT-STANDING ∷ []
 
--- Answers that name no holder and give zeros: 10 and 1.
+-- ---- The answer.
+
+-- A bad queue and a malformed ask tell nothing of the queue.
 abbrev pub blankAnswer : ℕ → Bool
-blankAnswer number = eqb number 10 || eqb number 1
+blankAnswer number = eqb number BAD-QUEUE || eqb number MALFORMED
 
--- "Each answer gives number, whether that desk holds the lock in the queue as it now is (not, for 10 and 1), largest pair as it now is (zeros
--- for 10 and 1), and how many entries were looked at, in the queue at entry: ..; zero for 10 and 1."
+-- Rule 7.14: holding and the largest pair as the queue now is; how many entries were looked at, in the queue as it was.
 unfoldable pub answered : ℕ → ℕ → State → State → LockAnswer
 answered number d entry exit =
     record {
@@ -87,6 +99,8 @@ answered number d entry exit =
       largest = cond (blankAnswer number) noPair (exit .largest);
       looked = cond (blankAnswer number) 0 (looked d (desks (standing entry)));
     }
+
+-- ---- A request on a queue of `lent` places.
 
 -- What a desk can send: it asks, with its entry, or it leaves, naming its desk and start.
 pub data Request : Type 0 where
@@ -104,10 +118,10 @@ sender (leaves d) = d
 
 -- The queue after an accepted request.
 abbrev pub applied : Request → State → State
-applied (asks new) q = joined new q
+applied (asks new) q = joined new (onto (new .mode) (desk new) q)
 applied (leaves d) q = without d q
 
--- A request on a queue of `lent` places: the number, the queue as it then is, and the answer.
+-- The number, the queue as it then is, and the answer.
 unfoldable pub number : ℕ → State → Request → ℕ
 number lent q r = first (queueRows lent q r)
 

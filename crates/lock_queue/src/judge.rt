@@ -3,25 +3,31 @@ ghost use Prim.Native.Nat.{_≤_};
 ghost use lib.ListN.{take};
 ghost use Rattle.lock_queue.specs.Queue.{state, mostPlaces, desks};
 ghost use Rattle.lock_queue.specs.Requests.{already, full, asks, leaves, number};
+use crate::BAD_QUEUE;
+use crate::NOT_STANDING;
+use crate::PAIR_DENIED;
 use crate::Places;
+use crate::QUEUE_FULL;
 use crate::Queue;
+use crate::STANDS_ALREADY;
 use crate::Waiting;
 use crate::inner::rules;
 use crate::inner::state::stands;
+use crate::inner::state::upgrading;
 
-// Number 12's test. The mode makes no difference.
-fn already(mode: u8, places: Places, count: usize, desk: u32) -> bool
+// Number 12's test.
+fn already(upgrade: bool, places: Places, count: usize, desk: u32) -> bool
     requires { ⌜ count ≤ mostPlaces ⌝ }
-    ensures { λ r. ⌜ r ≡ already mode desk (desks (take count (places .at))) ⌝ }
+    ensures { λ r. ⌜ r ≡ already upgrade desk (desks (take count (places .at))) ⌝ }
 {
-    stands(places, count, desk)
+    stands(places, count, desk) & !upgrade
 }
 
 // Number 13's test.
-fn full(lent: usize, count: usize) -> bool
-    ensures { λ r. ⌜ r ≡ full lent count ⌝ }
+fn full(upgrade: bool, lent: usize, count: usize) -> bool
+    ensures { λ r. ⌜ r ≡ full upgrade lent count ⌝ }
 {
-    count == lent
+    (count == lent) & !upgrade
 }
 
 // The number for asking.
@@ -29,27 +35,24 @@ pub fn ask_number(queue: Queue, lent: usize, new: Waiting) -> u8
     ensures { λ r. ⌜ r ≡ number lent (state queue) (asks new) ⌝ }
 {
     if !rules::good(queue, lent) {
-        return 10;
+        return BAD_QUEUE;
     }
     let pair = new.pair;
     if !stamps::session_ok(new.mode, pair) {
-        return 1;
+        return stamps::MALFORMED;
     }
     let stood = queue.places;
-    if already(
-        new.mode,
-        stood,
-        queue.count,
-        stamps::desk_of(new.mode, pair),
-    ) {
-        return 12;
+    let desk = stamps::desk_of(new.mode, pair);
+    let upgrade = upgrading(new.mode, stood, queue.count, desk);
+    if already(upgrade, stood, queue.count, desk) {
+        return STANDS_ALREADY;
     }
     let largest = queue.largest;
     if stamps::stale(new.mode, largest, pair) {
-        return 11;
+        return PAIR_DENIED;
     }
-    if full(lent, queue.count) {
-        return 13;
+    if full(upgrade, lent, queue.count) {
+        return QUEUE_FULL;
     }
     0
 }
@@ -59,11 +62,11 @@ pub fn leave_number(queue: Queue, lent: usize, desk: u32) -> u8
     ensures { λ r. ⌜ r ≡ number lent (state queue) (leaves desk) ⌝ }
 {
     if !rules::good(queue, lent) {
-        return 10;
+        return BAD_QUEUE;
     }
     let stood = queue.places;
     if !stands(stood, queue.count, desk) {
-        return 15;
+        return NOT_STANDING;
     }
     0
 }

@@ -2,7 +2,9 @@
 pub mod inner;
 mod judge;
 
-ghost use Rattle.lock_queue.specs.Queue.{state};
+ghost use mathlib.Core.Path.{_≡_};
+ghost use lib.ListN.{replicate};
+ghost use Rattle.lock_queue.specs.Queue.{state, emptyQueue, mostPlaces, noWaiting};
 ghost use Rattle.lock_queue.specs.Requests.{asks, leaves, Turns};
 use stamps::Pair;
 
@@ -10,6 +12,17 @@ use stamps::Pair;
 
 // The largest number of places that a queue can have.
 pub const MOST_PLACES: usize = 32;
+
+// The numbers of refusals (rules 7.6 and 7.12). A malformed ask gets 1.
+pub const BAD_QUEUE: u8 = 10;
+
+pub const PAIR_DENIED: u8 = 11;
+
+pub const STANDS_ALREADY: u8 = 12;
+
+pub const QUEUE_FULL: u8 = 13;
+
+pub const NOT_STANDING: u8 = 15;
 
 // An entry that waits for the lock: 1 shared or 2 exclusive, and the pair that its desk proposed.
 pub struct Waiting {
@@ -43,14 +56,32 @@ pub struct LockOutcome {
     pub queue: Queue,
 }
 
-// A desk asks for the lock. `lent` is the number of places that the queue was given; a queue of more than 32 is bad.
+// An empty queue (rule 7.3): no place is taken, and each holds nothing.
+pub fn empty() -> Queue
+    ensures { λ r. ⌜ state r ≡ emptyQueue (replicate mostPlaces noWaiting) ⌝ }
+{
+    Queue {
+        places: Places {
+            at: [Waiting {
+                mode: 0,
+                pair: Pair { s: 0, x: 0 },
+            }; 32],
+        },
+        count: 0,
+        largest: Pair { s: 0, x: 0 },
+    }
+}
+
+// A desk asks for the lock, or, where it stands shared and asks for exclusive, upgrades its entry (rules 7.6 to 7.10). `lent` is the number of
+// places that the queue was given; a queue of more than 32 is bad.
 pub fn ask(queue: Queue, lent: usize, new: Waiting) -> LockOutcome
     ensures { λ r. ⌜ Turns lent (state queue) (asks new) (r .answer) (state (r .queue)) ⌝ }
 {
     let number = judge::ask_number(queue, lent, new);
     let desk = stamps::desk_of(new.mode, new.pair);
     if number == 0 {
-        let joined = inner::effects::joined(queue, new);
+        let base = inner::effects::onto(queue, new.mode, desk);
+        let joined = inner::effects::joined(base, new);
         return LockOutcome {
             answer: inner::answer::answered(number, desk, queue, joined),
             queue: joined,
@@ -62,7 +93,7 @@ pub fn ask(queue: Queue, lent: usize, new: Waiting) -> LockOutcome
     }
 }
 
-// The desk and start `desk` leaves.
+// The desk and start `desk` leaves (rules 7.12 and 7.13).
 pub fn leave(queue: Queue, lent: usize, desk: u32) -> LockOutcome
     ensures { λ r. ⌜ Turns lent (state queue) (leaves desk) (r .answer) (state (r .queue)) ⌝ }
 {

@@ -5,27 +5,26 @@ use native.Mathlib.Numerals.{add-one}
 use mathlib.Core.Path.{_≡_, refl, sym, ap, subst, _∙_}
 use mathlib.Core.Logic.{_⊎_, inl, inr}
 use mathlib.Core.List.{List, [], _∷_, _++_, map, append-assoc}
-use mathlib.Core.Bool.{Bool, true, false, cond, not, _&&_, and-false}
-use borrow.Author.Tests.{eq-eqb, eqb-true, eqb-false, leb-true, le-leb, ltb-true, ltb-false, not-true, not-false}
+use mathlib.Core.Bool.{Bool, true, false, cond, not, _&&_, and-false, and-true}
+use borrow.Author.Tests.{eq-eqb, ne-eqb, eqb-true, eqb-false, leb-true, le-leb, ltb-true, ltb-false, not-true, not-false}
 use lib.Dec.{T, ltb, leb, eqb, eqb→eq}
 use lib.ListN.{length, take, drop, getD, length-append, length-take, length-drop, length-map, length-set}
 use lib.Seq.{getD-take, length-take-le, take-suc-set, drop-set-lt, take-at, drop-at, getD-at, append-snoc, take-append-le, drop-append-le, set-append-left, getD-append-seam, take-append-seam}
-use Rattle.lists.specs.Parts.{table}
-use Rattle.lists.specs.Table.{all, allFrom}
-use Rattle.lists.proofs.Tests.{cases, to-T, from-T, and-in, and-left, and-right, or-cases}
+use Rattle.lists.specs.Table.{all, allFrom, applies, noRow, earlier}
+use Rattle.lists.proofs.Tests.{cases, never-both, and-fails, T-and-left, to-T, from-T, and-in, and-left, and-right, or-cases}
 use Rattle.stamps.proofs.Stamp.{max-one, larger-old, SessionRules, session-rules}
 use Rattle.lists.proofs.Table.{given, unapplied}
 use Rattle.stamps.specs.Stamp.{stampValid, deskNumber, deskStart, own, shared, exclusive, largerOfEach, noPair}
-use Rattle.lock_queue_claims.specs.Claims.{EachNumber, Acceptance, RefusalLeaves, BlankAnswers, LookedWithin, StaysGood, JoinsEnd, GapClosed, FreedZeroed, OthersKept, LargestGrows, AskerHolds, LeaverHoldsNothing, HoldersShared, RoomAfterLeaving, NoDeskZero, BeyondLent, longer, modeOf}
+use Rattle.lock_queue_claims.specs.Claims.{EachNumber, Acceptance, RefusalLeaves, BlankAnswers, LookedWithin, StaysGood, JoinsEnd, GapClosed, FreedZeroed, OthersKept, LargestGrows, AskerHolds, LeaverHoldsNothing, HoldersShared, RoomAfterLeaving, NoDeskZero, BeyondLent, longer}
 use Rattle.lock_queue.specs.Queue.{State, noWaiting, mostPlaces, standing, desk, desks, stands, firstPlace, looked, noExclusive, holdsAt, holds}
 use Rattle.lock_queue.specs.Good.{distinct, waitingFormed, within, good}
-use Rattle.lock_queue.specs.Requests.{joined, removed, without, Request, asks, leaves, queueRows, sender, applied, blankAnswer, answered, number, after, answer}
-use Rattle.lock_queue_claims.specs.Trials.{numbers, TrialN}
+use Rattle.lock_queue.specs.Requests.{joined, removed, without, modeOf, upgrading, onto, denied, Request, asks, leaves, queueRows, sender, applied, blankAnswer, answered, number, after, answer}
 use Rattle.lock_queue.specs.declared.Waiting.{Waiting}
 use Rattle.lock_queue.proofs.Checks.{good-unsized, good-out, good-by}
 use Rattle.lock_queue.proofs.Standing.{stands-place, stands-append, map-append}
-use Rattle.lock_queue.proofs.Judged.{each-once, no-row, accepted-good, accepted-after, refused-after, ask-room, leave-stands, leave-place}
-use Rattle.lock_queue_claims.proofs.Removed.{all-at, all-weaker, all-joined, all-removed, within-more, distinct-joined, distinct-removed, gone, removed-long, stands-inside, place-desk, place-last, none-exclusive}
+use Rattle.lock_queue.proofs.Upgrades.{up-stands, absent-plain, onto-up, onto-plain}
+use Rattle.lock_queue.proofs.Judged.{each-once, no-row, accepted-good, accepted-after, refused-after, not-bad, ask-room, leave-stands, leave-place}
+use Rattle.lock_queue_claims.proofs.Removed.{all-at, all-weaker, all-joined, all-removed, within-more, distinct-joined, distinct-removed, gone, removed-absent, removed-long, stands-inside, place-desk, place-last, none-exclusive}
 
 pub each-number : EachNumber
 unfolding number
@@ -67,13 +66,20 @@ looked-within lent q r = go (blankAnswer (number lent q r)) (stands (sender r) (
     go false true h = omega (arith, ltb-true (firstPlace (sender r) (desks (standing q))) (length (desks (standing q))) h, standing-long q)
     go false false h = standing-long q
 
--- ---- an entry that joins
+-- ---- an entry that joins, and is no upgrade
 
-module _ (lent : ℕ) (q : State) (new : Waiting) (lie : lent ≤ length (q .places)) (e : number lent q (asks new) ≡ 0) where
+module _ (lent : ℕ) (q : State) (new : Waiting) (lie : lent ≤ length (q .places)) (e : number lent q (asks new) ≡ 0)
+    (plain : upgrading (new .mode) (desk new) (standing q) ≡ false) where
+  room : q .count < lent
+  room = subst (λ (s : State). s .count < lent) (onto-plain (new .mode) (desk new) q plain) (ask-room lent q new e)
+
+  absent : stands (desk new) (desks (standing q)) ≡ false
+  absent = sym (and-true (stands (desk new) (desks (standing q)))) ∙ rw plain at (no-row lent q (asks new) e 12)
+
   joined-standing : standing (joined new q) ≡ standing q ++ (new ∷ [])
   unfolding joined
   joined-standing =
-      let place : q .count < length (q .places) = omega (arith, ask-room lent q new e) in
+      let place : q .count < length (q .places) = omega (arith, room) in
       rw (add-one, take-suc-set (q .places) (q .count) new place)
 
   joined-formed : waitingFormed new ≡ true
@@ -93,11 +99,11 @@ module _ (lent : ℕ) (q : State) (new : Waiting) (lie : lent ≤ length (q .pla
       joined-standing
       (g .some)
       (g .short)
-      (omega (arith, ask-room lent q new e))
+      (omega (arith, room))
       (max-one (λ n. stampValid n ≡ true) (q .largest .s) (new .pair .s) (g .s-valid) (rules .s))
       (max-one (λ n. stampValid n ≡ true) (q .largest .x) (new .pair .x) (g .x-valid) (rules .x))
       (all-joined waitingFormed (standing q) new (g .all-formed) joined-formed)
-      (distinct-joined (standing q) new (g .all-distinct) (no-row lent q (asks new) e 12))
+      (distinct-joined (standing q) new (g .all-distinct) absent)
       (all-joined (within largest) (standing q) new
       (all-weaker (within (q .largest)) (within largest) (within-more (q .largest) largest (omega arith) (omega arith)) (standing q) (g .all-within))
       (and-in (le-leb (new .pair .s) (largest .s) (omega arith)) (le-leb (new .pair .x) (largest .x) (omega arith))))
@@ -130,6 +136,75 @@ module _ (lent : ℕ) (q : State) (d : ℕ) (lie : lent ≤ length (q .places)) 
       (distinct-removed d (standing q) (g .all-distinct))
       (all-removed (within (q .largest)) d (standing q) (g .all-within))
 
+  without-long : length (without d q .places) ≡ length (q .places)
+  unfolding without
+  without-long =
+      let left = some-left in
+      let fits : q .count ≤ length (q .places) = omega (arith, accepted-good lent q (leaves d) e .counted) in
+      simp (length-append, length-drop) (omega arith)
+
+  without-rest : drop (q .count) (without d q .places) ≡ drop (q .count) (q .places)
+  unfolding without
+  without-rest =
+      let left = some-left in
+      let long : length (removed d (standing q) ++ (noWaiting ∷ [])) ≡ q .count = simp length-append (omega arith) in
+      rw (← append-snoc (removed d (standing q)) noWaiting (drop (q .count) (q .places)))
+      (drop-at (removed d (standing q) ++ (noWaiting ∷ [])) (drop (q .count) (q .places)) (q .count) long)
+
+-- ---- an upgrade: the old entry leaves, and the new one joins
+
+-- The number of an ask, where no row applies.
+unrefused : (lent : ℕ) (q : State) (new : Waiting) → good lent q ≡ true → waitingFormed new ≡ true → stands (desk new) (desks (standing q)) ≡ false →
+    denied (q .largest) new ≡ false → eqb (q .count) lent ≡ false → number lent q (asks new) ≡ 0
+unfolding number
+unrefused lent q new g f s d c = rw (g, f, s, d, c)
+
+module _ (lent : ℕ) (q : State) (new : Waiting) (lie : lent ≤ length (q .places)) (e : number lent q (asks new) ≡ 0)
+    (up : upgrading (new .mode) (desk new) (standing q) ≡ true) where
+  pub up-left : number lent q (leaves (desk new)) ≡ 0
+  unfolding number
+  up-left = rw (not-bad lent q (asks new) (λ bad. absurd (omega arith)), up-stands (new .mode) (desk new) (standing q) up)
+
+  up-lie : lent ≤ length (without (desk new) q .places)
+  up-lie = rw (without-long lent q (desk new) lie up-left) lie
+
+  up-absent : stands (desk new) (desks (standing (without (desk new) q))) ≡ false
+  up-absent =
+      rw (without-standing lent q (desk new) lie up-left) (gone (desk new) (standing q) (accepted-good lent q (leaves (desk new)) up-left .all-distinct))
+
+  up-plain : upgrading (new .mode) (desk new) (standing (without (desk new) q)) ≡ false
+  up-plain = absent-plain (new .mode) (desk new) (standing (without (desk new) q)) up-absent
+
+  pub up-again : number lent (without (desk new) q) (asks new) ≡ 0
+  unfolding without
+  up-again =
+      unrefused lent (without (desk new) q) new (without-good lent q (desk new) lie up-left)
+      (not-false (waitingFormed new) (no-row lent q (asks new) e 1))
+      up-absent
+      still
+      (ne-eqb (without (desk new) q .count) lent fewer)
+    where
+      still : denied (without (desk new) q .largest) new ≡ false
+      still = no-row lent q (asks new) e 11
+
+      fewer : without (desk new) q .count ≡ lent → ⊥
+      fewer z = let left = some-left lent q (desk new) lie up-left in omega (arith, accepted-good lent q (leaves (desk new)) up-left .counted)
+
+  pub up-same : applied (asks new) q ≡ applied (asks new) (without (desk new) q)
+  up-same =
+      ap (joined new) (onto-up (new .mode) (desk new) q up ∙ sym (onto-plain (new .mode) (desk new) (without (desk new) q) up-plain))
+
+-- What holds of the queue that an ask which is no upgrade makes, of any queue, holds of the one that an upgrade makes.
+plainly : (P : State → Type 0) (lent : ℕ) (q : State) (new : Waiting) → lent ≤ length (q .places) → number lent q (asks new) ≡ 0 →
+    (upgrading (new .mode) (desk new) (standing q) ≡ false → P (joined new q)) →
+    (upgrading (new .mode) (desk new) (standing q) ≡ true → P (joined new (without (desk new) q))) →
+    P (applied (asks new) q)
+plainly P lent q new lie e f g = go (cases (upgrading (new .mode) (desk new) (standing q)))
+  where
+    go : (upgrading (new .mode) (desk new) (standing q) ≡ true) ⊎ (upgrading (new .mode) (desk new) (standing q) ≡ false) → P (applied (asks new) q)
+    go (inl up) = subst P (ap (joined new) (sym (onto-up (new .mode) (desk new) q up))) (g up)
+    go (inr plain) = subst P (ap (joined new) (sym (onto-plain (new .mode) (desk new) q plain))) (f plain)
+
 -- ---- the claims on the queue after a request
 
 pub stays-good : StaysGood
@@ -137,11 +212,19 @@ stays-good lent q r lie t =
     to-T (after-keeps (λ s. good lent s ≡ true) lent q r (from-T (good lent q) t) (made r))
   where
     made : (r : Request) → number lent q r ≡ 0 → good lent (applied r q) ≡ true
-    made (asks new) e = joined-good lent q new lie e
+    made (asks new) e =
+        plainly (λ s. good lent s ≡ true) lent q new lie e (λ plain. joined-good lent q new lie e plain)
+        (λ up. joined-good lent (without (desk new) q) new (up-lie lent q new lie e up) (up-again lent q new lie e up) (up-plain lent q new lie e up))
     made (leaves d) e = without-good lent q d lie e
 
 pub joins-end : JoinsEnd
-joins-end lent q new lie e = rw (accepted-after lent q (asks new) e) (joined-standing lent q new lie e)
+joins-end lent q new lie e =
+    rw (accepted-after lent q (asks new) e)
+    (plainly (λ s. standing s ≡ removed (desk new) (standing q) ++ (new ∷ [])) lent q new lie e
+    (λ plain. rw (removed-absent (desk new) (standing q) (absent lent q new lie e plain)) (joined-standing lent q new lie e plain))
+    (λ up.
+    joined-standing lent (without (desk new) q) new (up-lie lent q new lie e up) (up-again lent q new lie e up) (up-plain lent q new lie e up)
+    ∙ ap (λ (ws : List Waiting). ws ++ (new ∷ [])) (without-standing lent q (desk new) lie (up-left lent q new lie e up))))
 
 pub gap-closed : GapClosed
 gap-closed lent q d lie e = rw (accepted-after lent q (leaves d) e) (without-standing lent q d lie e)
@@ -152,13 +235,21 @@ freed-zeroed lent q d w lie e =
     rw (accepted-after lent q (leaves d) e)
     (getD-at (removed d (standing q)) noWaiting (drop (q .count) (q .places)) w (q .count - 1) (omega (arith, some-left lent q d lie e)))
 
+pub onto-largest : (mode d : ℕ) (q : State) → onto mode d q .largest ≡ q .largest
+unfolding without
+onto-largest mode d q = go (cases (upgrading mode d (standing q)))
+  where
+    go : (upgrading mode d (standing q) ≡ true) ⊎ (upgrading mode d (standing q) ≡ false) → onto mode d q .largest ≡ q .largest
+    go (inl up) = ap (λ (s : State). s .largest) (onto-up mode d q up)
+    go (inr plain) = ap (λ (s : State). s .largest) (onto-plain mode d q plain)
+
 pub largest-grows : LargestGrows
 unfolding joined without
 largest-grows lent q r =
     after-keeps (λ s. (q .largest .s ≤ s .largest .s) × (q .largest .x ≤ s .largest .x)) lent q r (omega arith) (made r)
   where
     made : (r : Request) → number lent q r ≡ 0 → (q .largest .s ≤ applied r q .largest .s) × (q .largest .x ≤ applied r q .largest .x)
-    made (asks new) e = larger-old (q .largest) (new .pair)
+    made (asks new) e = rw (onto-largest (new .mode) (desk new) q) (larger-old (q .largest) (new .pair))
     made (leaves d) e = omega arith
 
 pub others-kept : OthersKept
@@ -170,16 +261,22 @@ others-kept lent q r lie =
     made : (r : Request) → number lent q r ≡ 0 →
         (drop (max (q .count) (applied r q .count)) (applied r q .places) ≡ drop (max (q .count) (applied r q .count)) (q .places))
         × (length (applied r q .places) ≡ length (q .places))
-    made (asks new) e = (drop-set-lt (max (q .count) (q .count + 1)) (q .places) (q .count) new (omega arith), length-set (q .places) (q .count) new)
+    made (asks new) e =
+        plainly
+        (λ s. (drop (max (q .count) (s .count)) (s .places) ≡ drop (max (q .count) (s .count)) (q .places)) × (length (s .places) ≡ length (q .places)))
+        lent q new lie e
+        (λ plain. (drop-set-lt (max (q .count) (q .count + 1)) (q .places) (q .count) new (omega arith), length-set (q .places) (q .count) new))
+        (λ up.
+        let left = up-left lent q new lie e up in
+        let some = some-left lent q (desk new) lie left in
+        let at : max (q .count) (q .count - 1 + 1) ≡ q .count = omega arith in
+        let there = without (desk new) q in (
+          rw at (drop-set-lt (q .count) (there .places) (q .count - 1) new (omega arith) ∙ without-rest lent q (desk new) lie left),
+          length-set (there .places) (q .count - 1) new ∙ without-long lent q (desk new) lie left,
+        ))
     made (leaves d) e =
-        let left = some-left lent q d lie e in
         let at : max (q .count) (q .count - 1) ≡ q .count = omega arith in
-        let long : length (removed d (standing q) ++ (noWaiting ∷ [])) ≡ q .count = simp length-append (omega arith) in
-        let fits : q .count ≤ length (q .places) = omega (arith, accepted-good lent q (leaves d) e .counted) in (
-          rw (at, ← append-snoc (removed d (standing q)) noWaiting (drop (q .count) (q .places)))
-              (drop-at (removed d (standing q) ++ (noWaiting ∷ [])) (drop (q .count) (q .places)) (q .count) long),
-          simp (length-append, length-drop) (omega arith),
-        )
+        (rw at (without-rest lent q d lie e), without-long lent q d lie e)
 
 pub room-after-leaving : RoomAfterLeaving
 unfolding without
@@ -188,7 +285,9 @@ room-after-leaving lent q d new e f =
     let g = accepted-good lent q (leaves d) e in
     let stood = leave-place lent q d e .1 in
     let now : after lent q (leaves d) .count ≡ q .count - 1 = rw (accepted-after lent q (leaves d) e) in
-    let same = eqb→eq (after lent q (leaves d) .count) lent full in
+    let same =
+    eqb→eq (after lent q (leaves d) .count) lent
+    (T-and-left (eqb (after lent q (leaves d) .count) lent) (not (upgrading (new .mode) (desk new) (standing (after lent q (leaves d))))) full) in
     omega (arith, g .counted)
 
 -- ---- who holds the lock
@@ -212,9 +311,11 @@ last-holds ws new h =
 pub asker-holds : AskerHolds
 unfolding answer answered
 asker-holds lent q new lie e =
-    let long : length (standing q) ≡ q .count =
-    length-take-le (q .count) (q .places) (omega (arith, accepted-good lent q (asks new) e .counted)) in
-    rw (e, joins-end lent q new lie e, last-holds (standing q) new (no-row lent q (asks new) e 12), long)
+    rw (
+      e,
+      joins-end lent q new lie e,
+      last-holds (removed (desk new) (standing q)) new (gone (desk new) (standing q) (accepted-good lent q (asks new) e .all-distinct)),
+    )
 
 absent-holds-nothing : (d : ℕ) (ws : List Waiting) → stands d (desks ws) ≡ false → holds d ws ≡ false
 unfolding holds
@@ -227,7 +328,7 @@ unfolding number
 refused-blank lent q d n e s = go (good lent q) refl
   where
     go : (b : Bool) → good lent q ≡ b → blankAnswer (number lent q (leaves d)) ≡ true
-    go true k = let none : number lent q (leaves d) ≡ 0 = rw (k, s) in absurd (omega arith)
+    go true k = let noRow : number lent q (leaves d) ≡ 0 = rw (k, s) in absurd (omega arith)
     go false k = rw k
 
 pub leaver-holds-nothing : LeaverHoldsNothing
@@ -254,8 +355,8 @@ behind-shared ws i j h k e = go (eqb (getD ws j noWaiting .mode) exclusive) refl
     go : (b : Bool) → eqb (getD ws j noWaiting .mode) exclusive ≡ b → cond b (eqb j 0) (noExclusive (take j ws)) ≡ true →
         (getD ws i noWaiting .mode ≡ exclusive → ⊥) × (getD ws j noWaiting .mode ≡ exclusive → ⊥)
     go true m first = absurd (omega (arith, eqb-true j 0 first))
-    go false m none = (
-      λ x. none-exclusive (take j ws) none i (omega (arith, length-take-le j ws (omega arith))) (rw (getD-take j ws i noWaiting h) x),
+    go false m noRow = (
+      λ x. none-exclusive (take j ws) noRow i (omega (arith, length-take-le j ws (omega arith))) (rw (getD-take j ws i noWaiting h) x),
       eqb-false (getD ws j noWaiting .mode) exclusive m,
     )
 
@@ -356,6 +457,10 @@ bad-answer lent q r e = rw e
 over-bad : (lent : ℕ) (q : State) → leb (q .count) lent ≡ false → good lent q ≡ false
 over-bad lent q e = sym (good-unsized lent q (rw e (and-false (leb 1 lent && leb lent mostPlaces))))
 
+same-joined : (more : List Waiting) (new : Waiting) (b : State) → b .count < length (b .places) → joined new (longer more b) ≡ longer more (joined new b)
+unfolding joined
+same-joined more new b h = rw (set-append-left (b .places) more (b .count) new h)
+
 module _ (lent : ℕ) (q : State) (more : List Waiting) (lie : lent ≤ length (q .places)) where
   module _ (h : q .count ≤ lent) where
     same-standing : standing (longer more q) ≡ standing q
@@ -370,11 +475,32 @@ module _ (lent : ℕ) (q : State) (more : List Waiting) (lie : lent ≤ length (
     same-number (asks new) = rw (same-good, same-standing)
     same-number (leaves d) = rw (same-good, same-standing)
 
+    same-without : (d : ℕ) → without d (longer more q) ≡ longer more (without d q)
+    unfolding without
+    same-without d = rw (same-standing, drop-append-le (q .count) (q .places) more (omega arith), append-assoc)
+
     same-accepted : (r : Request) → number lent q r ≡ 0 → applied r (longer more q) ≡ longer more (applied r q)
-    unfolding joined without
-    same-accepted (asks new) e = rw (set-append-left (q .places) more (q .count) new (omega (arith, ask-room lent q new e)))
-    same-accepted (leaves d) e =
-        rw (same-standing, drop-append-le (q .count) (q .places) more (omega arith), append-assoc)
+    same-accepted (leaves d) e = same-without d
+    same-accepted (asks new) e = go (cases (upgrading (new .mode) (desk new) (standing q)))
+      where
+        there : (b : Bool) → upgrading (new .mode) (desk new) (standing q) ≡ b → upgrading (new .mode) (desk new) (standing (longer more q)) ≡ b
+        there b h = ap (upgrading (new .mode) (desk new)) same-standing ∙ h
+
+        go : (upgrading (new .mode) (desk new) (standing q) ≡ true) ⊎ (upgrading (new .mode) (desk new) (standing q) ≡ false) →
+            applied (asks new) (longer more q) ≡ longer more (applied (asks new) q)
+        go (inl up) =
+            let left = up-left lent q new lie e up in
+            let short : without (desk new) q .count < length (without (desk new) q .places) =
+            rw (without-long lent q (desk new) lie left) (omega (arith, subst (λ (s : State). s .count < lent) (onto-up (new .mode) (desk new) q up) (ask-room lent q new e))) in
+            ap (joined new) (onto-up (new .mode) (desk new) (longer more q) (there true up) ∙ same-without (desk new))
+            ∙ same-joined more new (without (desk new) q) short
+            ∙ ap (λ (s : State). longer more (joined new s)) (sym (onto-up (new .mode) (desk new) q up))
+        go (inr plain) =
+            let short : q .count < length (q .places) =
+            omega (arith, subst (λ (s : State). s .count < lent) (onto-plain (new .mode) (desk new) q plain) (ask-room lent q new e)) in
+            ap (joined new) (onto-plain (new .mode) (desk new) (longer more q) (there false plain))
+            ∙ same-joined more new q short
+            ∙ ap (λ (s : State). longer more (joined new s)) (sym (onto-plain (new .mode) (desk new) q plain))
 
     same-after : (r : Request) → after lent (longer more q) r ≡ longer more (after lent q r)
     same-after r = go (number lent q r) refl
@@ -416,9 +542,3 @@ beyond-lent lent q r more lie = go (leb (q .count) lent) refl
           bad-answer lent (longer more q) r there ∙ sym (bad-answer lent q r here),
           refusal-leaves lent (longer more q) r 9 there ∙ ap (longer more) (sym (refusal-leaves lent q r 9 here)),
         )
-
--- ---- trial n
-
-pub trial-n : TrialN
-unfolding numbers number after good all allFrom distinct stands joined without removed table
-trial-n = refl

@@ -1,2 +1,5 @@
 pub mod Removed
 pub mod Claims
+pub mod Upgrades
+pub mod Course
+pub mod Trials

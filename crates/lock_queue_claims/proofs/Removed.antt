@@ -76,11 +76,11 @@ absent-removed e d (w ∷ ws) h = go (eqb (desk w) d) (or-fails (eqb (desk w) e)
     go false k rest = or-none (k .0) (rest (k .1))
 
 module _ (w : Waiting) (ws : List Waiting) (h : distinct (desks (w ∷ ws)) ≡ true) where
-  first-alone : stands (desk w) (desks ws) ≡ false
+  pub first-alone : stands (desk w) (desks ws) ≡ false
   unfolding distinct
   first-alone = not-true (stands (desk w) (desks ws)) (and-left (not (stands (desk w) (desks ws))) (distinct (desks ws)) h)
 
-  rest-distinct : distinct (desks ws) ≡ true
+  pub rest-distinct : distinct (desks ws) ≡ true
   unfolding distinct
   rest-distinct = and-right (not (stands (desk w) (desks ws))) (distinct (desks ws)) h
 
@@ -104,6 +104,13 @@ gone d (w ∷ ws) h = go (eqb (desk w) d) refl (gone d ws (rest-distinct w ws h)
     go : (b : Bool) → eqb (desk w) d ≡ b → stands d (desks (removed d ws)) ≡ false → stands d (desks (cond b ws (w ∷ removed d ws))) ≡ false
     go true e rest = rw (← eqb-true (desk w) d e) (first-alone w ws h)
     go false e rest = or-none e rest
+
+-- Who does not stand is not taken out.
+pub removed-absent : (d : ℕ) (ws : List Waiting) → stands d (desks ws) ≡ false → removed d ws ≡ ws
+unfolding stands removed
+removed-absent d [] h = refl
+removed-absent d (w ∷ ws) h =
+    let k = or-fails (eqb (desk w) d) (stands d (desks ws)) h in rw (k .0) (ap (λ (l : List Waiting). w ∷ l) (removed-absent d ws (k .1)))
 
 pub removed-long : (d : ℕ) (ws : List Waiting) → stands d (desks ws) ≡ true → suc (length (removed d ws)) ≡ length ws
 unfolding stands removed

@@ -9,9 +9,9 @@ use lib.Dec.{T, eqb}
 use lib.ListN.{length, drop, getD}
 use Rattle.stamps.specs.Stamp.{shared, exclusive, noPair}
 use Rattle.lists.specs.Table.{applies, noRow, earlier}
-use Rattle.lock_queue.specs.Queue.{State, noWaiting, standing, desks, firstPlace, noExclusive, holds}
+use Rattle.lock_queue.specs.Queue.{State, noWaiting, standing, desk, noExclusive, holds}
 use Rattle.lock_queue.specs.Good.{good}
-use Rattle.lock_queue.specs.Requests.{removed, Request, asks, leaves, queueRows, blankAnswer, number, after, answer}
+use Rattle.lock_queue.specs.Requests.{removed, modeOf, Request, asks, leaves, queueRows, blankAnswer, number, after, answer}
 use Rattle.lock_queue.specs.declared.Waiting.{Waiting}
 
 -- Each number is given exactly when its row applies and no earlier row does.
@@ -34,7 +34,7 @@ BlankAnswers =
     (lent : ℕ) (q : State) (r : Request) → T (blankAnswer (number lent q r)) →
     answer lent q r ≡ record { number = number lent q r; holds = false; largest = noPair; looked = 0 }
 
--- "So it never exceeds the count at entry."
+-- Rule 7.14: no more are looked at than stood.
 abbrev pub LookedWithin : Type 0
 LookedWithin = (lent : ℕ) (q : State) (r : Request) → answer lent q r .looked ≤ q .count
 
@@ -43,25 +43,25 @@ abbrev pub StaysGood : Type 0
 StaysGood =
     (lent : ℕ) (q : State) (r : Request) → lent ≤ length (q .places) → T (good lent q) → T (good lent (after lent q r))
 
--- "Accepted entries join the end."
+-- Rule 7.10: an accepted entry stands last, behind all others in their order. Its desk's old entry, if it had one, is gone.
 abbrev pub JoinsEnd : Type 0
 JoinsEnd =
     (lent : ℕ) (q : State) (new : Waiting) → lent ≤ length (q .places) → number lent q (asks new) ≡ 0 →
-    standing (after lent q (asks new)) ≡ standing q ++ (new ∷ [])
+    standing (after lent q (asks new)) ≡ removed (desk new) (standing q) ++ (new ∷ [])
 
--- "Leaving closes the gap": the others stand as they stood, without the desk's entry.
+-- Rule 7.13: who leaves is gone, and the others stand in their order.
 abbrev pub GapClosed : Type 0
 GapClosed =
     (lent : ℕ) (q : State) (d : ℕ) → lent ≤ length (q .places) → number lent q (leaves d) ≡ 0 →
     standing (after lent q (leaves d)) ≡ removed d (standing q)
 
--- "And zeroes the freed last place."
+-- Rule 7.13: the place that leaving frees, the last one that was taken, holds nothing.
 abbrev pub FreedZeroed : Type 0
 FreedZeroed =
     (lent : ℕ) (q : State) (d : ℕ) (w : Waiting) → lent ≤ length (q .places) → number lent q (leaves d) ≡ 0 →
     getD (after lent q (leaves d) .places) (q .count - 1) w ≡ noWaiting
 
--- "Other places past the count keep what they hold", and there are as many places as before. A place is past the count if it is so before
+-- Rule 7.13: places past the count keep what they hold, and there are as many places as before. A place is past the count if it is so before
 -- and after.
 abbrev pub past : ℕ → State → Request → ℕ
 past lent q r = max (q .count) (after lent q r .count)
@@ -78,20 +78,18 @@ LargestGrows =
     (lent : ℕ) (q : State) (r : Request) →
     (q .largest .s ≤ after lent q r .largest .s) × (q .largest .x ≤ after lent q r .largest .x)
 
--- An accepted asker holds the lock: shared if no exclusive stood, exclusive if none stood.
+-- An accepted asker holds the lock: shared if no exclusive stood, exclusive if none stood but, in an upgrade, its own desk.
 abbrev pub AskerHolds : Type 0
 AskerHolds =
     (lent : ℕ) (q : State) (new : Waiting) → lent ≤ length (q .places) → number lent q (asks new) ≡ 0 →
-    answer lent q (asks new) .holds ≡ cond (eqb (new .mode) exclusive) (eqb (q .count) 0) (noExclusive (standing q))
+    answer lent q (asks new) .holds
+    ≡ cond (eqb (new .mode) exclusive) (eqb (length (removed (desk new) (standing q))) 0) (noExclusive (removed (desk new) (standing q)))
 
 -- Who leaves, or has nothing to leave, does not hold the lock.
 abbrev pub LeaverHoldsNothing : Type 0
 LeaverHoldsNothing = (lent : ℕ) (q : State) (d : ℕ) → lent ≤ length (q .places) → answer lent q (leaves d) .holds ≡ false
 
 -- Two desks that both hold the lock are both shared.
-abbrev pub modeOf : ℕ → List Waiting → ℕ
-modeOf d ws = getD ws (firstPlace d (desks ws)) noWaiting .mode
-
 abbrev pub HoldersShared : Type 0
 HoldersShared =
     (lent : ℕ) (q : State) (d e : ℕ) → T (good lent q) → (d ≡ e → ⊥) → T (holds d (standing q)) → T (holds e (standing q)) →

@@ -1,2 +1,4 @@
 pub mod Claims
+pub mod Upgrades
+pub mod Course
 pub mod Trials

@@ -1,14 +1,15 @@
--- Trial n of the sheet: "32 standing of 32: 13; after one leaves, the next ask is judged afresh". Proved by computation in
--- proofs/Claims.antt.
+-- Worked cases of the queue: trial n, upgrades, and a list of requests from the empty queue. Proved by computation in proofs/Trials.antt.
 -- Assumes nothing.
 use Prim.Native.Nat.{ℕ, _+_}
 use mathlib.Core.Path.{_≡_}
 use mathlib.Core.List.{List, [], _∷_}
+use mathlib.Core.Bool.{false}
 use Rattle.lists.specs.Parts.{table}
 use Rattle.stamps.specs.Stamp.{stamp, shared, exclusive}
-use Rattle.lock_queue.specs.Queue.{State, mostPlaces}
-use Rattle.lock_queue.specs.Requests.{Request, asks, leaves, number, after}
+use Rattle.lock_queue.specs.Queue.{State, mostPlaces, emptyQueue}
+use Rattle.lock_queue.specs.Requests.{Request, asks, leaves, number, after, answer}
 use Rattle.lock_queue.specs.declared.Waiting.{Waiting}
+use Rattle.lock_queue_claims.specs.Course.{granted, largestAsked, lasting}
 
 -- The shared entry of desk n.
 abbrev pub guest : ℕ → Waiting
@@ -28,7 +29,7 @@ unfoldable pub numbers : ℕ → State → List Request → List ℕ
 numbers lent q [] = []
 numbers lent q (r ∷ rs) = number lent q r ∷ numbers lent (after lent q r) rs
 
--- Desk 33 is refused while 32 stand. When desk 7 has left, an exclusive ask with too small an s is denied and no more called full; desk
+-- Trial n: desk 33 is refused while 32 stand. When desk 7 has left, an exclusive ask with too small an s is denied and no more called full; desk
 -- 33 is accepted, and then it is full again.
 abbrev pub TrialN : Type 0
 TrialN =
@@ -40,3 +41,66 @@ TrialN =
     ∷ asks (guest 34)
     ∷ [])
     ≡ 13 ∷ 0 ∷ 11 ∷ 0 ∷ 13 ∷ []
+
+-- ---- Upgrades.
+
+abbrev pub asker : ℕ → ℕ → ℕ → Waiting
+asker mode s x = record { mode = mode; pair = record { s = s; x = x } }
+
+-- Desks 1 and 2 stand, both shared, in two places.
+abbrev pub twoShared : State
+twoShared = record { places = guest 1 ∷ guest 2 ∷ []; count = 2; largest = record { s = stamp 2 2 0; x = 0 } }
+
+-- Desk 1's upgrade is denied while its s is too small, and accepted though every place is taken. Then desk 1, which stands exclusive, gets 12 for
+-- both modes, and desk 2, which stands shared, for shared. Desk 2's upgrade is denied while its x is too small, accepted when it is not. Desk 3
+-- finds the queue full.
+abbrev pub TrialUpgrade : Type 0
+TrialUpgrade =
+    numbers 2 twoShared
+    (asks (asker exclusive (stamp 1 1 0) (stamp 1 1 0))
+    ∷ asks (asker exclusive (stamp 2 2 0) (stamp 1 1 0))
+    ∷ asks (asker exclusive (stamp 2 2 0) (stamp 2 1 0))
+    ∷ asks (asker shared (stamp 3 1 0) (stamp 1 1 0))
+    ∷ asks (asker shared (stamp 3 2 0) (stamp 1 1 0))
+    ∷ asks (asker exclusive (stamp 2 2 0) (stamp 0 2 0))
+    ∷ asks (asker exclusive (stamp 2 2 0) (stamp 2 2 0))
+    ∷ asks (asker shared (stamp 3 3 0) (stamp 2 2 0))
+    ∷ [])
+    ≡ 11 ∷ 0 ∷ 12 ∷ 12 ∷ 12 ∷ 11 ∷ 0 ∷ 13 ∷ []
+
+-- The queue after desk 1's upgrade: desk 2 is first now, and desk 1 stands behind it. Its answer: it does not hold the lock, and it was found at
+-- the first place.
+abbrev pub TrialUpgraded : Type 0
+TrialUpgraded =
+    (after 2 twoShared (asks (asker exclusive (stamp 2 2 0) (stamp 1 1 0)))
+    ≡ record {
+      places = guest 2 ∷ asker exclusive (stamp 2 2 0) (stamp 1 1 0) ∷ [];
+      count = 2;
+      largest = record { s = stamp 2 2 0; x = stamp 1 1 0 };
+    })
+    × (answer 2 twoShared (asks (asker exclusive (stamp 2 2 0) (stamp 1 1 0)))
+    ≡ record { number = 0; holds = false; largest = record { s = stamp 2 2 0; x = stamp 1 1 0 }; looked = 1 })
+
+-- ---- A list of requests from the empty queue, over two places that hold anything.
+
+abbrev pub unused : State
+unused = emptyQueue (asker 7 1 1 ∷ asker 9 2 2 ∷ [])
+
+-- Desks 1 and 2 join, and desk 3 finds the queue full. Desk 1 upgrades and desk 2 leaves, twice. Then desk 3 joins.
+abbrev pub courseSent : List Request
+courseSent =
+    asks (guest 1)
+    ∷ asks (guest 2)
+    ∷ asks (asker shared (stamp 9 3 0) (stamp 1 1 0))
+    ∷ asks (asker exclusive (stamp 2 2 0) (stamp 1 1 0))
+    ∷ leaves (stamp 0 2 0)
+    ∷ leaves (stamp 0 2 0)
+    ∷ asks (asker shared (stamp 1 3 0) (stamp 1 1 0))
+    ∷ []
+
+-- The refused ask's s, the largest of all, does not count.
+abbrev pub TrialCourse : Type 0
+TrialCourse =
+    (numbers 2 unused courseSent ≡ 0 ∷ 0 ∷ 13 ∷ 0 ∷ 0 ∷ 15 ∷ 0 ∷ [])
+    × (largestAsked (granted 2 unused courseSent) ≡ record { s = stamp 2 2 0; x = stamp 1 1 0 })
+    × (lasting (granted 2 unused courseSent) ≡ asker exclusive (stamp 2 2 0) (stamp 1 1 0) ∷ asker shared (stamp 1 3 0) (stamp 1 1 0) ∷ [])

@@ -5,6 +5,8 @@
 //! - [`run`]: how a difference is told. [`coverage`]: what a run counts.
 //! - [`answers`], [`images`], [`lists`], [`queues`], [`desks`], [`streams`],
 //!   [`texts`], [`program`]: what is compared, part by part.
+//! - [`upgrades`]: lists of turns from an empty queue, in which standing desks
+//!   ask again.
 //! - [`trials`]: the sheet's trials, by both.
 //! - [`sessions`]: lists of commands as desks send them, sessions interleaved.
 //! - [`demand3`]: the sentences of demand 3, over a list of events.
@@ -25,3 +27,4 @@ pub mod sessions;
 pub mod streams;
 pub mod texts;
 pub mod trials;
+pub mod upgrades;

@@ -9,7 +9,7 @@ use std::time::{Instant, SystemTime, UNIX_EPOCH};
 
 use compare::coverage::Run;
 use compare::run::Compared;
-use compare::{answers, desks, images, lists, program, queues, streams, texts, trials};
+use compare::{answers, desks, images, lists, program, queues, streams, texts, trials, upgrades};
 use second::random::Random;
 
 /// The fixed seed and the cases of `make test`, and its inputs to the program.
@@ -65,6 +65,7 @@ fn compared(run: &mut Run, seed: u64, cases: u64, inputs: u64) -> Compared<()> {
         }
         round(run, &mut random)?;
         queues::chain(run, &mut random, places)?;
+        upgrades::course(run, &mut random, places)?;
         if started.elapsed().as_secs() >= shown {
             println!("compare: {} cases, {shown} s", run.cases);
             shown += 5;

@@ -11,8 +11,9 @@
 //! - [`command`], [`guard`](Entry::take), [`store`]: commands and the answers
 //!   0 to 9.
 //! - [`desk`]: the text a desk shows.
-//! - [`queue`]: the lock queue of one card, numbers 10 to 13 and 15.
 //! - [`texts`]: structured texts and whether two agree, numbers 18 to 20.
+//! - [`queue`]: the lock queue of one card, upgrades too, numbers 10 to 13 and
+//!   15.
 //! - [`stream`], [`program`]: streams and the program's output.
 //! - [`number`]: the names of the numbers. [`endian`]: little-endian numbers.
 //!   [`random`]: random numbers for tests. [`short`], [`generate`], [`trials`]:

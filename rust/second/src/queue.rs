@@ -101,13 +101,15 @@ impl Queue<'_> {
         };
         let found = position(standing, desk);
         let looked_at = looked_at(standing, found);
-        let number = if found.is_some() {
+        let old = upgrade(standing, found, mode);
+        let number = if found.is_some() && old.is_none() {
             ALREADY_STANDING
         } else if mode.is_below(asked.pair, self.largest) {
             DENIED
-        } else if self.count == self.places.len() {
+        } else if self.count == self.places.len() && old.is_none() {
             FULL
         } else {
+            old.into_iter().for_each(|at| self.close_gap(at));
             self.join(asked);
             ACCEPTED
         };
@@ -183,6 +185,13 @@ impl Queue<'_> {
 /// Where a desk and start stands.
 fn position(standing: &[Place], desk: u32) -> Option<usize> {
     standing.iter().position(|place| place.desk() == Some(desk))
+}
+
+/// Where the entry stands that an upgrade takes out: a shared one of a desk
+/// that now asks for exclusive.
+fn upgrade(standing: &[Place], found: Option<usize>, mode: Mode) -> Option<usize> {
+    let shared = |at: &usize| standing.get(*at).is_some_and(|own| !own.is_exclusive());
+    found.filter(|at| mode == Mode::Exclusive && shared(at))
 }
 
 /// Those from the front up to and including the desk's own, or all standing.

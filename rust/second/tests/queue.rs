@@ -221,9 +221,6 @@ fn number_12_this_desk_and_start_already_stands() {
         (shared(2), (12, true, 2)),
         (exclusive(3), (12, false, 3)),
         (shared(4), (12, false, 4)),
-        // The standing entry's mode decides, not the one asked with.
-        (exclusive(1), (12, true, 1)),
-        (exclusive(2), (12, true, 2)),
         (Place::new(SHARED, at(7, 3), at(7, 9)), (12, false, 3)),
     ] {
         let mut kept = Kept::new(8, &standing);

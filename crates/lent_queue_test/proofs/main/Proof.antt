@@ -6,7 +6,7 @@ use Rattle.lists.specs.Parts.{table}
 use Rattle.lists.specs.Table.{all, allFrom}
 use Rattle.lock_queue.specs.Queue.{mostPlaces, stands}
 use Rattle.lock_queue.specs.Good.{distinct, good}
-use Rattle.lock_queue.specs.Requests.{joined, removed, without, asks, leaves, number, after}
+use Rattle.lock_queue.specs.Requests.{joined, removed, without, upgrading, onto, asks, leaves, number, after}
 use Rattle.lock_queue_claims.specs.Trials.{guest, crowded}
 use Rattle.lock_queue.specs.declared.Waiting.{Waiting}
 use borrow.Author.Needs.{needs}
@@ -18,17 +18,17 @@ both d w = number mostPlaces crowded (leaves d) * 100 + number mostPlaces (after
 
 -- no one leaves, and it is full
 full : both 0 (guest 33) ≡ 1513
-unfolding number after good all allFrom distinct stands joined without removed table
+unfolding number upgrading onto after good all allFrom distinct stands joined without removed table
 full = refl
 
 -- desk 7 leaves, and the next is accepted
 afresh : both 458752 (guest 33) ≡ 0
-unfolding number after good all allFrom distinct stands joined without removed table
+unfolding number upgrading onto after good all allFrom distinct stands joined without removed table
 afresh = refl
 
 -- or denied, where it is exclusive and its s too small
 denied : both 458752 (record { mode = 2; pair = record { s = 4297195520; x = 4297195520 } }) ≡ 11
-unfolding number after good all allFrom distinct stands joined without removed table
+unfolding number upgrading onto after good all allFrom distinct stands joined without removed table
 denied = refl
 
 guest-requires : tie.Need-guest-requires

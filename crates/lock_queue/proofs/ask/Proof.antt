@@ -1,12 +1,27 @@
--- Accepted: the queue is the joined one; refused: it is as it was. Assumes nothing.
-use mathlib.Core.Path.{sym, subst, _∙_}
+-- Accepted: the queue is the one that the entry joins, with it; refused: it is as it was. Assumes nothing.
+use Prim.Native.Nat.{ℕ, _≤_, _<_}
+use native.Mathlib.Omega.{arith}
+use mathlib.Core.Path.{_≡_, sym, ap, subst, _∙_}
+use Rattle.lock_queue.specs.Queue.{State, state, mostPlaces, desk}
+use Rattle.lock_queue.proofs.Checks.{good-count}
+use Rattle.lock_queue.specs.Requests.{joined, asks, onto}
+use Rattle.lock_queue.proofs.Judged.{not-bad, shown-fits, ask-place, accepted-fits, accepted-outcome, refused-outcome}
 use borrow.Author.Needs.{needs}
-use Prim.Native.Nat.{_≤_}
-use Rattle.lock_queue.specs.Queue.{State, state, mostPlaces}
-use Rattle.lock_queue.specs.Requests.{asks}
-use Rattle.lock_queue.proofs.Judged.{shown-fits, ask-place, accepted-fits, accepted-outcome, refused-outcome}
 use Rattle.lock_queue.proofs.ask.Statement.{statement}
 use Rattle.lock_queue.proofs.ask.Tie as tie
+
+-- The queue that the entry joins, and the joined one, by what the calls ensure.
+based : (c : tie.After-onto) → let start = c .before .before .before .before .args in
+    state (c .onto .result) ≡ onto (start .new .mode) (desk (start .new)) (state (start .queue))
+based c =
+    let start = c .before .before .before .before .args in
+    c .onto .ensures ∙ ap (λ (d : ℕ). onto (start .new .mode) d (state (start .queue))) (c .before .before .desk-of .ensures)
+
+made : (c : tie.After-joined) → let start = c .before .before .before .before .before .args in
+    state (c .joined .result) ≡ joined (start .new) (onto (start .new .mode) (desk (start .new)) (state (start .queue)))
+made c =
+    let start = c .before .before .before .before .before .args in
+    c .joined .ensures ∙ ap (joined (start .new)) (based (c .before))
 
 ask-number-requires : tie.Need-ask-number-requires
 ask-number-requires c κs = search needs
@@ -14,33 +29,40 @@ ask-number-requires c κs = search needs
 desk-of-requires : tie.Need-desk-of-requires
 desk-of-requires c κs = search needs
 
+onto-requires : tie.Need-onto-requires
+onto-requires c κs =
+    let start = c .before .before .before .args in
+    let e = sym (c .before .before .ask-number .ensures) ∙ c .if1 .taken in
+    good-count (start .lent) (state (start .queue)) (not-bad (start .lent) (state (start .queue)) (asks (start .new)) (λ bad. absurd (omega arith)))
+
 joined-requires : tie.Need-joined-requires
 joined-requires c κs =
-    let start = c .before .before .before .args in
-    ask-place (start .lent) (state (start .queue)) (start .new) (sym (c .before .before .ask-number .ensures) ∙ c .if1 .taken)
+    let start = c .before .before .before .before .args in
+    subst (λ (s : State). s .count < mostPlaces) (sym (based c))
+    (ask-place (start .lent) (state (start .queue)) (start .new) (sym (c .before .before .before .ask-number .ensures) ∙ c .before .if1 .taken))
 
 answered-requires : tie.Need-answered-requires
 answered-requires c κs shown =
-    let start = c .before .before .before .before .args in
-    let number = c .before .before .before .ask-number .ensures in (
+    let start = c .before .before .before .before .before .args in
+    let number = c .before .before .before .before .ask-number .ensures in (
       shown-fits (start .lent) (state (start .queue)) (asks (start .new)) number shown,
       subst
           (λ (s : State). s .count ≤ mostPlaces)
-          (sym (c .joined .ensures))
-          (accepted-fits (start .lent) (state (start .queue)) (asks (start .new)) (sym number ∙ c .before .if1 .taken)),
+          (sym (made c))
+          (accepted-fits (start .lent) (state (start .queue)) (asks (start .new)) (sym number ∙ c .before .before .if1 .taken)),
     )
 
 returns : tie.Need-returns
 returns c =
-    let start = c .before .before .before .before .before .args in
+    let start = c .before .before .before .before .before .before .args in
     accepted-outcome
     (start .lent)
     (state (start .queue))
     (asks (start .new))
-    (c .before .before .before .before .ask-number .ensures)
-    (c .before .before .before .desk-of .ensures)
-    (c .before .before .if1 .taken)
-    (c .before .joined .ensures)
+    (c .before .before .before .before .before .ask-number .ensures)
+    (c .before .before .before .before .desk-of .ensures)
+    (c .before .before .before .if1 .taken)
+    (made (c .before))
     (c .answered .ensures)
 
 answered-requires-2 : tie.Need-answered-requires-2
@@ -67,6 +89,7 @@ ask-spec =
     (tie.spec
     ask-number-requires
     desk-of-requires
+    onto-requires
     joined-requires
     answered-requires
     returns

@@ -3,6 +3,7 @@ ghost use mathlib.Core.Bool.{false};
 ghost use Prim.Native.Nat.{_≤_};
 ghost use Rattle.lock_queue.specs.Queue.{state, mostPlaces};
 ghost use Rattle.lock_queue.specs.Requests.{answered, blankAnswer};
+use crate::BAD_QUEUE;
 use crate::LockAnswer;
 use crate::Queue;
 use crate::inner::state::holds;
@@ -14,7 +15,7 @@ pub fn answered(number: u8, desk: u32, entry: Queue, exit: Queue) -> LockAnswer
     requires { ⌜ (blankAnswer number ≡ false → (entry .count ≤ mostPlaces) × (exit .count ≤ mostPlaces)) ⌝ }
     ensures { λ r. ⌜ r ≡ answered number desk (state entry) (state exit) ⌝ }
 {
-    if (number == 10) | (number == 1) {
+    if (number == BAD_QUEUE) | (number == stamps::MALFORMED) {
         return LockAnswer {
             number,
             holds: false,

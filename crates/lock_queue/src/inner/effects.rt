@@ -4,11 +4,12 @@ ghost use mathlib.Core.List.{_∷_, _++_};
 ghost use Prim.Native.Nat.{_≤_, _<_};
 ghost use lib.ListN.{take, set, drop};
 ghost use Rattle.lock_queue.specs.Queue.{state, mostPlaces, noWaiting, standing, desks, firstPlace};
-ghost use Rattle.lock_queue.specs.Requests.{removed, joined, without};
+ghost use Rattle.lock_queue.specs.Requests.{removed, joined, without, onto};
 use crate::Places;
 use crate::Queue;
 use crate::Waiting;
 use crate::inner::state::place;
+use crate::inner::state::upgrading;
 use stamps::Pair;
 
 // The places with this entry at place i.
@@ -67,4 +68,16 @@ pub fn without(queue: Queue, desk: u32) -> Queue
         count: queue.count - 1,
         largest,
     }
+}
+
+// The queue that an accepted entry joins: an upgrade's old entry has left it.
+pub fn onto(queue: Queue, mode: u8, desk: u32) -> Queue
+    requires { ⌜ queue .count ≤ mostPlaces ⌝ }
+    ensures { λ r. ⌜ state r ≡ onto mode desk (state queue) ⌝ }
+{
+    let stood = queue.places;
+    if upgrading(mode, stood, queue.count, desk) {
+        return without(queue, desk);
+    }
+    queue
 }

@@ -1,6 +1,7 @@
 ghost use mathlib.Core.Path.{_≡_};
 ghost use Prim.Native.Nat.{_≤_};
 ghost use lib.ListN.{take};
+ghost use Rattle.lock_queue.specs.Requests.{upgrading};
 ghost use Rattle.lock_queue.specs.Queue.{mostPlaces, desks, firstPlace, stands, looked, noExclusive, holds};
 use crate::Places;
 
@@ -70,4 +71,17 @@ pub fn holds(places: Places, count: usize, desk: u32) -> bool
         return found == 0;
     }
     no_exclusive(places, found)
+}
+
+// Whether this is an upgrade: the desk stands shared, and the mode is exclusive.
+pub fn upgrading(mode: u8, places: Places, count: usize, desk: u32) -> bool
+    requires { ⌜ count ≤ mostPlaces ⌝ }
+    ensures { λ r. ⌜ r ≡ upgrading mode desk (take count (places .at)) ⌝ }
+{
+    let found = place(places, count, desk);
+    if count <= found {
+        return false;
+    }
+    let w = places.at[found];
+    (mode == stamps::EXCLUSIVE) & (w.mode == stamps::SHARED)
 }

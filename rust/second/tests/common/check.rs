@@ -144,10 +144,12 @@ pub fn turn(queue: &mut Queue, turn: Turn) -> QueueAnswer {
     let mut list = before[..count].to_vec();
     match turn {
         Turn::Ask(asked) => {
+            list.retain(|place| place.desk() != asked.desk());
             list.push(asked);
             assert_eq!(queue.largest.s, largest.s.max(asked.pair.s));
             assert_eq!(queue.largest.x, largest.x.max(asked.pair.x));
-            assert_eq!(queue.places[count + 1..], before[count + 1..]);
+            let past = count.max(list.len());
+            assert_eq!(queue.places[past..], before[past..]);
         }
         Turn::Leave(desk) => {
             list.retain(|place| place.desk() != Some(desk));

@@ -35,20 +35,26 @@ returns-2 c =
 desk-of-requires : tie.Need-desk-of-requires
 desk-of-requires c κs = search needs
 
-already-requires : tie.Need-already-requires
-already-requires c κs =
+upgrading-requires : tie.Need-upgrading-requires
+upgrading-requires c κs =
     let start = c .before .before .before .before .before .before .before .args in
     good-count (start .lent) (state (start .queue)) (sym (c .before .before .before .before .before .before .good2 .ensures) ∙ not-false _ (c .before .before .before .before .before .if1 .left))
+
+already-requires : tie.Need-already-requires
+already-requires c κs =
+    let start = c .before .before .before .before .before .before .before .before .args in
+    good-count (start .lent) (state (start .queue)) (sym (c .before .before .before .before .before .before .before .good2 .ensures) ∙ not-false _ (c .before .before .before .before .before .before .if1 .left))
 
 returns-3 : tie.Need-returns-3
 unfolding number
 returns-3 c =
     rw (
-      ← c .before .before .before .before .before .before .before .before .good2 .ensures,
-      c .before .before .before .before .before .before .before .if1 .left,
-      ← c .before .before .before .before .before .session-ok .ensures,
-      c .before .before .before .before .if2 .left,
-      ← c .before .before .desk-of .ensures,
+      ← c .before .before .before .before .before .before .before .before .before .good2 .ensures,
+      c .before .before .before .before .before .before .before .before .if1 .left,
+      ← c .before .before .before .before .before .before .session-ok .ensures,
+      c .before .before .before .before .before .if2 .left,
+      ← c .before .before .before .desk-of .ensures,
+      ← c .before .before .upgrading .ensures,
       ← c .before .already .ensures,
       c .if3 .taken,
     )
@@ -60,11 +66,12 @@ returns-4 : tie.Need-returns-4
 unfolding number
 returns-4 c =
     rw (
-      ← c .before .before .before .before .before .before .before .before .before .before .before .good2 .ensures,
-      c .before .before .before .before .before .before .before .before .before .before .if1 .left,
-      ← c .before .before .before .before .before .before .before .before .session-ok .ensures,
-      c .before .before .before .before .before .before .before .if2 .left,
-      ← c .before .before .before .before .before .desk-of .ensures,
+      ← c .before .before .before .before .before .before .before .before .before .before .before .before .good2 .ensures,
+      c .before .before .before .before .before .before .before .before .before .before .before .if1 .left,
+      ← c .before .before .before .before .before .before .before .before .before .session-ok .ensures,
+      c .before .before .before .before .before .before .before .before .if2 .left,
+      ← c .before .before .before .before .before .before .desk-of .ensures,
+      ← c .before .before .before .before .before .upgrading .ensures,
       ← c .before .before .before .before .already .ensures,
       c .before .before .before .if3 .left,
       ← c .before .stale .ensures,
@@ -78,11 +85,12 @@ returns-5 : tie.Need-returns-5
 unfolding number
 returns-5 c =
     rw (
-      ← c .before .before .before .before .before .before .before .before .before .before .before .before .before .good2 .ensures,
-      c .before .before .before .before .before .before .before .before .before .before .before .before .if1 .left,
-      ← c .before .before .before .before .before .before .before .before .before .before .session-ok .ensures,
-      c .before .before .before .before .before .before .before .before .before .if2 .left,
-      ← c .before .before .before .before .before .before .before .desk-of .ensures,
+      ← c .before .before .before .before .before .before .before .before .before .before .before .before .before .before .good2 .ensures,
+      c .before .before .before .before .before .before .before .before .before .before .before .before .before .if1 .left,
+      ← c .before .before .before .before .before .before .before .before .before .before .before .session-ok .ensures,
+      c .before .before .before .before .before .before .before .before .before .before .if2 .left,
+      ← c .before .before .before .before .before .before .before .before .desk-of .ensures,
+      ← c .before .before .before .before .before .before .before .upgrading .ensures,
       ← c .before .before .before .before .before .before .already .ensures,
       c .before .before .before .before .before .if3 .left,
       ← c .before .before .before .stale .ensures,
@@ -95,11 +103,12 @@ returns-6 : tie.Need-returns-6
 unfolding number
 returns-6 c =
     rw (
-      ← c .before .before .before .before .before .before .before .before .before .before .before .before .before .good2 .ensures,
-      c .before .before .before .before .before .before .before .before .before .before .before .before .if1 .left,
-      ← c .before .before .before .before .before .before .before .before .before .before .session-ok .ensures,
-      c .before .before .before .before .before .before .before .before .before .if2 .left,
-      ← c .before .before .before .before .before .before .before .desk-of .ensures,
+      ← c .before .before .before .before .before .before .before .before .before .before .before .before .before .before .good2 .ensures,
+      c .before .before .before .before .before .before .before .before .before .before .before .before .before .if1 .left,
+      ← c .before .before .before .before .before .before .before .before .before .before .before .session-ok .ensures,
+      c .before .before .before .before .before .before .before .before .before .before .if2 .left,
+      ← c .before .before .before .before .before .before .before .before .desk-of .ensures,
+      ← c .before .before .before .before .before .before .before .upgrading .ensures,
       ← c .before .before .before .before .before .before .already .ensures,
       c .before .before .before .before .before .if3 .left,
       ← c .before .before .before .stale .ensures,
@@ -117,6 +126,7 @@ ask-number-spec =
     session-ok-requires
     returns-2
     desk-of-requires
+    upgrading-requires
     already-requires
     returns-3
     stale-requires

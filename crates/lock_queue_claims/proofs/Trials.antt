@@ -1,0 +1,82 @@
+-- The worked cases of the queue, by computation. Assumes nothing.
+use native.Mathlib.Omega.{arith}
+use mathlib.Core.Path.{_≡_, refl}
+use mathlib.Core.Logic.{inl, inr}
+use mathlib.Core.List.{[]}
+use lib.Dec.{T}
+use Rattle.lists.proofs.Tests.{to-T}
+use Rattle.stamps.specs.Stamp.{stamp, exclusive}
+use Rattle.lock_queue.specs.declared.Waiting.{Waiting}
+use Rattle.lists.specs.Parts.{table}
+use Rattle.lists.specs.Table.{all, allFrom}
+use Rattle.lock_queue.specs.Queue.{mostPlaces, emptyQueue, standing, desk, stands, firstPlace, looked, noExclusive, holdsAt, holds}
+use Rattle.lock_queue.specs.Good.{distinct, good}
+use Rattle.lock_queue.specs.Requests.{asks, leaves, joined, removed, without, upgrading, onto, answered, number, after, answer}
+use Rattle.lock_queue_claims.specs.Course.{queueAfter, granted, largestAsked, lasting}
+use Rattle.lock_queue_claims.specs.Trials.{numbers, guest, asker, twoShared, unused, courseSent, TrialN, TrialUpgrade, TrialUpgraded, TrialCourse}
+use Rattle.lock_queue_claims.proofs.Upgrades.{twelve-means, upgrade-by-pair, upgrade-never-full, upgrade-is-both}
+use Rattle.lock_queue_claims.proofs.Course.{empty-good, largest-accepted, standing-accepted}
+
+pub trial-n : TrialN
+unfolding numbers number after upgrading onto good all allFrom distinct stands joined without removed table
+trial-n = refl
+
+pub trial-upgrade : TrialUpgrade
+unfolding numbers number after upgrading onto firstPlace good all allFrom distinct stands joined without removed
+trial-upgrade = refl
+
+pub trial-upgraded : TrialUpgraded
+unfolding number after answer answered holds holdsAt noExclusive looked upgrading onto firstPlace good all allFrom distinct stands joined without removed
+trial-upgraded = (refl, refl)
+
+pub trial-course : TrialCourse
+unfolding numbers granted largestAsked lasting number after upgrading onto firstPlace good all allFrom distinct stands joined without removed
+trial-course = (refl, refl, refl)
+
+-- ---- each hypothesis of a claim is met by a case
+
+-- Desk 1 of `twoShared` asks for exclusive, with every place taken.
+abbrev raise : Waiting
+raise = asker exclusive (stamp 2 2 0) (stamp 1 1 0)
+
+raised : number 2 twoShared (asks raise) ≡ 0
+unfolding upgrading firstPlace good all allFrom distinct stands
+raised = upgrade-by-pair 2 twoShared raise (to-T refl) (to-T refl) (to-T refl)
+
+-- With too small an x it is denied, and not told that the queue is full.
+abbrev low : Waiting
+low = asker exclusive (stamp 1 1 0) (stamp 1 1 0)
+
+lowered : number 2 twoShared (asks low) ≡ 11
+unfolding upgrading firstPlace good all allFrom distinct stands
+lowered = upgrade-by-pair 2 twoShared low (to-T refl) (to-T refl) (to-T refl)
+
+not-full : number 2 twoShared (asks raise) ≡ 13 → ⊥
+unfolding upgrading firstPlace stands
+not-full = upgrade-never-full 2 twoShared raise (to-T refl)
+
+left-first : number 2 twoShared (leaves (desk raise)) ≡ 0
+unfolding upgrading firstPlace stands
+left-first = upgrade-is-both 2 twoShared raise (omega arith) (to-T refl) raised .0
+
+-- Desk 2, which stands shared, asks shared; desk 1, once it stands exclusive, asks for exclusive.
+again-shared : number 2 twoShared (asks (guest 2)) ≡ 12
+unfolding good all allFrom distinct stands
+again-shared = twelve-means 2 twoShared (guest 2) .1 (to-T refl, to-T refl, to-T refl, inl refl)
+
+again-exclusive : number 2 (after 2 twoShared (asks raise)) (asks raise) ≡ 12
+unfolding number after upgrading onto firstPlace good all allFrom distinct stands joined without removed
+again-exclusive = twelve-means 2 (after 2 twoShared (asks raise)) raise .1 (to-T refl, to-T refl, to-T refl, inr refl)
+
+-- The empty queue over one place and over 32, whatever they hold; and a list of requests over as many places as are lent.
+least : T (good 1 unused)
+least = empty-good 1 (unused .places) (omega arith) (omega arith)
+
+most : T (good mostPlaces (emptyQueue []))
+most = empty-good mostPlaces [] (omega arith) (omega arith)
+
+course-largest : queueAfter 2 unused courseSent .largest ≡ largestAsked (granted 2 unused courseSent)
+course-largest = largest-accepted 2 (unused .places) courseSent
+
+course-standing : standing (queueAfter 2 unused courseSent) ≡ lasting (granted 2 unused courseSent)
+course-standing = standing-accepted 2 (unused .places) courseSent (omega arith)
