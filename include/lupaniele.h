@@ -26,6 +26,12 @@ uint8_t lupaniele_ask(uint8_t modes[32], uint64_t s[32], uint64_t x[32], uint64_
 uint8_t lupaniele_leave(uint8_t modes[32], uint64_t s[32], uint64_t x[32], uint64_t kept[3], uint64_t places,
                         uint32_t desk, uint64_t fields[4]);
 
+/* A desk that fell silent (rules 13.1 to 13.9), by its desk and start, leaves the queue once its lease is over: period and
+   drift are its lease term, begin and now the times since when it is held failed, and now; any values at all.
+   0, 10, 21, 15 or 25; all else is as for leaving. */
+uint8_t lupaniele_lapse(uint8_t modes[32], uint64_t s[32], uint64_t x[32], uint64_t kept[3], uint64_t places,
+                        uint32_t desk, double period, double drift, double begin, double now, uint64_t fields[4]);
+
 /* The text that a desk shows: 0 and in count how many first bytes of the buffer asked for are the text, or 8 or 6
    and none. asked: 0 the original, 1 the translation; any other gets 1. */
 uint8_t lupaniele_shown(const uint8_t *original, size_t original_size, const uint8_t *translation,

@@ -2,6 +2,7 @@
 // A slice is a pointer and a length, a reference to a number or to an array a pointer.
 pub mod agree;
 pub mod inner;
+pub mod lapse;
 
 ghost use mathlib.Core.Path.{_≡_};
 ghost use lib.ListN.{length};

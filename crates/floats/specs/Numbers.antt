@@ -3,7 +3,7 @@ use Prim.Native.Nat.{ℕ}
 use lib.IntN.{pos}
 use lib.Ieee.{Float, binary64, div, ofInt}
 
--- A wholeFloat number.
+-- A whole number.
 unfoldable pub wholeFloat : ℕ → Float
 wholeFloat n = ofInt binary64 (pos n)
 

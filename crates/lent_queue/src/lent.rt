@@ -1,11 +1,12 @@
-// Asking and leaving over places by value.
+// Asking, leaving and leaving by lease over places by value.
 ghost use Rattle.lock_queue.specs.Queue.{state};
-ghost use Rattle.lock_queue.specs.Requests.{asks, leaves, Turns};
+ghost use Rattle.lock_queue.specs.Requests.{asks, leaves, lapses, Turns};
 ghost use Rattle.lent_queue.specs.Slice.{held};
 use crate::Kept;
 use lock_queue::LockOutcome;
 use lock_queue::Places;
 use lock_queue::Queue;
+use lock_queue::Silence;
 use lock_queue::Waiting;
 
 // Asking, by value.
@@ -32,4 +33,17 @@ pub fn left(places: Places, kept: Kept, lent: usize, desk: u32) -> LockOutcome
         largest,
     };
     lock_queue::leave(queue, lent, desk)
+}
+
+// Leaving by lease, by value.
+pub fn lapsed(places: Places, kept: Kept, lent: usize, silence: Silence) -> LockOutcome
+    ensures { λ r. ⌜ Turns lent (held (places .at) kept) (lapses silence) (r .answer) (state (r .queue)) ⌝ }
+{
+    let largest = kept.largest;
+    let queue = Queue {
+        places,
+        count: kept.count,
+        largest,
+    };
+    lock_queue::lapse(queue, lent, silence)
 }

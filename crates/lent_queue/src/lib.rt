@@ -3,13 +3,15 @@ pub mod inner;
 mod lent;
 
 ghost use lib.ListN.{length};
-ghost use Rattle.lock_queue.specs.Requests.{asks, leaves, Turns};
+ghost use Rattle.lock_queue.specs.Requests.{asks, leaves, lapses, Turns};
 ghost use Rattle.lent_queue.specs.Slice.{held};
 use inner::places::load;
 use inner::places::store;
 use lent::asked;
+use lent::lapsed;
 use lent::left;
 use lock_queue::LockAnswer;
+use lock_queue::Silence;
 use lock_queue::Waiting;
 use stamps::Pair;
 
@@ -42,5 +44,14 @@ pub fn leave(places: &mut [Waiting], kept: Kept, desk: u32) -> LentOutcome
 {
     let by_value = load(places);
     let outcome = left(by_value, kept, places.len(), desk);
+    store(places, outcome)
+}
+
+// A desk that fell silent leaves a queue of lent places, once its lease is over.
+pub fn lapse(places: &mut [Waiting], kept: Kept, silence: Silence) -> LentOutcome
+    ensures { λ r. ⌜ Turns (length (now (places .entry))) (held (now (places .entry)) kept) (lapses silence) (r .answer) (held (now (places .exit)) (r .kept)) ⌝ }
+{
+    let by_value = load(places);
+    let outcome = lapsed(by_value, kept, places.len(), silence);
     store(places, outcome)
 }

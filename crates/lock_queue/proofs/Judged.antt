@@ -16,8 +16,9 @@ use Rattle.lock_queue.proofs.Checks.{Good, good-out, good-count}
 use Rattle.lock_queue.specs.Queue.{State, mostPlaces, standing, desk, desks, firstPlace, stands}
 use Rattle.lock_queue.specs.Good.{good}
 use Rattle.lock_queue.specs.declared.Waiting.{Waiting}
-use Rattle.lock_queue.specs.Requests.{joined, without, upgrading, onto, asking, leaving, answered, blankAnswer, Request, asks, leaves, queueRows, sender, applied, number, after, answer}
+use Rattle.lock_queue.specs.Requests.{joined, without, upgrading, onto, asking, leaving, lapsing, answered, blankAnswer, Request, asks, leaves, lapses, queueRows, sender, applied, number, after, answer}
 use Rattle.lock_queue.specs.declared.LockAnswer.{LockAnswer}
+use Rattle.lock_queue.specs.declared.Silence.{Silence}
 use Rattle.lock_queue.proofs.Upgrades.{up-stands, onto-up, onto-plain}
 
 -- A number that is not that of the first row is given only where that row does not apply.
@@ -34,10 +35,12 @@ module _ (lent : ℕ) (q : State) where
   unfolding number
   not-bad (asks new) h = not-false (good lent q) (first-passed (not (good lent q)) 10 (drop 1 (asking lent q new)) h)
   not-bad (leaves d) h = not-false (good lent q) (first-passed (not (good lent q)) 10 (drop 1 (leaving lent q d)) h)
+  not-bad (lapses r) h = not-false (good lent q) (first-passed (not (good lent q)) 10 (drop 1 (lapsing lent q r)) h)
 
   pub each-once : (r : Request) → T (once (queueRows lent q r))
   each-once (asks new) = tt
   each-once (leaves d) = tt
+  each-once (lapses r) = tt
 
   -- Accepted: no row applies.
   pub no-row : (r : Request) → number lent q r ≡ 0 → (n : ℕ) → applies n (queueRows lent q r) ≡ false
@@ -83,10 +86,19 @@ module _ (lent : ℕ) (q : State) where
     stands-below d (q .count) (q .places) (leave-stands d e),
   )
 
+  -- Leaving by lease is accepted only where leaving is.
+  pub lapse-leaves : (r : Silence) → number lent q (lapses r) ≡ 0 → number lent q (leaves (r .desk)) ≡ 0
+  unfolding number
+  lapse-leaves r e =
+      let fine : not (good lent q) ≡ false = no-row (lapses r) e 10 in
+      let there : not (stands (r .desk) (desks (standing q))) ≡ false = no-row (lapses r) e 15 in
+      rw (fine, there)
+
   pub accepted-fits : (r : Request) → number lent q r ≡ 0 → applied r q .count ≤ mostPlaces
   unfolding joined without
   accepted-fits (asks new) e = omega (arith, ask-place new e)
   accepted-fits (leaves d) e = omega (arith, leave-place d e .0)
+  accepted-fits (lapses r) e = omega (arith, leave-place (r .desk) (lapse-leaves r e) .0)
 
   -- ---- the queue after a request, and the whole outcome
 
@@ -97,6 +109,16 @@ module _ (lent : ℕ) (q : State) where
   pub refused-after : (r : Request) → (number lent q r ≡ 0 → ⊥) → after lent q r ≡ q
   unfolding after
   refused-after r h = settled-old (applied r q) q h
+
+  -- Leaving by lease, where it is accepted, is leaving.
+  pub lapse-same : (r : Silence) → number lent q (lapses r) ≡ 0 →
+      (answer lent q (lapses r) ≡ answer lent q (leaves (r .desk))) × (after lent q (lapses r) ≡ after lent q (leaves (r .desk)))
+  unfolding after answer
+  lapse-same r e = let f = lapse-leaves r e in (rw (e, f), rw (e, f))
+
+  pub accepted-lapse : (r : Silence) {a : LockAnswer} {s : State} → number lent q (lapses r) ≡ 0 → a ≡ answer lent q (leaves (r .desk)) →
+      s ≡ after lent q (leaves (r .desk)) → (a ≡ answer lent q (lapses r)) × (s ≡ after lent q (lapses r))
+  accepted-lapse r e f g = let same = lapse-same r e in (f ∙ sym (same .0), g ∙ sym (same .1))
 
   module _ (r : Request) {n d : ℕ} {ans : LockAnswer} (number-is : n ≡ number lent q r) (sender-is : d ≡ sender r) where
     pub accepted-outcome : {s : State} → n ≡ 0 → s ≡ applied r q → ans ≡ answered n d q s → (ans ≡ answer lent q r) × (s ≡ after lent q r)

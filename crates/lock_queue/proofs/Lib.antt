@@ -5,3 +5,4 @@ pub mod Behind
 pub mod Checks
 pub mod Upgrades
 pub mod Judged
+pub mod Literals

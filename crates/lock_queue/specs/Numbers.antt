@@ -1,4 +1,4 @@
--- The numbers of the lock queue's refusals (rules 7.6 and 7.12). 0 is accepted; 1, malformed, is the number that a malformed command gets too.
+-- The numbers of the lock queue's refusals (rules 7.6, 7.12 and 13.5). 0 is accepted; 1, malformed, is the number that a malformed command gets too.
 -- Assumes nothing.
 use Prim.Native.Nat.{ℕ}
 
@@ -21,3 +21,11 @@ QUEUE-FULL = 13
 -- The desk and start that is to leave does not stand.
 abbrev pub NOT-STANDING : ℕ
 NOT-STANDING = 15
+
+-- A lease term or a time is outside its limits, or is no number.
+abbrev pub LEASE-RANGE : ℕ
+LEASE-RANGE = 21
+
+-- The wait for a silent desk is not over.
+abbrev pub LEASE-RUNS : ℕ
+LEASE-RUNS = 25

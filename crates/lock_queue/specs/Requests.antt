@@ -1,4 +1,4 @@
--- Asking and leaving (rules 7.6 to 7.14): what an accepted request makes of the queue, the numbers as tables of rows, and the answer. Minuet:
+-- Asking, leaving and leaving by lease (rules 7.6 to 7.14 and 13.1 to 13.6): what an accepted request makes of the queue, the numbers as tables of rows, and the answer. Minuet:
 -- UpgradeLock, and DowngradeLock to no lock.
 -- Assumes nothing.
 use Prim.Native.Nat.{ℕ, _+_, _-_}
@@ -8,12 +8,14 @@ use mathlib.Core.Bool.{cond, Bool, not, _&&_, _||_}
 use lib.ListN.{drop, set, getD}
 use lib.Dec.{eqb}
 use Rattle.stamps.specs.Stamp.{largerOfEach, shared, exclusive, stale, noPair, MALFORMED}
-use Rattle.lock_queue.specs.Numbers.{BAD-QUEUE, PAIR-DENIED, STANDS-ALREADY, QUEUE-FULL, NOT-STANDING}
+use Rattle.lock_queue.specs.Numbers.{BAD-QUEUE, PAIR-DENIED, STANDS-ALREADY, QUEUE-FULL, NOT-STANDING, LEASE-RANGE, LEASE-RUNS}
 use Rattle.lock_queue.specs.Queue.{State, noWaiting, standing, desk, desks, stands, firstPlace, looked, holds}
 use Rattle.lock_queue.specs.declared.Waiting.{Waiting}
 use Rattle.lists.specs.Table.{Row, row, first, settled}
 use Rattle.stamps.specs.declared.Pair.{Pair}
 use Rattle.lock_queue.specs.Good.{waitingFormed, good}
+use Rattle.lock_queue.specs.Lease.{over, inRange}
+use Rattle.lock_queue.specs.declared.Silence.{Silence}
 use Rattle.lock_queue.specs.declared.LockAnswer.{LockAnswer}
 
 -- ---- What an accepted request makes of the queue.
@@ -84,6 +86,15 @@ asking lent q new =
 abbrev pub leaving : ℕ → State → ℕ → List Row
 leaving lent q d = row (not (good lent q)) BAD-QUEUE ∷ row (not (stands d (desks (standing q)))) NOT-STANDING ∷ []
 
+-- Rule 13.5.
+abbrev pub lapsing : ℕ → State → Silence → List Row
+lapsing lent q r =
+    row (not (good lent q)) BAD-QUEUE
+    ∷ row (not (inRange r)) LEASE-RANGE
+    ∷ row (not (stands (r .desk) (desks (standing q)))) NOT-STANDING
+    ∷ row (not (over (r .lease) (r .begin) (r .now))) LEASE-RUNS
+    ∷ []
+
 -- ---- The answer.
 
 -- A bad queue and a malformed ask tell nothing of the queue.
@@ -102,24 +113,28 @@ answered number d entry exit =
 
 -- ---- A request on a queue of `lent` places.
 
--- What a desk can send: it asks, with its entry, or it leaves, naming its desk and start.
+-- What is sent: a desk asks, with its entry, or leaves, naming its desk and start; or the queue's keeper, who holds a desk failed, sends for it.
 pub data Request : Type 0 where
   asks : Waiting → Request
   leaves : ℕ → Request
+  lapses : Silence → Request
 
 abbrev pub queueRows : ℕ → State → Request → List Row
 queueRows lent q (asks new) = asking lent q new
 queueRows lent q (leaves d) = leaving lent q d
+queueRows lent q (lapses r) = lapsing lent q r
 
--- The desk and start that the request is from.
+-- The desk and start that the request is about.
 abbrev pub sender : Request → ℕ
 sender (asks new) = desk new
 sender (leaves d) = d
+sender (lapses r) = r .desk
 
 -- The queue after an accepted request.
 abbrev pub applied : Request → State → State
 applied (asks new) q = joined new (onto (new .mode) (desk new) q)
 applied (leaves d) q = without d q
+applied (lapses r) q = without (r .desk) q
 
 -- The number, the queue as it then is, and the answer.
 unfoldable pub number : ℕ → State → Request → ℕ

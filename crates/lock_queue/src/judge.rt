@@ -2,14 +2,18 @@ ghost use mathlib.Core.Path.{_≡_};
 ghost use Prim.Native.Nat.{_≤_};
 ghost use lib.ListN.{take};
 ghost use Rattle.lock_queue.specs.Queue.{state, mostPlaces, desks};
-ghost use Rattle.lock_queue.specs.Requests.{already, full, asks, leaves, number};
+ghost use Rattle.lock_queue.specs.Requests.{already, full, asks, leaves, lapses, number};
+ghost use Rattle.lock_queue.specs.Lease.{timed};
 use crate::BAD_QUEUE;
+use crate::LEASE_OUT_OF_RANGE;
+use crate::LEASE_RUNS;
 use crate::NOT_STANDING;
 use crate::PAIR_DENIED;
 use crate::Places;
 use crate::QUEUE_FULL;
 use crate::Queue;
 use crate::STANDS_ALREADY;
+use crate::Silence;
 use crate::Waiting;
 use crate::inner::rules;
 use crate::inner::state::stands;
@@ -67,6 +71,34 @@ pub fn leave_number(queue: Queue, lent: usize, desk: u32) -> u8
     let stood = queue.places;
     if !stands(stood, queue.count, desk) {
         return NOT_STANDING;
+    }
+    0
+}
+
+// Whether a time is within its limits.
+fn timed(time: f64) -> bool
+    ensures { λ r. ⌜ r ≡ timed time ⌝ }
+{
+    (0.0 <= time) & (time <= 1000000000.0)
+}
+
+// The number for leaving by lease.
+pub fn lapse_number(queue: Queue, lent: usize, silence: Silence) -> u8
+    ensures { λ r. ⌜ r ≡ number lent (state queue) (lapses silence) ⌝ }
+{
+    if !rules::good(queue, lent) {
+        return BAD_QUEUE;
+    }
+    let lease = silence.lease;
+    if !(lease.fair() & timed(silence.begin) & timed(silence.now)) {
+        return LEASE_OUT_OF_RANGE;
+    }
+    let stood = queue.places;
+    if !stands(stood, queue.count, silence.desk) {
+        return NOT_STANDING;
+    }
+    if !lease.over(silence.begin, silence.now) {
+        return LEASE_RUNS;
     }
     0
 }

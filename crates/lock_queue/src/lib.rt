@@ -1,11 +1,12 @@
-// The lock queue of one card: desks ask for the lock and leave, and each answer says whether the desk holds it.
+// The lock queue of one card: desks ask for the lock and leave, or are taken out when they fell silent; each answer says whether the desk holds it.
 pub mod inner;
 mod judge;
+mod leases;
 
 ghost use mathlib.Core.Path.{_≡_};
 ghost use lib.ListN.{replicate};
 ghost use Rattle.lock_queue.specs.Queue.{state, emptyQueue, mostPlaces, noWaiting};
-ghost use Rattle.lock_queue.specs.Requests.{asks, leaves, Turns};
+ghost use Rattle.lock_queue.specs.Requests.{asks, leaves, lapses, Turns};
 use stamps::Pair;
 
 // ---- The lock queue of one card as it stands: who stands in it, who holds the lock, and how many entries are looked at.
@@ -13,7 +14,7 @@ use stamps::Pair;
 // The largest number of places that a queue can have.
 pub const MOST_PLACES: usize = 32;
 
-// The numbers of refusals (rules 7.6 and 7.12). A malformed ask gets 1.
+// The numbers of refusals (rules 7.6, 7.12 and 13.5). A malformed ask gets 1.
 pub const BAD_QUEUE: u8 = 10;
 
 pub const PAIR_DENIED: u8 = 11;
@@ -23,6 +24,10 @@ pub const STANDS_ALREADY: u8 = 12;
 pub const QUEUE_FULL: u8 = 13;
 
 pub const NOT_STANDING: u8 = 15;
+
+pub const LEASE_OUT_OF_RANGE: u8 = 21;
+
+pub const LEASE_RUNS: u8 = 25;
 
 // An entry that waits for the lock: 1 shared or 2 exclusive, and the pair that its desk proposed.
 pub struct Waiting {
@@ -54,6 +59,20 @@ pub struct LockAnswer {
 pub struct LockOutcome {
     pub answer: LockAnswer,
     pub queue: Queue,
+}
+
+// A lease term: its period, in seconds, and by how much two clocks may drift apart in one second.
+pub struct Lease {
+    pub period: f64,
+    pub drift: f64,
+}
+
+// A desk and start that is held failed since the time `begin`, its lease term, and the time now.
+pub struct Silence {
+    pub desk: u32,
+    pub lease: Lease,
+    pub begin: f64,
+    pub now: f64,
 }
 
 // An empty queue (rule 7.3): no place is taken, and each holds nothing.
@@ -104,6 +123,21 @@ pub fn leave(queue: Queue, lent: usize, desk: u32) -> LockOutcome
             answer: inner::answer::answered(number, desk, queue, closed),
             queue: closed,
         };
+    }
+    LockOutcome {
+        answer: inner::answer::answered(number, desk, queue, queue),
+        queue,
+    }
+}
+
+// A desk that fell silent leaves, once its lease is over (rules 13.1 to 13.6).
+pub fn lapse(queue: Queue, lent: usize, silence: Silence) -> LockOutcome
+    ensures { λ r. ⌜ Turns lent (state queue) (lapses silence) (r .answer) (state (r .queue)) ⌝ }
+{
+    let number = judge::lapse_number(queue, lent, silence);
+    let desk = silence.desk;
+    if number == 0 {
+        return leave(queue, lent, desk);
     }
     LockOutcome {
         answer: inner::answer::answered(number, desk, queue, queue),

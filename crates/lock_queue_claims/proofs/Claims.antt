@@ -18,12 +18,12 @@ use Rattle.stamps.specs.Stamp.{stampValid, deskNumber, deskStart, own, shared, 
 use Rattle.lock_queue_claims.specs.Claims.{EachNumber, Acceptance, RefusalLeaves, BlankAnswers, LookedWithin, StaysGood, JoinsEnd, GapClosed, FreedZeroed, OthersKept, LargestGrows, AskerHolds, LeaverHoldsNothing, HoldersShared, RoomAfterLeaving, NoDeskZero, BeyondLent, longer}
 use Rattle.lock_queue.specs.Queue.{State, noWaiting, mostPlaces, standing, desk, desks, stands, firstPlace, looked, noExclusive, holdsAt, holds}
 use Rattle.lock_queue.specs.Good.{distinct, waitingFormed, within, good}
-use Rattle.lock_queue.specs.Requests.{joined, removed, without, modeOf, upgrading, onto, denied, Request, asks, leaves, queueRows, sender, applied, blankAnswer, answered, number, after, answer}
+use Rattle.lock_queue.specs.Requests.{joined, removed, without, modeOf, upgrading, onto, denied, Request, asks, leaves, lapses, queueRows, sender, applied, blankAnswer, answered, number, after, answer}
 use Rattle.lock_queue.specs.declared.Waiting.{Waiting}
 use Rattle.lock_queue.proofs.Checks.{good-unsized, good-out, good-by}
 use Rattle.lock_queue.proofs.Standing.{stands-place, stands-append, map-append}
 use Rattle.lock_queue.proofs.Upgrades.{up-stands, absent-plain, onto-up, onto-plain}
-use Rattle.lock_queue.proofs.Judged.{each-once, no-row, accepted-good, accepted-after, refused-after, not-bad, ask-room, leave-stands, leave-place}
+use Rattle.lock_queue.proofs.Judged.{each-once, no-row, accepted-good, accepted-after, refused-after, not-bad, ask-room, leave-stands, leave-place, lapse-leaves}
 use Rattle.lock_queue_claims.proofs.Removed.{all-at, all-weaker, all-joined, all-removed, within-more, distinct-joined, distinct-removed, gone, removed-absent, removed-long, stands-inside, place-desk, place-last, none-exclusive}
 
 pub each-number : EachNumber
@@ -216,6 +216,7 @@ stays-good lent q r lie t =
         plainly (λ s. good lent s ≡ true) lent q new lie e (λ plain. joined-good lent q new lie e plain)
         (λ up. joined-good lent (without (desk new) q) new (up-lie lent q new lie e up) (up-again lent q new lie e up) (up-plain lent q new lie e up))
     made (leaves d) e = without-good lent q d lie e
+    made (lapses l) e = without-good lent q (l .desk) lie (lapse-leaves lent q l e)
 
 pub joins-end : JoinsEnd
 joins-end lent q new lie e =
@@ -251,6 +252,7 @@ largest-grows lent q r =
     made : (r : Request) → number lent q r ≡ 0 → (q .largest .s ≤ applied r q .largest .s) × (q .largest .x ≤ applied r q .largest .x)
     made (asks new) e = rw (onto-largest (new .mode) (desk new) q) (larger-old (q .largest) (new .pair))
     made (leaves d) e = omega arith
+    made (lapses l) e = omega arith
 
 pub others-kept : OthersKept
 unfolding joined without
@@ -258,6 +260,13 @@ others-kept lent q r lie =
     after-keeps (λ s. (drop (max (q .count) (s .count)) (s .places) ≡ drop (max (q .count) (s .count)) (q .places)) × (length (s .places) ≡ length (q .places)))
     lent q r (refl, refl) (made r)
   where
+    gone-kept : (d : ℕ) → number lent q (leaves d) ≡ 0 →
+        (drop (max (q .count) (without d q .count)) (without d q .places) ≡ drop (max (q .count) (without d q .count)) (q .places))
+        × (length (without d q .places) ≡ length (q .places))
+    gone-kept d e =
+        let at : max (q .count) (q .count - 1) ≡ q .count = omega arith in
+        (rw at (without-rest lent q d lie e), without-long lent q d lie e)
+
     made : (r : Request) → number lent q r ≡ 0 →
         (drop (max (q .count) (applied r q .count)) (applied r q .places) ≡ drop (max (q .count) (applied r q .count)) (q .places))
         × (length (applied r q .places) ≡ length (q .places))
@@ -274,9 +283,8 @@ others-kept lent q r lie =
           rw at (drop-set-lt (q .count) (there .places) (q .count - 1) new (omega arith) ∙ without-rest lent q (desk new) lie left),
           length-set (there .places) (q .count - 1) new ∙ without-long lent q (desk new) lie left,
         ))
-    made (leaves d) e =
-        let at : max (q .count) (q .count - 1) ≡ q .count = omega arith in
-        (rw at (without-rest lent q d lie e), without-long lent q d lie e)
+    made (leaves d) e = gone-kept d e
+    made (lapses l) e = gone-kept (l .desk) (lapse-leaves lent q l e)
 
 pub room-after-leaving : RoomAfterLeaving
 unfolding without
@@ -448,6 +456,7 @@ pub bad-number : (lent : ℕ) (q : State) (r : Request) → good lent q ≡ fals
 unfolding number
 bad-number lent q (asks new) e = rw e
 bad-number lent q (leaves d) e = rw e
+bad-number lent q (lapses l) e = rw e
 
 pub bad-answer : (lent : ℕ) (q : State) (r : Request) → number lent q r ≡ 10 →
     answer lent q r ≡ record { number = 10; holds = false; largest = noPair; looked = 0 }
@@ -474,6 +483,7 @@ module _ (lent : ℕ) (q : State) (more : List Waiting) (lie : lent ≤ length (
     unfolding number
     same-number (asks new) = rw (same-good, same-standing)
     same-number (leaves d) = rw (same-good, same-standing)
+    same-number (lapses l) = rw (same-good, same-standing)
 
     same-without : (d : ℕ) → without d (longer more q) ≡ longer more (without d q)
     unfolding without
@@ -481,6 +491,7 @@ module _ (lent : ℕ) (q : State) (more : List Waiting) (lie : lent ≤ length (
 
     same-accepted : (r : Request) → number lent q r ≡ 0 → applied r (longer more q) ≡ longer more (applied r q)
     same-accepted (leaves d) e = same-without d
+    same-accepted (lapses l) e = same-without (l .desk)
     same-accepted (asks new) e = go (cases (upgrading (new .mode) (desk new) (standing q)))
       where
         there : (b : Bool) → upgrading (new .mode) (desk new) (standing q) ≡ b → upgrading (new .mode) (desk new) (standing (longer more q)) ≡ b
@@ -521,6 +532,7 @@ module _ (lent : ℕ) (q : State) (more : List Waiting) (lie : lent ≤ length (
         made : (r : Request) → number lent q r ≡ 0 → applied r q .count ≤ lent
         made (asks new) e = omega (arith, ask-room lent q new e)
         made (leaves d) e = omega arith
+        made (lapses l) e = omega arith
 
     same-answer : (r : Request) → answer lent (longer more q) r ≡ answer lent q r
     unfolding answer answered

@@ -13,10 +13,10 @@ use Rattle.stamps.specs.Stamp.{noPair, largerOfEach}
 use Rattle.stamps.specs.declared.Pair.{Pair}
 use Rattle.lock_queue.specs.Queue.{State, emptyQueue, standing, desk, desks, stands}
 use Rattle.lock_queue.specs.Good.{distinct}
-use Rattle.lock_queue.specs.Requests.{joined, removed, without, Request, asks, leaves, sender, applied, number, after}
+use Rattle.lock_queue.specs.Requests.{joined, removed, without, Request, asks, leaves, lapses, sender, applied, number, after}
 use Rattle.lock_queue.specs.declared.Waiting.{Waiting}
 use Rattle.lock_queue.proofs.Checks.{good-by}
-use Rattle.lock_queue.proofs.Judged.{accepted-good, accepted-after}
+use Rattle.lock_queue.proofs.Judged.{accepted-good, accepted-after, lapse-leaves, lapse-same}
 use Rattle.lock_queue_claims.specs.Course.{queueAfter, granted, largestAsked, lasting, EmptyGood, LargestAccepted, StandingAccepted}
 use Rattle.lock_queue_claims.proofs.Claims.{refusal-leaves, joins-end, gap-closed, others-kept, onto-largest}
 use Rattle.lock_queue_claims.proofs.Removed.{first-alone, rest-distinct}
@@ -65,6 +65,7 @@ raised (asks new) q rs =
     ap (λ (p : Pair). largerOfEach (largerOfEach p (new .pair)) (largestAsked rs)) (onto-largest (new .mode) (desk new) q)
     ∙ larger-assoc (q .largest) (new .pair) (largestAsked rs)
 raised (leaves d) q rs = refl
+raised (lapses l) q rs = refl
 
 largest-from : (lent : ℕ) (q : State) (rs : List Request) →
     queueAfter lent q rs .largest ≡ largerOfEach (q .largest) (largestAsked (granted lent q rs))
@@ -133,6 +134,13 @@ spared-removed d ds (w ∷ ws) h = go (eqb (desk w) d) refl (spared-removed d ds
         let other : eqb d (desk w) ≡ false = ne-eqb d (desk w) (λ i. eqb-false (desk w) d e (sym i)) in
         rw (other, rest)
 
+-- Who leaves is none of those that stand on.
+left-out : (lent : ℕ) (q : State) (d : ℕ) (rs : List Request) → lent ≤ length (q .places) → number lent q (leaves d) ≡ 0 →
+    spared (map sender rs) (standing (after lent q (leaves d))) ++ lasting rs ≡ spared (d ∷ map sender rs) (standing q) ++ lasting rs
+left-out lent q d rs lie e =
+    ap (λ (l : List Waiting). l ++ lasting rs)
+    (ap (spared (map sender rs)) (gap-closed lent q d lie e) ∙ spared-removed d (map sender rs) (standing q) (accepted-good lent q (leaves d) e .all-distinct))
+
 -- What an accepted request, and then others, make of those who stand.
 stood : (lent : ℕ) (q : State) (r : Request) (rs : List Request) → lent ≤ length (q .places) → number lent q r ≡ 0 →
     spared (map sender rs) (standing (after lent q r)) ++ lasting rs ≡ spared (map sender (r ∷ rs)) (standing q) ++ lasting (r ∷ rs)
@@ -149,9 +157,10 @@ stood lent q (asks new) rs lie e =
     last : (b : Bool) → cond b [] (new ∷ []) ++ lasting rs ≡ cond b (lasting rs) (new ∷ lasting rs)
     last true = refl
     last false = refl
-stood lent q (leaves d) rs lie e =
-    ap (λ (l : List Waiting). l ++ lasting rs)
-    (ap (spared (map sender rs)) (gap-closed lent q d lie e) ∙ spared-removed d (map sender rs) (standing q) (accepted-good lent q (leaves d) e .all-distinct))
+stood lent q (leaves d) rs lie e = left-out lent q d rs lie e
+stood lent q (lapses l) rs lie e =
+    ap (λ (s : State). spared (map sender rs) (standing s) ++ lasting rs) (lapse-same lent q l e .1)
+    ∙ left-out lent q (l .desk) rs lie (lapse-leaves lent q l e)
 
 standing-from : (lent : ℕ) (q : State) (rs : List Request) → lent ≤ length (q .places) →
     standing (queueAfter lent q rs) ≡ spared (map sender (granted lent q rs)) (standing q) ++ lasting (granted lent q rs)

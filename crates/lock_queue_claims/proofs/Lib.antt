@@ -3,3 +3,6 @@ pub mod Claims
 pub mod Upgrades
 pub mod Course
 pub mod Trials
+pub mod Clock
+pub mod Leases
+pub mod LeaseCases

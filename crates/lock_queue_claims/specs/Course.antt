@@ -10,7 +10,7 @@ use Rattle.stamps.specs.Stamp.{noPair, largerOfEach}
 use Rattle.stamps.specs.declared.Pair.{Pair}
 use Rattle.lock_queue.specs.Queue.{State, mostPlaces, emptyQueue, standing, desk, stands}
 use Rattle.lock_queue.specs.Good.{good}
-use Rattle.lock_queue.specs.Requests.{Request, asks, leaves, sender, number, after}
+use Rattle.lock_queue.specs.Requests.{Request, asks, leaves, lapses, sender, number, after}
 use Rattle.lock_queue.specs.declared.Waiting.{Waiting}
 
 -- The queue after a list of requests, each on the queue as the one before left it.
@@ -28,12 +28,14 @@ unfoldable pub largestAsked : List Request → Pair
 largestAsked [] = noPair
 largestAsked (asks new ∷ rs) = largerOfEach (new .pair) (largestAsked rs)
 largestAsked (leaves d ∷ rs) = largestAsked rs
+largestAsked (lapses r ∷ rs) = largestAsked rs
 
--- The entries of a list of requests whose desk and start sent no later one, in the order of asking.
+-- The entries of a list of requests whose desk and start has no later one, in the order of asking.
 unfoldable pub lasting : List Request → List Waiting
 lasting [] = []
 lasting (asks new ∷ rs) = cond (stands (desk new) (map sender rs)) (lasting rs) (new ∷ lasting rs)
 lasting (leaves d ∷ rs) = lasting rs
+lasting (lapses r ∷ rs) = lasting rs
 
 -- Rule 7.3: the empty queue is good, over any places, where 1 to 32 are lent.
 abbrev pub EmptyGood : Type 0

@@ -2,3 +2,5 @@ pub mod Claims
 pub mod Upgrades
 pub mod Course
 pub mod Trials
+pub mod Leases
+pub mod LeaseCases

@@ -58,6 +58,12 @@ kinds! {
     UpgradeExclusive 3 "upgrades with the largest x, one below, one above"
     Twelves 3 "12: asking shared while shared, shared while exclusive, exclusive while exclusive"
     Courses 33 "turns of lists from an empty queue, checked by their accepted turns, 1 to 33 places"
+    Lapses 5 "silent desks: left, 10, 21, 15, 25"
+    LeaseLimits 24 "period, drift, begin, now: one step below, at, one above each of their limits"
+    LeaseSpecials 20 "period, drift, begin, now: no number, infinity, the other, -0, subnormal"
+    Waits 3 "time passed one step short of the wait, as long, one step longer"
+    ClockBack 1 "silent desks waited for since the clock went back"
+    RoundedOver 1 "silent desks that left since the time passed was rounded up to the wait"
     Desks 4 "desks' texts: original, translation, refused with 6, with 8"
     ThirdLanguage 1 "desks asked for a third language"
     Walks 2 "walks of a stream, to its end, to a cut"
@@ -82,9 +88,7 @@ kinds! {
 /// The largest number that any operation answers with, and those that some
 /// operation gives today.
 const MOST: usize = 26;
-const GIVEN: &[usize] = &[
-    0, 1, 2, 3, 4, 5, 6, 7, 8, 9, 10, 11, 12, 13, 14, 15, 18, 19, 20,
-];
+const GIVEN: &[usize] = &[0, 1, 2, 3, 4, 5, 6, 7, 8, 9, 10, 11, 12, 13, 14, 15, 18, 19, 20, 21, 25];
 
 /// What was run.
 pub struct Run {

@@ -6,7 +6,7 @@
 //! - [`answers`], [`images`], [`lists`], [`queues`], [`desks`], [`streams`],
 //!   [`texts`], [`program`]: what is compared, part by part.
 //! - [`upgrades`]: lists of turns from an empty queue, in which standing desks
-//!   ask again.
+//!   ask again. [`lapses`]: desks that fall silent.
 //! - [`trials`]: the sheet's trials, by both.
 //! - [`sessions`]: lists of commands as desks send them, sessions interleaved.
 //! - [`demand3`]: the sentences of demand 3, over a list of events.
@@ -18,6 +18,7 @@ pub mod coverage;
 pub mod demand3;
 pub mod desks;
 pub mod images;
+pub mod lapses;
 pub mod lists;
 pub mod program;
 pub mod proved;

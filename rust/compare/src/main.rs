@@ -9,7 +9,7 @@ use std::time::{Instant, SystemTime, UNIX_EPOCH};
 
 use compare::coverage::Run;
 use compare::run::Compared;
-use compare::{answers, desks, images, lists, program, queues, streams, texts, trials, upgrades};
+use compare::{answers, desks, images, lapses, lists, program, queues, streams, texts, trials, upgrades};
 use second::random::Random;
 
 /// The fixed seed and the cases of `make test`, and its inputs to the program.
@@ -89,6 +89,7 @@ fn round(run: &mut Run, random: &mut Random) -> Compared<()> {
     lists::any(run, random)?;
     lists::any(run, random)?;
     queues::any(run, random)?;
+    lapses::any(run, random)?;
     desks::any(run, random)?;
     streams::any(run, random)?;
     texts::any(run, random)

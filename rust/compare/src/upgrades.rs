@@ -1,5 +1,5 @@
-//! Lists of turns from an empty queue, in which desks that stand ask again;
-//! and what the accepted turns of such a list make of the queue.
+//! Lists of turns from an empty queue, in which desks that stand ask again and
+//! silent ones are taken out; and what the accepted turns of such a list make of the queue.
 
 use second::generate;
 use second::random::Random;
@@ -8,6 +8,7 @@ use second::stamp::stamp;
 use second::{Pair, Place, Turn};
 
 use crate::coverage::{Kind, Run};
+use crate::lapses;
 use crate::queues::turn;
 use crate::run::{same, Compared};
 
@@ -21,7 +22,14 @@ pub fn course(run: &mut Run, random: &mut Random, length: usize) -> Compared<()>
     for time in 2..60 {
         let entry = queue.clone();
         let taken = next(random, &entry, time);
-        let (number, fields) = turn(run, &mut queue, taken)?;
+        let (number, fields) = match taken {
+            Turn::Leave(desk) if random.one_in(2) => {
+                // For those who stand on, leaving by lease is leaving.
+                let silence = lapses::silence(random, desk);
+                lapses::lapse(run, &mut queue, silence)?
+            }
+            _ => turn(run, &mut queue, taken)?,
+        };
         if let Turn::Ask(asked) = taken {
             note(run, &entry, asked, number, fields[0] == 1);
         }

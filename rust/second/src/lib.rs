@@ -14,6 +14,7 @@
 //! - [`texts`]: structured texts and whether two agree, numbers 18 to 20.
 //! - [`queue`]: the lock queue of one card, upgrades too, numbers 10 to 13 and
 //!   15.
+//! - [`lease`]: desks that fall silent, numbers 21 and 25.
 //! - [`stream`], [`program`]: streams and the program's output.
 //! - [`number`]: the names of the numbers. [`endian`]: little-endian numbers.
 //!   [`random`]: random numbers for tests. [`short`], [`generate`], [`trials`]:
@@ -38,6 +39,7 @@ pub mod generate;
 mod guard;
 pub mod image;
 pub mod language;
+pub mod lease;
 pub mod number;
 pub mod program;
 pub mod queue;
@@ -54,6 +56,7 @@ pub use desk::{shown, Held};
 pub use entry::Entry;
 pub use image::{is_sound, make_fresh, Layout};
 pub use language::Language;
+pub use lease::{Lease, Silence};
 pub use program::output;
 pub use queue::{Place, Queue, QueueAnswer, Turn};
 pub use stamp::{Mark, Mode, Pair, Session};

@@ -40,3 +40,7 @@ pub const FIRST_ILL_FORMED: u8 = 18;
 pub const SECOND_ILL_FORMED: u8 = 19;
 /// Two texts differ.
 pub const TEXTS_DIFFER: u8 = 20;
+/// A lease term or a time is out of its limits, or no number.
+pub const LEASE_REFUSED: u8 = 21;
+/// The wait for a silent desk is not over.
+pub const STILL_WAITING: u8 = 25;

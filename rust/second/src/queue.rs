@@ -57,7 +57,8 @@ pub enum Turn {
 /// What asking and leaving answer.
 #[derive(Clone, Copy, Debug, Default, PartialEq, Eq, Hash)]
 pub struct QueueAnswer {
-    /// 0, 1 or 10 to 13 for asking; 0, 10 or 15 for leaving.
+    /// 0, 1 or 10 to 13 for asking; 0, 10 or 15 for leaving; 0, 10, 15, 21 or
+    /// 25 for a silent desk.
     pub number: u8,
     /// Whether that desk holds the lock in the queue as it now is.
     pub holds: bool,
@@ -132,6 +133,22 @@ impl Queue<'_> {
             }
         };
         self.answer(number, desk, looked_at)
+    }
+
+    /// Whether a desk and start stands, or none if the queue is bad.
+    pub fn stands(&self, desk: u32) -> Option<bool> {
+        Some(position(self.standing()?, desk).is_some())
+    }
+
+    /// What a refusal answers: the queue as it is, or zeros if it is bad.
+    pub(crate) fn told(&self, number: u8, desk: u32) -> QueueAnswer {
+        match self.standing() {
+            None => QueueAnswer::zeros(number),
+            Some(standing) => {
+                let looked_at = looked_at(standing, position(standing, desk));
+                self.answer(number, desk, looked_at)
+            }
+        }
     }
 
     /// The entries that stand, or none if the queue is bad (number 10).
