@@ -1,5 +1,5 @@
--- The starred trials of the sheet ("Trials at the desk"), the four commands of case P and the three slips, as one table: a start, requests in the
--- order in which they are sent, and what each must get. Where no act is named it is verify; commit marks are zero throughout.
+-- The starred trials of the sheet ("Trials at the desk"), the four commands of case P, the three slips, commit marks, and the numbers 1, 2 and 9, as one
+-- table: a start, requests in the order in which they are sent, and what each must get. Where no act is named it is verify.
 -- Assumes nothing.
 use Prim.Native.Nat.{ℕ}
 use mathlib.Core.Path.{_≡_}
@@ -9,6 +9,8 @@ use Rattle.commands.specs.Bytes.{commandBytes}
 use Rattle.stamps.specs.Stamp.{stamp, shared, exclusive, noMark, noPair}
 use Rattle.guard.specs.declared.Answer.{Answer}
 use Rattle.stamps.specs.declared.Pair.{Pair}
+use Rattle.stamps.specs.declared.Mark.{Mark}
+use Rattle.commands.specs.declared.Command.{Command}
 use Rattle.image.specs.Image.{encode, fresh}
 use Rattle.model.specs.Serve.{serve}
 use Rattle.model.specs.Words.{Sent, Event, history}
@@ -50,25 +52,25 @@ stamp2 = stamp 2 2 0
 abbrev pub pair : ℕ → ℕ → Pair
 pair s x = record { s = s; x = x }
 
--- A command for card 0 with a lent reply buffer.
+-- The numbers of a command.
+abbrev pub withNumbers : ℕ → ℕ → ℕ → Pair → Mark → Mark → ℕ → ℕ → Command
+withNumbers act mode card p expected next edition n =
+    record { act = act; mode = mode; card = card; pair = p; expected = expected; next = next; edition = edition; length = n }
+
+-- A command with its payload and a lent reply buffer.
+abbrev pub sends : Command → List ℕ → List ℕ → Sent
+sends c text lent = record { command = commandBytes c text; lent = lent }
+
+-- A command for card 0 without marks.
 abbrev pub request : ℕ → ℕ → Pair → ℕ → List ℕ → List ℕ → Sent
-request act mode p edition text lent =
-    record {
-      command =
-          commandBytes
-          (record {
-            act = act;
-            mode = mode;
-            card = 0;
-            pair = p;
-            expected = noMark;
-            next = noMark;
-            edition = edition;
-            length = length text;
-          })
-          text;
-      lent = lent;
-    }
+request act mode p edition text lent = sends (withNumbers act mode 0 p noMark noMark edition (length text)) text lent
+
+-- The commit mark of a desk and a transaction, and an exclusive verify by A' that expects one mark and leaves another.
+abbrev pub markOf : ℕ → ℕ → Mark
+markOf d t = record { desk = d; transaction = t }
+
+abbrev pub verifyMarked : Mark → Mark → Sent
+verifyMarked expected next = sends (withNumbers 5 exclusive 0 (pair stamp1 stamp1) expected next 0 0) [] []
 
 abbrev pub verify : ℕ → ℕ → ℕ → Sent
 verify mode s x = request 5 mode (pair s x) 0 [] []
@@ -337,6 +339,40 @@ slipRaised =
       expected = bothGot ++ (got 8 stamp1 stamp1 0 0 1 1 0 (long 2) ∷ got 0 stamp1 stamp1 0 0 1 1 0 [] ∷ []);
     }
 
+-- Commit marks. With (5, 7) stored, (5, 7) and (5, 8) are accepted; (5, 6), where the transaction alone differs, (6, 7), where the desk alone does,
+-- and no mark at all get 4. With no mark stored, (5, 7) gets 4.
+abbrev pub trialMark : Mark → Got → Trial
+trialMark expected then =
+    record {
+      start = empty;
+      sent = verifyMarked noMark (markOf 5 7) ∷ verifyMarked expected (markOf 5 7) ∷ [];
+      expected = got 0 stamp1 stamp1 5 7 0 0 0 [] ∷ then ∷ [];
+    }
+
+abbrev pub passed57 : Got
+passed57 = got 0 stamp1 stamp1 5 7 0 0 0 []
+
+abbrev pub refused57 : Got
+refused57 = got 4 stamp1 stamp1 5 7 0 0 0 []
+
+abbrev pub trialNoMark : Trial
+trialNoMark = record { start = empty; sent = verifyMarked (markOf 5 7) noMark ∷ []; expected = got 4 0 0 0 0 0 0 0 [] ∷ [] }
+
+-- Number 1: no act has number 0. Number 2: with one card there is no card 1. Number 9: an image that is not there.
+abbrev pub trialMalformed : Trial
+trialMalformed = record { start = empty; sent = request 0 shared (pair stamp1 0) 0 [] (long 2) ∷ []; expected = got 1 0 0 0 0 0 0 0 (long 2) ∷ [] }
+
+abbrev pub trialNoCard : Trial
+trialNoCard =
+    record {
+      start = empty;
+      sent = sends (withNumbers 5 shared 1 (pair stamp1 0) noMark noMark 0 0) [] (long 2) ∷ [];
+      expected = got 2 0 0 0 0 0 0 0 (long 2) ∷ [];
+    }
+
+abbrev pub trialUnsound : Trial
+trialUnsound = record { start = []; sent = verify shared stamp1 0 ∷ []; expected = got 9 0 0 0 0 0 0 0 [] ∷ [] }
+
 abbrev pub trials : List Trial
 trials =
     trialA
@@ -358,6 +394,15 @@ trials =
     ∷ slipByLength
     ∷ slipCommandPair
     ∷ slipRaised
+    ∷ trialMark (markOf 5 7) passed57
+    ∷ trialMark (markOf 5 8) passed57
+    ∷ trialMark (markOf 5 6) refused57
+    ∷ trialMark (markOf 6 7) refused57
+    ∷ trialMark noMark refused57
+    ∷ trialNoMark
+    ∷ trialMalformed
+    ∷ trialNoCard
+    ∷ trialUnsound
     ∷ []
 
 -- The claim: each row gets exactly what it must, whole lists of answers, fields and reply buffers.

@@ -3,7 +3,7 @@
 use Prim.Native.Nat.{ℕ, _+_, _*_, _/_, _%_, _<_, max}
 use mathlib.Core.List.{List, [], _∷_}
 use mathlib.Core.Bool.{Bool, cond, not, _&&_, _||_, Bool·beq}
-use lib.Dec.{ltb, eqb}
+use lib.Dec.{ltb, leb, eqb}
 use Rattle.stamps.specs.declared.Mark.{Mark}
 use Rattle.stamps.specs.declared.Pair.{Pair}
 
@@ -65,9 +65,10 @@ largerOfEach old new = record { s = max (old .s) (new .s); x = max (old .x) (new
 abbrev pub markWhole : Mark → Bool
 markWhole m = Bool·beq (eqb (m .desk) 0) (eqb (m .transaction) 0)
 
--- "The commit mark, .., must equal the stored mark in desk and in transaction."
+-- The expected mark passes the stored one: the same desk, and a transaction that is not lower. (003, section 3.4.2: a request is rejected whose commit
+-- session identifier names another client or an older transaction.)
 abbrev pub markFits : Mark → Mark → Bool
-markFits stored expected = eqb (expected .desk) (stored .desk) && eqb (expected .transaction) (stored .transaction)
+markFits stored expected = eqb (expected .desk) (stored .desk) && leb (stored .transaction) (expected .transaction)
 
 -- No stamps and no mark: zero means none.
 abbrev pub noPair : Pair

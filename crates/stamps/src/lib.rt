@@ -79,11 +79,11 @@ pub fn mark_whole(m: Mark) -> bool
     (m.desk == 0) == (m.transaction == 0)
 }
 
-// Whether the expected commit mark equals the stored one, in desk and in transaction.
+// Whether the expected commit mark passes the stored one: the same desk, and no lower transaction.
 pub fn mark_fits(stored: Mark, expected: Mark) -> bool
     ensures { λ r. ⌜ r ≡ markFits stored expected ⌝ }
 {
-    (expected.desk == stored.desk) & (expected.transaction == stored.transaction)
+    (expected.desk == stored.desk) & (stored.transaction <= expected.transaction)
 }
 
 // The larger of two stamps.

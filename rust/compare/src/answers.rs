@@ -134,10 +134,11 @@ fn note_edges(run: &mut Run, image: &[u8], command: &[u8], lent: usize) {
     }
     let (expected, mark) = (command.expected, stored.mark);
     let off = (
-        expected.desk.abs_diff(mark.desk),
-        expected.transaction.abs_diff(mark.transaction),
+        i64::from(expected.desk) - i64::from(mark.desk),
+        i64::from(expected.transaction) - i64::from(mark.transaction),
     );
-    note(run, Kind::Marks, off, &[(0, 0), (1, 0), (0, 1)].map(Some));
+    let edges = [(0, 0), (-1, 0), (1, 0), (0, -1), (0, 1)];
+    note(run, Kind::Marks, off, &edges.map(Some));
     let near = |stamp: u64| [Some(stamp), stamp.checked_sub(1), stamp.checked_add(1)];
     note(
         run,

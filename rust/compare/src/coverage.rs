@@ -24,7 +24,7 @@ kinds! {
     Editions 4 ".. on a card of edition 0, 1, 65,534, 65,535"
     TextsRead 3 ".. reading a text that is empty, one short of C, C"
     TextsWritten 4 ".. writing a text that is empty, one short of C, C, one more"
-    Marks 3 ".. with the stored mark, its desk off by one, its transaction off by one"
+    Marks 5 ".. with the stored mark, its desk one below, above, its transaction one below, above"
     SharedStamps 3 ".. with the stored s, one below, one above"
     ExclusiveStamps 3 ".. with the stored x, one below, one above"
     Replies 4 ".. reading into a buffer of no bytes, one short of the text, as long, one past"

@@ -74,11 +74,12 @@ impl<'a> List<'a> {
         })
     }
 
-    /// The expected mark is the next mark of the last earlier accepted command
-    /// for the card, or zeros.
+    /// The expected mark passes the next mark of the last earlier accepted
+    /// command for the card, or zeros.
     fn right_mark(&self, at: usize, command: &Command) -> bool {
         let last = self.earlier(at, command.card).next();
-        command.expected == last.map_or(Mark::default(), |before| before.next)
+        let stored = last.map_or(Mark::default(), |before| before.next);
+        command.expected.desk == stored.desk && command.expected.transaction >= stored.transaction
     }
 
     /// No translation was accepted since the last accepted write of the

@@ -84,6 +84,7 @@ fn sent(random: &mut Random, image: &[u8], session: Open) -> Vec<u8> {
     let marks = [
         Mark::default(),
         Mark::new(1, 7),
+        Mark::new(1, 6),
         Mark::new(0x8001, 0x8000_0007),
     ];
     let fields = CommandFields {

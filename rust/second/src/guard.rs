@@ -26,7 +26,7 @@ impl Entry {
     fn refusal(self, command: &Command, room: usize, reply_length: usize) -> Option<u8> {
         if command.mode.is_below(command.pair, self.pair) {
             Some(STALE)
-        } else if command.expected != self.mark {
+        } else if !command.expected.passes(self.mark) {
             Some(MARK_DIFFERS)
         } else if command.payload.len() > room {
             Some(PAYLOAD_TOO_LONG)

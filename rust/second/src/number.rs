@@ -9,7 +9,8 @@ pub const MALFORMED: u8 = 1;
 pub const NO_SUCH_CARD: u8 = 2;
 /// The pair is stale.
 pub const STALE: u8 = 3;
-/// The expected commit mark differs from the stored one.
+/// The expected commit mark has another desk than the stored one, or a lower
+/// transaction.
 pub const MARK_DIFFERS: u8 = 4;
 /// The payload is longer than C.
 pub const PAYLOAD_TOO_LONG: u8 = 5;

@@ -109,6 +109,12 @@ impl Mark {
         Mark { desk, transaction }
     }
 
+    /// Whether this mark, as the expected one, passes the stored one: it is
+    /// refused if the desks differ or its transaction is lower.
+    pub fn passes(self, stored: Mark) -> bool {
+        self.desk == stored.desk && self.transaction >= stored.transaction
+    }
+
     /// Whether desk and transaction are both zero or both not.
     pub fn is_valid(self) -> bool {
         (self.desk == 0) == (self.transaction == 0)

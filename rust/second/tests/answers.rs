@@ -263,7 +263,7 @@ fn marks(stored_mark: Mark, expected: Mark) -> u8 {
 }
 
 #[test]
-fn row_4_the_mark_must_equal_in_desk_and_transaction() {
+fn row_4_other_desks_and_lower_transactions_are_refused() {
     let none = Mark::default();
     assert_eq!(marks(none, none), 0);
     assert_eq!(marks(none, Mark::new(1, 1)), 4);
@@ -271,11 +271,20 @@ fn row_4_the_mark_must_equal_in_desk_and_transaction() {
     assert_eq!(marks(MARK, MARK), 0);
     for (desk, transaction) in [(1, 0), (0x8000, 0), (0, 1), (0, 0x1_0000), (0, 0x8000_0000)] {
         let off = Mark::new(MARK.desk ^ desk, MARK.transaction ^ transaction);
-        let valid = off.is_valid();
-        assert_eq!(marks(MARK, off), if valid { 4 } else { 1 });
+        let higher = desk == 0 && off.transaction > MARK.transaction;
+        let number = match off.is_valid() {
+            true if higher => 0,
+            true => 4,
+            false => 1,
+        };
+        assert_eq!(marks(MARK, off), number);
     }
     assert_eq!(marks(Mark::new(1, 2), Mark::new(2, 1)), 4);
-    assert_eq!(marks(Mark::new(2, 2), Mark::new(2, 3)), 4);
+    assert_eq!(marks(Mark::new(2, 2), Mark::new(2, 3)), 0);
+    assert_eq!(marks(Mark::new(5, 7), Mark::new(5, 7)), 0);
+    assert_eq!(marks(Mark::new(5, 7), Mark::new(5, 8)), 0);
+    assert_eq!(marks(Mark::new(5, 7), Mark::new(5, 6)), 4);
+    assert_eq!(marks(Mark::new(5, 7), Mark::new(6, 7)), 4);
     assert_eq!(marks(Mark::new(2, 2), Mark::new(3, 2)), 4);
 }
 

@@ -65,7 +65,8 @@ fn lists_from_a_fresh_image_show_the_last_accepted_write() {
             }
             let command = Command::parse(&bytes).expect("accepted");
             let card = usize::from(command.card);
-            assert_eq!(command.expected, marks[card]);
+            assert_eq!(command.expected.desk, marks[card].desk);
+            assert!(command.expected.transaction >= marks[card].transaction);
             marks[card] = command.next;
             let length = usize::from(answer.fields.length);
             let place = |language| 2 * card + usize::from(language == Language::Translation);
