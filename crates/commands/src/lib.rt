@@ -1,4 +1,6 @@
 // A command: its numbers, its rules, and its bytes.
+pub mod inner;
+
 ghost use mathlib.Core.Path.{_≡_};
 ghost use mathlib.Core.Bool.{Bool·beq, not, _&&_, _||_};
 ghost use lib.Dec.{leb, eqb};
@@ -169,23 +171,6 @@ fn pair_of(bytes: &[u8]) -> Pair
     }
 }
 
-// The numbers of a command, by the sheet's offsets.
-fn fields(bytes: &[u8]) -> Command
-    requires { ⌜ fixed ≤ length (now bytes) ⌝ }
-    ensures { λ r. ⌜ r ≡ fieldsOf (now (bytes .entry)) ⌝ }
-{
-    Command {
-        act: bytes[ACT],
-        mode: bytes[MODE],
-        card: slices::inner::fixed_width::read_u16(bytes, CARD),
-        pair: pair_of(bytes),
-        expected: mark_at(bytes, EXPECTED),
-        next: mark_at(bytes, NEXT),
-        edition: slices::inner::fixed_width::read_u16(bytes, EDITION),
-        length: slices::inner::fixed_width::read_u16(bytes, LENGTH),
-    }
-}
-
 // Lent bytes as a command.
 pub fn parse(bytes: &[u8]) -> Parsed
     ensures { λ r. ⌜ r ≡ parsed (now (bytes .entry)) ⌝ }
@@ -193,7 +178,7 @@ pub fn parse(bytes: &[u8]) -> Parsed
     if bytes.len() < FIXED {
         return Parsed::Malformed;
     }
-    let c = fields(bytes);
+    let c = inner::fields(bytes);
     if (bytes.len() == FIXED + (c.length as usize))
         & slices::all_zero(&bytes[ZEROS..EXPECTED])
         & c.well_formed()

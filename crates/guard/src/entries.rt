@@ -1,6 +1,5 @@
 ghost use mathlib.Core.Path.{_≡_};
-ghost use mathlib.Core.Bool.{false, cond};
-ghost use Rattle.guard.specs.Judge.{wrongEdition, editionsSpent, replyShort, judgeRows, raise, judged};
+ghost use Rattle.guard.specs.Judge.{wrongEdition, editionsSpent, replyShort, judgeRows, judged};
 ghost use Rattle.lists.specs.Table.{first};
 use crate::ACCEPTED;
 use crate::EDITION_WRONG;
@@ -14,7 +13,6 @@ use crate::STALE;
 use crate::behind;
 use commands::Command;
 use stamps::MALFORMED;
-use stamps::larger_of_each;
 use stamps::mark_fits;
 use stamps::stale;
 
@@ -73,33 +71,6 @@ impl Entry {
         ACCEPTED
     }
 
-    // The edition after an accepted command: writing an original raises it by 1.
-    fn next_edition(self, c: Command) -> u16
-        requires { ⌜ editionsSpent self c ≡ false ⌝ }
-        ensures { λ r. ⌜ r ≡ raise self c .edition ⌝ }
-    {
-        if c.writes_original() {
-            return self.edition + 1;
-        }
-        self.edition
-    }
-
-    // The entry after an accepted command.
-    fn raised(self, c: Command) -> Entry
-        requires { ⌜ editionsSpent self c ≡ false ⌝ }
-        ensures { λ r. ⌜ r ≡ raise self c ⌝ }
-    {
-        let next = c.next;
-        Entry {
-            pair: larger_of_each(self.pair, c.pair),
-            mark: next,
-            edition: self.next_edition(c),
-            from: chosen(c.writes_translation(), c.edition, self.from),
-            original: chosen(c.writes_original(), c.length, self.original),
-            translation: chosen(c.writes_translation(), c.length, self.translation),
-        }
-    }
-
     // A card's entry takes a command and comes back as the new entry, for the room C and the length of the lent reply buffer.
     pub fn judge(self, c: Command, room: u16, lent: usize) -> Judged
         ensures { λ r. ⌜ r ≡ judged self c room lent ⌝ }
@@ -116,14 +87,4 @@ impl Entry {
             entry: self.raised(c),
         }
     }
-}
-
-// The first where the test holds, else the second.
-fn chosen(test: bool, first: u16, second: u16) -> u16
-    ensures { λ r. ⌜ r ≡ cond test first second ⌝ }
-{
-    if test {
-        return first;
-    }
-    second
 }

@@ -1,5 +1,6 @@
 // The guard of one card: an entry that judges a command, and what is answered, a number and the seven reply fields.
 pub mod entries;
+pub mod inner;
 
 ghost use mathlib.Core.Path.{_≡_};
 ghost use Rattle.guard.specs.Judge.{behind};

@@ -5,6 +5,7 @@ use mathlib.Core.Bool.{true, false}
 use lib.Dec.{ltb}
 use Prim.Native.Nat.{ℕ, _*_}
 use Rattle.lists.specs.Parts.{part, splice, table, spread, every, zeros}
+use Rattle.lists.specs.Search.{any, none, those, since, last}
 use Rattle.lists.specs.Table.{allFrom, all}
 
 part-inside : part {A = ℕ} 1 2 (7 ∷ 8 ∷ 9 ∷ 10 ∷ []) ≡ 8 ∷ 9 ∷ []
@@ -42,3 +43,21 @@ one-is-set = refl
 one-test-fails : all (true ∷ false ∷ true ∷ []) ≡ false
 unfolding all allFrom
 one-test-fails = refl
+
+large-among : any (λ n. ltb 5 n) (1 ∷ 7 ∷ 2 ∷ []) ≡ true
+large-among = refl
+
+none-large : none (λ n. ltb 5 n) (1 ∷ 2 ∷ []) ≡ true
+none-large = refl
+
+those-large : those (λ n. ltb 5 n) (1 ∷ 7 ∷ 2 ∷ 8 ∷ []) ≡ 7 ∷ 8 ∷ []
+those-large = refl
+
+since-large : since (λ n. ltb 5 n) (1 ∷ 2 ∷ 7 ∷ 3 ∷ []) ≡ 1 ∷ 2 ∷ []
+since-large = refl
+
+last-large : last (λ n. ltb 5 n) (λ n. n * n) 0 (1 ∷ 7 ∷ 8 ∷ []) ≡ 49
+last-large = refl
+
+no-last : last (λ n. ltb 5 n) (λ n. n * n) 3 (1 ∷ 2 ∷ []) ≡ 3
+no-last = refl

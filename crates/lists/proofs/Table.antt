@@ -1,9 +1,9 @@
 -- Laws of a table of numbered refusals, by number and not by place. Assumes nothing.
 use Prim.Native.Nat.{ℕ, zero, suc}
 use native.Mathlib.Omega.{arith}
-use mathlib.Core.Path.{_≡_, refl, sym, subst}
+use mathlib.Core.Path.{_≡_, refl, sym, subst, _∙_}
 use mathlib.Core.Logic.{_↔_}
-use mathlib.Core.List.{List, [], _∷_}
+use mathlib.Core.List.{List, [], _∷_, _++_}
 use mathlib.Core.Bool.{Bool, true, false, cond, not, _&&_, _||_}
 use borrow.Author.Tests.{eqb-true, eqb-false}
 use lib.Dec.{T, eqb, T-not}
@@ -59,6 +59,36 @@ unapplied (r ∷ rs) o = go (r .applies) (unapplied rs (once-rest r rs o))
     go : (a : Bool) → (first rs ≡ 0) ↔ T (noRow rs) → (cond a (r .gives) (first rs) ≡ 0) ↔ T (not a && noRow rs)
     go true rest = (λ e. absurd (once-nonzero r rs o e), λ t. absurd t)
     go false rest = rest
+
+-- Rows behind a table: they are asked where it accepts.
+pub first-then : (rs ss : List Row) → T (once rs) → first (rs ++ ss) ≡ settled (first rs) (first ss) (first rs)
+first-then [] ss o = refl
+first-then (r ∷ rs) ss o = go (r .applies) (r .gives) (once-nonzero r rs o) (first-then rs ss (once-rest r rs o))
+  where
+    go : (a : Bool) (n : ℕ) → (n ≡ 0 → ⊥) → first (rs ++ ss) ≡ settled (first rs) (first ss) (first rs)
+        → cond a n (first (rs ++ ss)) ≡ settled (cond a n (first rs)) (first ss) (cond a n (first rs))
+    go true zero h rest = absurd (h refl)
+    go true (suc n) h rest = refl
+    go false n h rest = rest
+
+-- One row more behind a table, with a number of its own: that number is given exactly where the table accepts and the row applies; any other is the
+-- table's.
+module _ (rs : List Row) (b : Bool) (m : ℕ) (o : T (once rs)) (own : numbered (suc m) rs ≡ false) where
+  pub last-given : (first (rs ++ (row b (suc m) ∷ [])) ≡ suc m) ↔ ((first rs ≡ 0) × (b ≡ true))
+  last-given = (λ e. go (first rs) b refl (sym (first-then rs (row b (suc m) ∷ []) o) ∙ e), λ h. first-then rs (row b (suc m) ∷ []) o ∙ rw (h .0, h .1))
+    where
+      go : (n : ℕ) (a : Bool) → first rs ≡ n → settled n (cond a (suc m) 0) n ≡ suc m → (n ≡ 0) × (a ≡ true)
+      go zero true f e = (refl, refl)
+      go zero false f e = absurd (omega arith)
+      go (suc n) a f e = absurd (subst T own (first-in rs m (f ∙ e)))
+
+  pub last-idle : (first (rs ++ (row b (suc m) ∷ [])) ≡ suc m → ⊥) → first (rs ++ (row b (suc m) ∷ [])) ≡ first rs
+  last-idle h = first-then rs (row b (suc m) ∷ []) o ∙ go (first rs) b (λ e. h (first-then rs (row b (suc m) ∷ []) o ∙ e))
+    where
+      go : (n : ℕ) (a : Bool) → (settled n (cond a (suc m) 0) n ≡ suc m → ⊥) → settled n (cond a (suc m) 0) n ≡ n
+      go zero true f = absurd (f refl)
+      go zero false f = refl
+      go (suc n) a f = refl
 
 -- Where no row applies, none does by its number.
 pub none-applies : (rs : List Row) → T (noRow rs) → (n : ℕ) → applies n rs ≡ false

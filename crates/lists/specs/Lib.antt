@@ -2,3 +2,4 @@ pub mod Parts
 pub mod Table
 pub mod Le
 pub mod Claims
+pub mod Search

@@ -69,7 +69,7 @@ unfolding history
 whole-history start [] = refl
 whole-history start (s ∷ earlier) = ap (λ (l : List Sent). s ∷ l) (whole-history start earlier)
 
-bytes-reverse : (sent more : List Sent) → AllBytes sent → AllBytes more → AllBytes (reverseAux sent more)
+pub bytes-reverse : (sent more : List Sent) → AllBytes sent → AllBytes more → AllBytes (reverseAux sent more)
 bytes-reverse [] more b m = m
 bytes-reverse (s ∷ sent) more b m = bytes-reverse sent (s ∷ more) (b .1) (b .0, m)
 
@@ -95,7 +95,7 @@ claim n sent log whole a =
     at : (later : List Event) (e : Event) (before : List Event) → log ≡ later ++ e ∷ before → Told n e before
     at later e before split = along-split (Told n) log later e before a split
 
-same-log : (n c : ℕ) → T (shapeOk n c) → (sent : List Sent) → AllBytes sent → logOf n c sent ≡ eventsFrom (freshCards n c) (reverse sent)
+pub same-log : (n c : ℕ) → T (shapeOk n c) → (sent : List Sent) → AllBytes sent → logOf n c sent ≡ eventsFrom (freshCards n c) (reverse sent)
 unfolding logOf
 same-log n c shape sent b =
     ap (λ (image : List ℕ). history image (reverse sent)) (sym (freshSound n c shape .cards))

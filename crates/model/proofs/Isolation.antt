@@ -13,7 +13,8 @@ use Rattle.stamps.specs.Stamp.{shared, exclusive, deskStart, deskOf, own}
 use Rattle.commands.specs.Command.{verifier, update, session, Session}
 use Rattle.commands.specs.declared.Command.{Command}
 use Rattle.stamps.specs.declared.Pair.{Pair}
-use Rattle.model.specs.Words.{Sent, Event, any, none, commandOf, accepted, Proper, largerS, largerX, late, carries, sentFor, premise, OneSession, deskIn, intrudes}
+use Rattle.model.specs.Words.{Sent, Event, commandOf, accepted, Proper, largerS, largerX, late, carries, sentFor, premise, OneSession, deskIn, intrudes}
+use Rattle.lists.specs.Search.{any, none}
 use Rattle.commands.proofs.Rules.{CommandRules}
 use Rattle.model.proofs.Formed.{formed-rules}
 use Rattle.model.proofs.Meaning.{Among, among-here, among-right, among-reverse, among-map, none-means, premise-means, accepted-means, Intruder, intrudes-means}

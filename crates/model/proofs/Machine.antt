@@ -24,7 +24,8 @@ use Rattle.commands.proofs.Rules.{CommandRules}
 use Rattle.lists.proofs.Table.{unapplied, none-applies}
 use Rattle.image.specs.Image.{Card, Cards, text, noCard}
 use Rattle.model.specs.Serve.{cardOf, requestRows, stepped, cardsAfter, answerBy, replyBy}
-use Rattle.model.specs.Words.{Sent, Event, any, last, commandOf, accepted, outdated, lastText}
+use Rattle.model.specs.Words.{Sent, Event, commandOf, accepted, outdated, lastText}
+use Rattle.lists.specs.Search.{any, last}
 use Rattle.commands.proofs.CommandBytes.{length-payload}
 use Rattle.model.proofs.Formed.{formed-well, formed-rules}
 

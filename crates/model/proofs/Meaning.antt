@@ -13,7 +13,8 @@ use Rattle.commands.specs.Bytes.{fieldsOf}
 use Rattle.stamps.specs.Stamp.{shared, exclusive, deskNumber, deskStart, deskOf}
 use Rattle.commands.specs.declared.Command.{Command}
 use Rattle.stamps.specs.declared.Pair.{Pair}
-use Rattle.model.specs.Words.{Sent, Event, any, none, since, last, commandOf, accepted, largerS, largerX, late, sentFor, carries, under, breaks, premise, deskIn, intrudes}
+use Rattle.model.specs.Words.{Sent, Event, commandOf, accepted, largerS, largerX, late, sentFor, carries, under, breaks, premise, deskIn, intrudes}
+use Rattle.lists.specs.Search.{any, none, since, last}
 
 module _ {A : Type 0} where
   -- The element stands in the list.

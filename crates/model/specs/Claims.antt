@@ -13,11 +13,11 @@ use Rattle.lists.specs.Table.{applies, earlier, noRow}
 use Rattle.image.specs.Layout.{shapeOk}
 use Rattle.image.specs.Image.{sound}
 use Rattle.model.specs.Serve.{serve, storeRows}
+use Rattle.lists.specs.Search.{none}
 use Rattle.model.specs.Words.{
   Sent,
   Event,
   logOf,
-  none,
   accepted,
   Proper,
   late,

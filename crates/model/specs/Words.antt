@@ -5,6 +5,7 @@ use mathlib.Core.Path.{_≡_}
 use mathlib.Core.List.{List, [], _∷_, reverse}
 use mathlib.Core.Bool.{Bool, true, false, cond, not, _&&_, _||_}
 use lib.Dec.{ltb, eqb}
+use Rattle.lists.specs.Search.{any, none, since, last}
 use Rattle.stamps.specs.Stamp.{shared, exclusive, deskStart, noMark, markFits}
 use Rattle.commands.specs.Command.{Language, original, translation, writes, verifier, update, session}
 use Rattle.commands.specs.Bytes.{fieldsOf, payload, formed}
@@ -41,26 +42,6 @@ history start (s ∷ earlier) =
 -- The log of requests in the order in which they are sent, from a fresh image: "its list starts from a fresh image".
 unfoldable pub logOf : ℕ → ℕ → List Sent → List Event
 logOf n c sent = history (fresh n c) (reverse sent)
-
-module _ {A : Type 0} where
-  -- Some element of the list is so.
-  abbrev pub any : (A → Bool) → List A → Bool
-  any p [] = false
-  any p (a ∷ l) = p a || any p l
-
-  -- No element of the list is so.
-  abbrev pub none : (A → Bool) → List A → Bool
-  none p l = not (any p l)
-
-  -- The elements since the last that is so, that one left out; all where none is so. (The latest stands first.)
-  abbrev pub since : (A → Bool) → List A → List A
-  since p [] = []
-  since p (a ∷ l) = cond (p a) [] (a ∷ since p l)
-
-  -- What `f` says of the last element that is so, and `d` where none is so. (The latest stands first.)
-  abbrev pub last : {B : Type 0} → (A → Bool) → (A → B) → B → List A → B
-  last p f d [] = d
-  last p f d (a ∷ l) = cond (p a) (f a) (last p f d l)
 
 -- The numbers of an event's command.
 abbrev pub commandOf : Event → Command

@@ -27,7 +27,8 @@ use Rattle.image.proofs.Bytes.{Lengths, lengths}
 use Rattle.image_claims.proofs.Claims.{soundReadsBack, goodEncodes, freshSound}
 use Rattle.image.proofs.Decode.{room-decode}
 use Rattle.model.specs.Serve.{serve, cardOf, requestRows, textRead, replyBy}
-use Rattle.model.specs.Words.{Sent, Event, any, none, logOf}
+use Rattle.model.specs.Words.{Sent, Event, logOf}
+use Rattle.lists.specs.Search.{any, none}
 use Rattle.model.specs.Claims.{AllBytes}
 use Rattle.model.proofs.Demand.{demand3}
 use Rattle.model.proofs.Machine.{numberOn, cardsBy, passed}

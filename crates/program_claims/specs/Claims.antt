@@ -11,7 +11,8 @@ use Rattle.guard.specs.declared.Answer.{Answer}
 use Rattle.image.specs.Layout.{shapeOk}
 use Rattle.image.specs.Image.{sound, fresh}
 use Rattle.model.specs.Serve.{serve}
-use Rattle.model.specs.Words.{Sent, Event, imageAfter, history, none}
+use Rattle.model.specs.Words.{Sent, Event, imageAfter, history}
+use Rattle.lists.specs.Search.{none}
 use Rattle.model.specs.Claims.{Claim}
 use Rattle.stream.specs.Stream.{commands}
 use Rattle.image.specs.Image.{goodFront}

@@ -12,7 +12,7 @@ use lib.Dec.{ltb}
 use Rattle.lists.specs.Parts.{splice}
 use Rattle.lists.proofs.Tests.{cases, never-both}
 use Rattle.commands.specs.Command.{Language, original, translation, reads}
-use Rattle.commands.specs.Bytes.{fieldsOf, payload, formed, parsed, fixed}
+use Rattle.commands.specs.Bytes.{fieldsOf, payload, formed, fixed}
 use Rattle.lists.specs.Table.{first}
 use Rattle.guard.specs.Judge.{judgeRows, overruns, raise, judged}
 use Rattle.guard.specs.Replies.{readLength, replied, refused}
@@ -20,8 +20,7 @@ use Rattle.guard.specs.declared.Answer.{Answer}
 use Rattle.commands.specs.declared.Command.{Command}
 use Rattle.guard.specs.declared.Entry.{Entry}
 use Rattle.guard.specs.declared.Judged.{Judged}
-use Rattle.commands.specs.declared.Parsed.the-variants.{Malformed, Formed}
-use Rattle.commands.proofs.CommandBytes.{parsed-formed, parsed-malformed, formed-short}
+use Rattle.commands.proofs.CommandBytes.{formed-short}
 use Rattle.guard.proofs.Judge.{Accepted, accepted, accepted-raises}
 use Rattle.lists.proofs.Table.{settled-old}
 use Rattle.image.specs.Image.{Card, withCard, cardAt, encode, decode, sound}
@@ -45,20 +44,6 @@ pub and-last : {A B C D : Type 0} → A × (B × C) → D → A × (B × (C × D
 and-last t d = (t .0, (t .1 .0, (t .1 .1, d)))
 
 -- ---- lent bytes as a command
-
-pub is-malformed : (bytes : List ℕ) → Malformed ≡ parsed bytes → formed bytes ≡ false
-is-malformed bytes e = go (cases (formed bytes))
-  where
-    go : (formed bytes ≡ true) ⊎ (formed bytes ≡ false) → formed bytes ≡ false
-    go (inl t) = let never : _≡_ {A = ℕ} 0 1 = cc (parsed-formed bytes t) in absurd (omega arith)
-    go (inr f) = f
-
-pub is-formed : (bytes : List ℕ) {c : Command} → Formed c ≡ parsed bytes → (formed bytes ≡ true) × (c ≡ fieldsOf bytes)
-is-formed bytes {c} e = go (cases (formed bytes))
-  where
-    go : (formed bytes ≡ true) ⊎ (formed bytes ≡ false) → (formed bytes ≡ true) × (c ≡ fieldsOf bytes)
-    go (inl t) = (t, cc (parsed-formed bytes t))
-    go (inr f) = let never : _≡_ {A = ℕ} 0 1 = cc (parsed-malformed bytes f) in absurd (omega arith)
 
 -- Its fixed part is whole, and what stands behind it is its payload, as long as it says.
 pub fixed-in : (bytes : List ℕ) → formed bytes ≡ true → fixed ≤ length bytes

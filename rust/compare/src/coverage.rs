@@ -83,12 +83,21 @@ kinds! {
     TextsPast 2 ".. the second: just past the text, just past a section inside it"
     TextsTies 2 "drops exactly half a degree apart: near, refused by rounding"
     InputLengths 2 "the program: inputs of 65,536 bytes, of 65,537"
+    HistoryLists 1 "history: lists beside the store, from a fresh image"
+    HistoryFull 3 "history: refused with 22 by the count, by the payload bytes, by both"
+    HistoryEdges 4 "history: the 200th kept, the 201st refused, 32,768 payload bytes kept, one more refused"
+    HistoryOrder 1 "history: full, and refused by an earlier row"
+    HistoryFirst 1 "history: the first 22, where the store accepts"
+    HistoryAfter 2 "history: after the first 22, refused, accepted"
+    HistoryBytes 3 "history: in any bytes, as many used, more used, with bytes left over"
+    Swapped 3 "neighbours for different cards swapped: both accepted, one refused, one malformed"
+    Regrouped 1 "lists sent again card after card"
 }
 
 /// The largest number that any operation answers with, and those that some
 /// operation gives today.
 const MOST: usize = 26;
-const GIVEN: &[usize] = &[0, 1, 2, 3, 4, 5, 6, 7, 8, 9, 10, 11, 12, 13, 14, 15, 18, 19, 20, 21, 25];
+pub const GIVEN: &[usize] = &[0, 1, 2, 3, 4, 5, 6, 7, 8, 9, 10, 11, 12, 13, 14, 15, 18, 19, 20, 21, 22, 25];
 
 /// What was run.
 pub struct Run {

@@ -7,6 +7,8 @@
 //!   [`texts`], [`program`]: what is compared, part by part.
 //! - [`upgrades`]: lists of turns from an empty queue, in which standing desks
 //!   ask again. [`lapses`]: desks that fall silent.
+//! - [`history`]: the history engine, beside the store. [`swaps`]: commands for
+//!   different cards in another order.
 //! - [`trials`]: the sheet's trials, by both.
 //! - [`sessions`]: lists of commands as desks send them, sessions interleaved.
 //! - [`demand3`]: the sentences of demand 3, over a list of events.
@@ -17,6 +19,7 @@ pub mod answers;
 pub mod coverage;
 pub mod demand3;
 pub mod desks;
+pub mod history;
 pub mod images;
 pub mod lapses;
 pub mod lists;
@@ -26,6 +29,7 @@ pub mod queues;
 pub mod run;
 pub mod sessions;
 pub mod streams;
+pub mod swaps;
 pub mod texts;
 pub mod trials;
 pub mod upgrades;

@@ -9,7 +9,7 @@ use std::time::{Instant, SystemTime, UNIX_EPOCH};
 
 use compare::coverage::Run;
 use compare::run::Compared;
-use compare::{answers, desks, images, lapses, lists, program, queues, streams, texts, trials, upgrades};
+use compare::{answers, desks, history, images, lapses, lists, program, queues, streams, swaps, texts, trials, upgrades};
 use second::random::Random;
 
 /// The fixed seed and the cases of `make test`, and its inputs to the program.
@@ -92,7 +92,9 @@ fn round(run: &mut Run, random: &mut Random) -> Compared<()> {
     lapses::any(run, random)?;
     desks::any(run, random)?;
     streams::any(run, random)?;
-    texts::any(run, random)
+    texts::any(run, random)?;
+    history::any(run, random)?;
+    swaps::any(run, random)
 }
 
 /// Prints the table, and what never came.

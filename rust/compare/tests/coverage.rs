@@ -1,6 +1,6 @@
 //! The coverage table sees what never came.
 
-use compare::coverage::{Kind, Run};
+use compare::coverage::{Kind, Run, GIVEN};
 
 /// How many of what never came is said of this text.
 fn missing(run: &Run, text: &str) -> usize {
@@ -11,7 +11,7 @@ fn missing(run: &Run, text: &str) -> usize {
 #[test]
 fn nothing_came() {
     let run = Run::default();
-    assert_eq!(missing(&run, "number "), 19);
+    assert_eq!(missing(&run, "number "), GIVEN.len());
     assert_eq!(missing(&run, "fresh images made"), 2);
     assert_eq!(missing(&run, "one byte of the 52"), 52);
 }
@@ -25,7 +25,7 @@ fn some_came() {
     (0..52).for_each(|at| other.seen_at(Kind::CommandBytes, at));
     run.add(&other);
     assert_eq!(run.cases, 2);
-    assert_eq!(missing(&run, "number "), 18);
+    assert_eq!(missing(&run, "number "), GIVEN.len() - 1);
     assert_eq!(missing(&run, "fresh images made"), 1);
     assert_eq!(missing(&run, "one byte of the 52"), 0);
     let table = run.table();

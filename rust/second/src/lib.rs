@@ -15,6 +15,7 @@
 //! - [`queue`]: the lock queue of one card, upgrades too, numbers 10 to 13 and
 //!   15.
 //! - [`lease`]: desks that fall silent, numbers 21 and 25.
+//! - [`history`]: the history engine, number 22.
 //! - [`stream`], [`program`]: streams and the program's output.
 //! - [`number`]: the names of the numbers. [`endian`]: little-endian numbers.
 //!   [`random`]: random numbers for tests. [`short`], [`generate`], [`trials`]:
@@ -37,6 +38,7 @@ pub mod endian;
 pub mod entry;
 pub mod generate;
 mod guard;
+pub mod history;
 pub mod image;
 pub mod language;
 pub mod lease;
@@ -54,6 +56,7 @@ pub mod trials;
 pub use command::{Act, Command, CommandFields};
 pub use desk::{shown, Held};
 pub use entry::Entry;
+pub use history::History;
 pub use image::{is_sound, make_fresh, Layout};
 pub use language::Language;
 pub use lease::{Lease, Silence};

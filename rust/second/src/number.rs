@@ -45,3 +45,5 @@ pub const TEXTS_DIFFER: u8 = 20;
 pub const LEASE_REFUSED: u8 = 21;
 /// The wait for a silent desk is not over.
 pub const STILL_WAITING: u8 = 25;
+/// The history engine has no room for one more accepted command.
+pub const HISTORY_FULL: u8 = 22;

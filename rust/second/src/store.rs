@@ -47,13 +47,13 @@ pub struct Answer {
 
 impl Answer {
     /// An answer whose fields are zeros.
-    fn zeros(number: u8) -> Answer {
+    pub(crate) fn zeros(number: u8) -> Answer {
         let fields = ReplyFields::default();
         Answer { number, fields }
     }
 
     /// An answer whose fields are an entry's.
-    fn of_entry(number: u8, entry: Entry, length: u16) -> Answer {
+    pub(crate) fn of_entry(number: u8, entry: Entry, length: u16) -> Answer {
         let fields = ReplyFields {
             pair: entry.pair,
             mark: entry.mark,
@@ -108,7 +108,7 @@ fn accept(
 }
 
 /// Fills the first bytes of the reply buffer; the rest keeps its bytes.
-fn fill_first(reply: &mut [u8], text: &[u8]) {
+pub(crate) fn fill_first(reply: &mut [u8], text: &[u8]) {
     reply
         .iter_mut()
         .zip(text)

@@ -6,12 +6,11 @@ use mathlib.Core.Bool.{true}
 use Rattle.commands.specs.Bytes.{fieldsOf, formed}
 use Rattle.image.specs.Image.{sound}
 use Rattle.commands.proofs.CommandBytes.{length-payload}
+use Rattle.commands.proofs.Parsing.{is-malformed, is-formed}
 use Rattle.model.proofs.Sound.{stays-sound}
 use Rattle.store.proofs.Step.{
   exits,
   and-last,
-  is-malformed,
-  is-formed,
   fixed-in,
   behind-fixed,
   serve-malformed,

@@ -1,0 +1,46 @@
+// What other crates need, and what asks something of its caller.
+ghost use mathlib.Core.Path.{_≡_};
+ghost use mathlib.Core.Bool.{false, cond};
+ghost use Rattle.guard.specs.Judge.{editionsSpent, raise};
+use crate::Entry;
+use commands::Command;
+use stamps::larger_of_each;
+
+impl Entry {
+    // The edition after an accepted command: writing an original raises it by 1.
+    fn next_edition(self, c: Command) -> u16
+        requires { ⌜ editionsSpent self c ≡ false ⌝ }
+        ensures { λ r. ⌜ r ≡ raise self c .edition ⌝ }
+    {
+        if c.writes_original() {
+            return self.edition + 1;
+        }
+        self.edition
+    }
+
+    // The entry after an accepted command.
+    pub fn raised(self, c: Command) -> Entry
+        requires { ⌜ editionsSpent self c ≡ false ⌝ }
+        ensures { λ r. ⌜ r ≡ raise self c ⌝ }
+    {
+        let next = c.next;
+        Entry {
+            pair: larger_of_each(self.pair, c.pair),
+            mark: next,
+            edition: self.next_edition(c),
+            from: chosen(c.writes_translation(), c.edition, self.from),
+            original: chosen(c.writes_original(), c.length, self.original),
+            translation: chosen(c.writes_translation(), c.length, self.translation),
+        }
+    }
+}
+
+// The first where the test holds, else the second.
+fn chosen(test: bool, first: u16, second: u16) -> u16
+    ensures { λ r. ⌜ r ≡ cond test first second ⌝ }
+{
+    if test {
+        return first;
+    }
+    second
+}

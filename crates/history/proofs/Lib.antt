@@ -1,0 +1,4 @@
+pub mod Raised
+pub mod Walk
+pub mod Extents
+pub mod Requests

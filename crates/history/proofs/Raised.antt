@@ -1,0 +1,28 @@
+-- What one more kept command makes of an entry and a text that are worked out from the kept commands: what the guard makes of stored ones.
+-- Assumes nothing.
+use Prim.Native.Nat.{ℕ}
+use mathlib.Core.Path.{_≡_}
+use mathlib.Core.List.{List, _∷_}
+use mathlib.Core.Bool.{true, false, cond}
+use Rattle.commands.specs.Command.{Language, writes}
+use Rattle.commands.specs.Bytes.{fieldsOf, payload}
+use Rattle.guard.specs.Judge.{raise}
+use Rattle.history.specs.WorkedOut.{concerns, highest, timesWritten, textFrom, entryFrom}
+
+module _ (kept : List (List ℕ)) (command : List ℕ) (k : ℕ) where
+  pub entry-here : concerns k command ≡ true → entryFrom (command ∷ kept) k ≡ raise (entryFrom kept k) (fieldsOf command)
+  unfolding entryFrom highest timesWritten raise
+  entry-here h = rw h
+
+  pub entry-other : concerns k command ≡ false → entryFrom (command ∷ kept) k ≡ entryFrom kept k
+  unfolding entryFrom highest timesWritten
+  entry-other h = rw h
+
+  pub text-here : (l : Language) → concerns k command ≡ true
+      → textFrom l (command ∷ kept) k ≡ cond (writes l (fieldsOf command)) (payload command) (textFrom l kept k)
+  unfolding textFrom
+  text-here l h = rw h
+
+  pub text-other : (l : Language) → concerns k command ≡ false → textFrom l (command ∷ kept) k ≡ textFrom l kept k
+  unfolding textFrom
+  text-other l h = rw h

@@ -1,0 +1,119 @@
+// What kept bytes say: how much they hold, the entry of a card, and its texts.
+ghost use mathlib.Core.Path.{_≡_};
+ghost use mathlib.Core.Bool.{cond};
+ghost use mathlib.Core.List.{reverse};
+ghost use Prim.Native.Nat.{_+_, _-_, _≤_, _<_};
+ghost use lib.Dec.{eqb};
+ghost use lib.ListN.{length};
+ghost use Rattle.lists.specs.Parts.{part};
+ghost use Rattle.guard.specs.Judge.{raise, lastEdition};
+ghost use Rattle.guard.specs.Entry.{noEntry};
+ghost use Rattle.stream.specs.Stream.{commands};
+ghost use Rattle.history.specs.WorkedOut.{entryFrom};
+ghost use Rattle.history.specs.Lent.{historySize};
+ghost use Rattle.history.specs.Steps.{writtenBy, Measured};
+use crate::Span;
+use crate::Totals;
+use commands::Command;
+use commands::FIXED;
+use guard::Entry;
+use stamps::Mark;
+use stamps::Pair;
+use stream::Next;
+
+// How much some bytes keep.
+pub fn totals_of(kept: &[u8]) -> Totals
+    ensures { λ r. ⌜ Measured (now (kept .entry)) (r .end) (r .count) (r .payloads) ⌝ }
+{
+    let mut at = 0;
+    let mut count = 0;
+    let mut payloads = 0;
+    loop {
+        let Next::Whole(end) = stream::next_at(kept, at) else {
+            break Totals {
+                count,
+                payloads,
+                end: at,
+            };
+        };
+        count += 1;
+        payloads += end - at - FIXED;
+        at = end;
+    }
+}
+
+// The entry of a card for which nothing was accepted.
+fn no_entry() -> Entry
+    ensures { λ r. ⌜ r ≡ noEntry ⌝ }
+{
+    Entry {
+        pair: Pair { s: 0, x: 0 },
+        mark: Mark {
+            desk: 0,
+            transaction: 0,
+        },
+        edition: 0,
+        from: 0,
+        original: 0,
+        translation: 0,
+    }
+}
+
+// The entry of a card after one more command, which may be for another card.
+fn taken(e: Entry, c: Command, card: u16) -> Entry
+    requires { ⌜ e .edition < lastEdition ⌝ }
+    ensures { λ r. ⌜ r ≡ cond (eqb (c .card) card) (raise e c) e ⌝ }
+{
+    if c.card == card {
+        return e.raised(c);
+    }
+    e
+}
+
+// The entry of a card, worked out from the kept commands.
+pub fn entry_of(kept: &[u8], card: u16) -> Entry
+    requires { ⌜ length (now kept) ≤ historySize ⌝ }
+    ensures { λ r. ⌜ r ≡ entryFrom (reverse (commands (now (kept .entry)))) card ⌝ }
+{
+    let mut at = 0;
+    let mut e = no_entry();
+    loop {
+        let Next::Whole(end) = stream::next_at(kept, at) else {
+            break e;
+        };
+        let c = commands::inner::fields(&kept[at..end]);
+        e = taken(e, c, card);
+        at = end;
+    }
+}
+
+// The first where the test holds, else the second.
+fn chosen(test: bool, first: Span, second: Span) -> Span
+    ensures { λ r. ⌜ r ≡ cond test first second ⌝ }
+{
+    if test {
+        return first;
+    }
+    second
+}
+
+// Where the text stands that the last command with this act for this card wrote; an empty part where there is none.
+pub fn text_of(kept: &[u8], card: u16, act: u8) -> Span
+    ensures { λ r. ⌜ (r .start ≤ r .end) × (r .end ≤ length (now (kept .entry)))
+        × (part (r .start) (r .end - r .start) (now (kept .entry)) ≡ writtenBy act (reverse (commands (now (kept .entry)))) card) ⌝ }
+{
+    let mut at = 0;
+    let mut found = Span { start: 0, end: 0 };
+    loop {
+        let Next::Whole(end) = stream::next_at(kept, at) else {
+            break found;
+        };
+        let c = commands::inner::fields(&kept[at..end]);
+        let here = Span {
+            start: at + FIXED,
+            end,
+        };
+        found = chosen((c.card == card) & (c.act == act), here, found);
+        at = end;
+    }
+}

@@ -1,0 +1,139 @@
+-- An accepted command stands behind the others. Assumes nothing.
+use Prim.Native.Nat.{ℕ, zero, suc, _+_, _≤_, _<_}
+use native.Mathlib.Omega.{arith}
+use mathlib.Core.Path.{_≡_, refl, sym, ap, subst, _∙_}
+use mathlib.Core.Logic.{_⊎_, inl, inr}
+use mathlib.Core.List.{List, [], _∷_, _++_, reverse, reverse-append, append-nil, append-assoc}
+use mathlib.Core.Bool.{true, false}
+use borrow.Author.Tests.{ltb-true, ltb-false, not-false}
+use lib.Dec.{ltb}
+use lib.ListN.{length, take, drop, getD, length-append, length-take, List·getD-append}
+use lib.Seq.{length-take-le, take-append-seam, getD-append-seam}
+use Rattle.lists.specs.Parts.{spread, splice}
+use Rattle.lists.specs.Table.{Row}
+use Rattle.lists.proofs.Parts.{length-splice}
+use Rattle.lists.proofs.Spread.{spread-append}
+use Rattle.lists.proofs.Table.{unapplied, none-applies}
+use Rattle.lists.proofs.Tests.{cases}
+use Rattle.commands.specs.Bytes.{fieldsOf, formed}
+use Rattle.commands.proofs.CommandBytes.{formedness}
+use Rattle.stream.specs.Stream.{commands, endOf, endToEnd}
+use Rattle.stream.proofs.Place.{cut-short}
+use Rattle.stream.proofs.Commands.{end-length}
+use Rattle.stream_claims.specs.Claims.{OneCommand}
+use Rattle.stream_claims.proofs.Claims.{claims}
+use Rattle.guard.specs.Replies.{replied}
+use Rattle.history.specs.Engine.{overLimits, HISTORY-FULL, engineRows, deducedBy, deduced}
+use Rattle.history.specs.Lent.{historySize, keptIn, bytesBy, usedBy, historyServe}
+use Rattle.history.proofs.Extents.{measured, over-is, fits-behind}
+use Rattle.history_claims.specs.Lent.{BytesKeep, BytesKept}
+
+-- Where neither limit is passed, the command fits behind the others.
+fits : (s command : List ℕ) → formed command ≡ true → overLimits (command ∷ reverse (commands s)) ≡ false → endOf s + length command ≤ historySize
+fits s command f h =
+    let behind = fits-behind s _ _ _ (fieldsOf command .length) (measured s) (sym (over-is command (reverse (commands s)) f) ∙ h) in
+    let long = formedness command f .whole in
+    omega (arith, behind, long)
+
+-- ---- one more command
+
+one-command : (command : List ℕ) → formed command ≡ true → OneCommand command
+unfolding fieldsOf
+one-command command f = let whole = formedness command f .whole in (omega (arith, whole), whole)
+
+one-more : (l : List (List ℕ)) (command : List ℕ) → ((i : ℕ) → i < length l → OneCommand (getD l i [])) → OneCommand command
+    → (i : ℕ) → i < length (l ++ (command ∷ [])) → OneCommand (getD (l ++ (command ∷ [])) i [])
+one-more l command each own i h = go (cases (ltb i (length l)))
+  where
+    go : (ltb i (length l) ≡ true) ⊎ (ltb i (length l) ≡ false) → OneCommand (getD (l ++ (command ∷ [])) i [])
+    go (inl t) =
+        let less = ltb-true i (length l) t in
+        subst OneCommand (sym (List·getD-append l (command ∷ []) [] i less)) (each i less)
+    go (inr f) =
+        let more = ltb-false i (length l) f in
+        let long = length-append l (command ∷ []) in
+        let last : length l ≡ i = omega (arith, more, long, h) in
+        subst (λ (j : ℕ). OneCommand (getD (l ++ (command ∷ [])) j [])) last (subst OneCommand (sym (getD-append-seam l command [] [])) own)
+
+front : (s : List ℕ) → take (endOf s) s ≡ endToEnd (commands s)
+front s =
+    ap (λ (n : ℕ). take n s) (end-length s)
+    ∙ ap (take (length (endToEnd (commands s)))) (sym (claims .parts s .joined))
+    ∙ take-append-seam (endToEnd (commands s)) (drop (endOf s) s)
+
+spread-one : (command : List ℕ) → endToEnd (command ∷ []) ≡ command
+unfolding spread
+spread-one command = append-nil command
+
+commands-more : (s command : List ℕ) → OneCommand command → commands (take (endOf s) s ++ command) ≡ commands s ++ (command ∷ [])
+commands-more s command own =
+    ap (λ (l : List ℕ). commands (l ++ command)) (front s)
+    ∙ ap (λ (l : List ℕ). commands (endToEnd (commands s) ++ l)) (sym (spread-one command))
+    ∙ ap commands (sym (spread-append (λ (c : List ℕ). c) (commands s) (command ∷ [])) ∙ sym (append-nil (endToEnd (commands s ++ (command ∷ [])))))
+    ∙ claims .back (commands s ++ (command ∷ [])) [] (one-more (commands s) command (claims .parts s .each) own) (cut-short [] (omega arith))
+
+-- ---- the bytes
+
+module _ (bytes : List ℕ) (used : ℕ) (command : List ℕ) (long : length bytes ≡ historySize) (f : formed command ≡ true)
+    (h : overLimits (command ∷ keptIn bytes used) ≡ false) where
+  abbrev s : List ℕ
+  s = take used bytes
+
+  room : endOf s + length command ≤ length bytes
+  unfolding keptIn
+  room = let low = fits s command f h in omega (arith, low, long)
+
+  -- What stands before the place.
+  take-take : take (endOf s) bytes ≡ take (endOf s) s
+  take-take =
+      let within = claims .parts s .within in
+      let short = length-take used bytes in
+      sym (lib.Seq.take-take (endOf s) used bytes (omega (arith, within, short)))
+
+  after : take (endOf s + length command) (splice (endOf s) command bytes) ≡ take (endOf s) s ++ command
+  unfolding splice
+  after =
+      let n : ℕ = endOf s in
+      let front-long : length (take n bytes) ≡ n = length-take-le n bytes (omega (arith, room)) in
+      ap (λ (l : List ℕ). take (n + length command) l) (sym (append-assoc (take n bytes) command (drop (n + length command) bytes)))
+      ∙ ap (λ (m : ℕ). take m ((take n bytes ++ command) ++ drop (n + length command) bytes))
+      (sym (length-append (take n bytes) command ∙ ap (λ (k : ℕ). k + length command) front-long))
+      ∙ take-append-seam (take n bytes ++ command) (drop (n + length command) bytes)
+      ∙ ap (λ (l : List ℕ). l ++ command) take-take
+
+  pub kept-more : keptIn (splice (endOf s) command bytes) (endOf s + length command) ≡ command ∷ keptIn bytes used
+  unfolding keptIn
+  kept-more =
+      ap (λ (l : List ℕ). reverse (commands l)) after
+      ∙ ap reverse (commands-more s command (one-command command f))
+      ∙ reverse-append (commands s) (command ∷ [])
+
+  pub long-more : length (splice (endOf s) command bytes) ≡ historySize
+  long-more = length-splice (endOf s) command bytes room ∙ long
+
+-- ---- by the number
+
+refused : (n c : ℕ) (bytes : List ℕ) (used : ℕ) (command reply : List ℕ) → length bytes ≡ historySize
+    → (j : ℕ) → deduced n c (keptIn bytes used) command reply .answer .number ≡ suc j → BytesKeep n c bytes used command reply
+unfolding historyServe bytesBy usedBy deduced deducedBy replied
+refused n c bytes used command reply long j e = record { holds = rw e; long = rw e long }
+
+accepted : (n c : ℕ) (bytes : List ℕ) (used : ℕ) (command reply : List ℕ) → length bytes ≡ historySize
+    → deduced n c (keptIn bytes used) command reply .answer .number ≡ 0 → BytesKeep n c bytes used command reply
+unfolding historyServe bytesBy usedBy deduced deducedBy replied
+accepted n c bytes used command reply long e =
+    let rows : List Row = engineRows n c (keptIn bytes used) command (length reply) in
+    let never = none-applies rows (unapplied rows tt .0 e) in
+    let f : formed command ≡ true = not-false (formed command) (never 1) in
+    let h : overLimits (command ∷ keptIn bytes used) ≡ false = never HISTORY-FULL in
+    record { holds = rw e (kept-more bytes used command long f h); long = rw e (long-more bytes used command long f h) }
+
+pub bytes-kept : BytesKept
+bytes-kept n c bytes used command reply long = go (deduced n c (keptIn bytes used) command reply .answer .number) refl
+  where
+    kept : List (List ℕ)
+    kept = keptIn bytes used
+
+    go : (m : ℕ) → deduced n c kept command reply .answer .number ≡ m → BytesKeep n c bytes used command reply
+    go (suc j) e = refused n c bytes used command reply long j e
+    go zero e = accepted n c bytes used command reply long e

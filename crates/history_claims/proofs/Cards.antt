@@ -1,0 +1,23 @@
+-- What one more kept command makes of a card that is worked out from the kept commands. Assumes nothing.
+use Prim.Native.Nat.{ℕ}
+use mathlib.Core.Path.{_≡_, refl}
+use mathlib.Core.List.{List, [], _∷_}
+use mathlib.Core.Bool.{true, false}
+use Rattle.commands.specs.Bytes.{fieldsOf, payload}
+use Rattle.image.specs.Image.{noCard}
+use Rattle.model.specs.Serve.{stepped}
+use Rattle.history.specs.WorkedOut.{concerns, highest, timesWritten, textFrom, entryFrom}
+use Rattle.history.proofs.Raised.{entry-here, entry-other, text-here, text-other}
+use Rattle.history_claims.specs.Claims.{cardFrom}
+
+module _ (kept : List (List ℕ)) (command : List ℕ) (k : ℕ) where
+  pub card-here : concerns k command ≡ true → cardFrom (command ∷ kept) k ≡ stepped (cardFrom kept k) (fieldsOf command) (payload command)
+  unfolding stepped
+  card-here h = rw (entry-here kept command k h, text-here kept command k _ h, text-here kept command k _ h)
+
+  pub card-other : concerns k command ≡ false → cardFrom (command ∷ kept) k ≡ cardFrom kept k
+  card-other h = rw (entry-other kept command k h, text-other kept command k _ h, text-other kept command k _ h)
+
+pub card-none : (k : ℕ) → cardFrom [] k ≡ noCard
+unfolding entryFrom textFrom highest timesWritten
+card-none k = refl

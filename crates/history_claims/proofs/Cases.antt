@@ -1,0 +1,243 @@
+-- The worked cases: by computation, and by the theorems where their hypotheses are met. Assumes nothing.
+use Prim.Native.Nat.{ℕ, zero, suc, _+_, _<_, _≤_}
+use native.Mathlib.Omega.{arith}
+use mathlib.Core.Path.{_≡_, refl, sym, ap, subst, _∙_}
+use mathlib.Core.List.{List, [], _∷_, _++_, map, reverse}
+use mathlib.Core.Bool.{Bool, true, false, cond, not, _&&_, _||_}
+use borrow.Author.Tests.{eqb-true, ltb-true, ltb-false, le-ltb, lt-ltb, ne-eqb}
+use lib.Dec.{T, ltb, eqb, lit≤}
+use lib.ListN.{length, replicate, length-replicate}
+use Rattle.lists.specs.Parts.{part, splice, table, spread, every, zeros, Bytes}
+use Rattle.lists.specs.Le.{le, toLe}
+use Rattle.lists.specs.Search.{any, none, those}
+use Rattle.lists.specs.Table.{row, all, allFrom, first}
+use Rattle.lists.proofs.Bytes.{Bytes-nil, Bytes-cons}
+use Rattle.lists.proofs.Table.{first-then}
+use Rattle.lists.proofs.Tests.{T-and-left, T-and-right, from-T, never-both, not-in}
+use Rattle.commands.specs.Command.{wellFormed}
+use Rattle.commands.specs.Bytes.{fieldsOf, payload, formed, commandBytes}
+use Rattle.guard.specs.Judge.{raise, entryRows}
+use Rattle.guard.specs.Replies.{replied}
+use Rattle.guard.specs.declared.Entry.{Entry}
+use Rattle.stream.specs.Stream.{extent, whole, commandsWithin, commands, endWithin, endOf}
+use Rattle.image.specs.Layout.{shapeOk}
+use Rattle.image.specs.Bytes.{header}
+use Rattle.image.specs.Image.{fresh}
+use Rattle.model.specs.Cases.{readOriginal, long}
+use Rattle.model.specs.Words.{Sent, sentFor}
+use Rattle.model.specs.Claims.{SentBytes, AllBytes}
+use Rattle.history.specs.WorkedOut.{highest, timesWritten, textFrom, entryFrom}
+use Rattle.history.specs.Engine.{overLimits, HISTORY-FULL, guardRows, engineRows, deducedBy, deduced}
+use Rattle.history.specs.Lent.{historySize, keptIn, bytesBy, usedBy, historyServe}
+use Rattle.history.proofs.Raised.{entry-here}
+use Rattle.history_claims.specs.Claims.{keptAfter, engineEvent, engineEvents, engineLog, gave22}
+use Rattle.history_claims.specs.Swaps.{Apart, SameSequences}
+use Rattle.history_claims.specs.Cases.{KeptLimits, again, TwoHundred, wrote205, WorkedBytes, onCard, malformed, ApartCases}
+use Rattle.history_claims.proofs.Claims.{equals-guard, first-full}
+use Rattle.history_claims.proofs.Lent.{engine-over-bytes, lent-equals-guard}
+use Rattle.history_claims.proofs.Swaps.{swapping}
+use Rattle.history_claims.proofs.Sequences.{sequences}
+
+pub kept-limits : KeptLimits
+unfolding spread payload
+kept-limits = record { many = refl; too-many = refl; heavy = refl; too-heavy = refl }
+
+pub worked-bytes : WorkedBytes
+unfolding historyServe keptIn bytesBy usedBy deduced deducedBy entryFrom textFrom highest timesWritten replied raise commands commandsWithin endOf endWithin whole extent commandBytes formed payload fieldsOf wellFormed all allFrom le toLe part splice spread zeros
+worked-bytes = record { three = refl; read = refl; text = refl; used = refl; late = refl; late-used = refl }
+
+-- ---- bytes, by a test
+
+abbrev below : List ℕ → Bool
+below [] = true
+below (b ∷ l) = ltb b 256 && below l
+
+bytes-by : (l : List ℕ) → T (below l) → Bytes l
+bytes-by [] t = Bytes-nil
+bytes-by (b ∷ l) t =
+    Bytes-cons l (ltb-true b 256 (from-T (ltb b 256) (T-and-left (ltb b 256) (below l) t))) (bytes-by l (T-and-right (ltb b 256) (below l) t))
+
+sent-bytes : (s : Sent) → T (below (s .command)) → T (below (s .lent)) → SentBytes s
+sent-bytes s t u = record { command = bytes-by (s .command) t; lent = bytes-by (s .lent) u }
+
+-- ---- one command again and again
+
+abbrev command : List ℕ
+command = again .command
+
+abbrev once : Entry
+once = entryFrom (command ∷ []) 0
+
+stays : raise once (fieldsOf command) ≡ once
+unfolding entryFrom highest timesWritten raise commandBytes fieldsOf le toLe part
+stays = refl
+
+for-0 : eqb (fieldsOf command .card) 0 ≡ true
+unfolding commandBytes fieldsOf le toLe part
+for-0 = refl
+
+entry-is : (m : ℕ) → entryFrom (replicate (suc m) command) 0 ≡ once
+entry-is zero = refl
+entry-is (suc m) =
+    entry-here (replicate (suc m) command) command 0 for-0
+    ∙ ap (λ (e : Entry). raise e (fieldsOf command)) (entry-is m)
+    ∙ stays
+
+-- The guard lets it pass on no entry and on that entry.
+abbrev on : Entry → ℕ
+on e = first (row (not (formed command)) 1 ∷ row (not (ltb (fieldsOf command .card) 1)) 2 ∷ entryRows e (fieldsOf command) 16 0)
+
+on-none : on (entryFrom [] 0) ≡ 0
+unfolding entryFrom highest timesWritten commandBytes formed fieldsOf wellFormed all allFrom le toLe part zeros
+on-none = refl
+
+on-once : on once ≡ 0
+unfolding entryFrom highest timesWritten raise commandBytes formed fieldsOf wellFormed all allFrom le toLe part zeros
+on-once = refl
+
+card-0 : fieldsOf command .card ≡ 0
+unfolding commandBytes fieldsOf le toLe part
+card-0 = refl
+
+passes : (m : ℕ) → first (guardRows 1 16 (replicate m command) command 0) ≡ 0
+passes zero = ap (λ (k : ℕ). on (entryFrom [] k)) card-0 ∙ on-none
+passes (suc m) = ap (λ (k : ℕ). on (entryFrom (replicate (suc m) command) k)) card-0 ∙ ap on (entry-is m) ∙ on-once
+
+paid-none : (m : ℕ) → spread payload (replicate m command) ≡ []
+unfolding spread payload commandBytes toLe
+paid-none zero = refl
+paid-none (suc m) = paid-none m
+
+over-at : (m : ℕ) → overLimits (replicate m command) ≡ (ltb 200 m || false)
+over-at m = rw (length-replicate m command, paid-none m)
+
+number-at : (m : ℕ) (b : Bool) → ltb 200 (suc m) ≡ b → first (engineRows 1 16 (replicate m command) command 0) ≡ cond b HISTORY-FULL 0
+number-at m b h =
+    first-then (guardRows 1 16 (replicate m command) command 0) (row (overLimits (replicate (suc m) command)) HISTORY-FULL ∷ []) tt
+    ∙ rw (passes m, over-at (suc m), h) (go b)
+  where
+    go : (b : Bool) → cond (b || false) HISTORY-FULL 0 ≡ cond b HISTORY-FULL 0
+    go true = refl
+    go false = refl
+
+low : (m : ℕ) → suc m ≤ 200 → first (engineRows 1 16 (replicate m command) command 0) ≡ 0
+low m h = number-at m false (le-ltb 200 (suc m) h)
+
+kept-is : (m : ℕ) → m ≤ 200 → keptAfter 1 16 (replicate m again) ≡ replicate m command
+unfolding keptAfter deduced deducedBy
+kept-is zero h = refl
+kept-is (suc m) h = rw (kept-is m (omega (arith, h)), low m h)
+
+until-is : (m : ℕ) → m ≤ 200 → any gave22 (engineEvents 1 16 (replicate m again)) ≡ false
+unfolding engineEvents deduced deducedBy replied
+until-is zero h = refl
+until-is (suc m) h = rw (kept-is m (omega (arith, h)), low m h) (until-is m (omega (arith, h)))
+
+turned : reverse (replicate 200 again) ≡ replicate 200 again
+turned = refl
+
+until-200 : none gave22 (engineLog 1 16 (replicate 200 again)) ≡ true
+unfolding engineLog
+until-200 = ap (λ (l : List Sent). none gave22 (engineEvents 1 16 l)) turned ∙ not-in (until-is 200 (lit≤ tt))
+
+next-200 : gave22 (engineEvent again (deduced 1 16 (keptAfter 1 16 (reverse (replicate 200 again))) (again .command) (again .lent))) ≡ true
+unfolding deduced deducedBy replied
+next-200 =
+    ap (λ (l : List Sent). gave22 (engineEvent again (deduced 1 16 (keptAfter 1 16 l) (again .command) (again .lent)))) turned
+    ∙ rw (kept-is 200 (lit≤ tt), number-at 200 true refl)
+
+again-bytes : SentBytes again
+unfolding commandBytes toLe
+again-bytes = sent-bytes again tt tt
+
+all-again : (m : ℕ) → AllBytes (replicate m again)
+all-again zero = tt
+all-again (suc m) = (again-bytes, all-again m)
+
+shape : T (shapeOk 1 16)
+unfolding shapeOk all allFrom
+shape = tt
+
+zeros-long : length (replicate {A = ℕ} historySize 0) ≡ historySize
+zeros-long = length-replicate {A = ℕ} historySize 0
+
+pub two-hundred : TwoHundred
+unfolding engineLog
+two-hundred =
+    record {
+      until = until-200;
+      equal = equals-guard 1 16 shape (replicate 200 again) (all-again 200) until-200;
+      lent-equal =
+          lent-equals-guard 1 16 shape (replicate historySize 0) zeros-long (replicate 200 again) (all-again 200)
+          (ap (none gave22) (engine-over-bytes 1 16 (replicate historySize 0) zeros-long (reverse (replicate 200 again)) .events)
+          ∙ until-200);
+      next = next-200;
+      first-refused = first-full 1 16 shape (replicate 200 again) (all-again 200) again until-200 next-200;
+    }
+
+-- ---- different cards
+
+fresh-bytes : Bytes (fresh 2 16)
+unfolding fresh header toLe
+fresh-bytes = bytes-by (fresh 2 16) tt
+
+read-1 : SentBytes (onCard 1 (readOriginal (long 3)))
+unfolding commandBytes toLe splice
+read-1 = sent-bytes (onCard 1 (readOriginal (long 3))) tt tt
+
+again-1 : SentBytes (onCard 1 again)
+unfolding commandBytes toLe splice
+again-1 = sent-bytes (onCard 1 again) tt tt
+
+write-0 : SentBytes wrote205
+unfolding commandBytes toLe
+write-0 = sent-bytes wrote205 tt tt
+
+write-1 : SentBytes (onCard 1 wrote205)
+unfolding commandBytes toLe splice
+write-1 = sent-bytes (onCard 1 wrote205) tt tt
+
+no-command : SentBytes malformed
+no-command = sent-bytes malformed tt tt
+
+-- What each request is for.
+card-1 : (s : Sent) → fieldsOf (onCard 1 s .command) .card ≡ 1 → fieldsOf (wrote205 .command) .card ≡ 0 → Apart (onCard 1 s) wrote205
+card-1 s h k p q z = let never : _≡_ {A = ℕ} 1 0 = sym h ∙ z ∙ k in absurd (omega (arith, never))
+
+reads-1 : fieldsOf (onCard 1 (readOriginal (long 3)) .command) .card ≡ 1
+unfolding commandBytes fieldsOf le toLe part splice
+reads-1 = refl
+
+agains-1 : fieldsOf (onCard 1 again .command) .card ≡ 1
+unfolding commandBytes fieldsOf le toLe part splice
+agains-1 = refl
+
+writes-0 : fieldsOf (wrote205 .command) .card ≡ 0
+unfolding commandBytes fieldsOf le toLe part
+writes-0 = refl
+
+not-formed : formed (malformed .command) ≡ false
+unfolding formed le part
+not-formed = refl
+
+either : SameSequences (onCard 1 wrote205 ∷ malformed ∷ wrote205 ∷ []) (wrote205 ∷ onCard 1 wrote205 ∷ [])
+unfolding commandBytes formed fieldsOf wellFormed all allFrom le toLe part splice zeros
+either zero = refl
+either (suc zero) = refl
+either (suc (suc k)) = rw (ne-eqb 0 (suc (suc k)) (λ z. omega arith), ne-eqb 1 (suc (suc k)) (λ z. omega arith))
+
+pub apart-cases : ApartCases
+apart-cases =
+    record {
+      cards-apart =
+          swapping (fresh 2 16) fresh-bytes (onCard 1 (readOriginal (long 3)) ∷ wrote205 ∷ []) (read-1, (write-0, tt)) 0
+          (card-1 (readOriginal (long 3)) reads-1 writes-0);
+      malformed-apart =
+          swapping (fresh 2 16) fresh-bytes (again ∷ wrote205 ∷ malformed ∷ []) (again-bytes, (write-0, (no-command, tt))) 1
+          (λ p q z. never-both q not-formed);
+      unsound-apart =
+          swapping (1 ∷ []) (bytes-by (1 ∷ []) tt) (onCard 1 again ∷ wrote205 ∷ []) (again-1, (write-0, tt)) 0 (card-1 again agains-1 writes-0);
+      either-order =
+          sequences (fresh 2 16) fresh-bytes (onCard 1 wrote205 ∷ malformed ∷ wrote205 ∷ []) (wrote205 ∷ onCard 1 wrote205 ∷ [])
+          (write-1, (no-command, (write-0, tt))) (write-0, (write-1, tt)) either;
+    }

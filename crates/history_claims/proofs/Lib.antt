@@ -1,0 +1,9 @@
+pub mod Cards
+pub mod Same
+pub mod Claims
+pub mod Bytes
+pub mod Lent
+pub mod Commute
+pub mod Swaps
+pub mod Sequences
+pub mod Cases

@@ -1,0 +1,154 @@
+-- The engine and a store of cards that it shows: one request, then lists. Assumes nothing.
+use Prim.Native.Nat.{ℕ, zero, suc, _<_}
+use mathlib.Core.Path.{_≡_, refl, sym, ap, subst, _∙_}
+use mathlib.Core.Logic.{_≢_, _⊎_, inl, inr}
+use mathlib.Core.List.{List, [], _∷_}
+use mathlib.Core.Bool.{true, false}
+use borrow.Author.Tests.{eqb-true, eqb-false, eq-eqb, ltb-true, not-true}
+use lib.Dec.{eqb, ltb}
+use lib.ListN.{length, getD, set, length-set, length-replicate, getD-replicate}
+use lib.Seq.{getD-set-same, getD-set-other}
+use Rattle.lists.specs.Table.{first}
+use Rattle.lists.proofs.Table.{last-given, last-idle}
+use Rattle.lists.proofs.Tests.{cases, or-fails}
+use Rattle.commands.specs.Bytes.{fieldsOf, payload, formed}
+use Rattle.guard.specs.Replies.{replied}
+use Rattle.image.specs.Image.{Card, Cards, noCard}
+use Rattle.image.specs.Image.{freshCards}
+use Rattle.model.specs.Serve.{cardOf, requestRows, stepped}
+use Rattle.model.specs.Words.{Sent, Event}
+use Rattle.lists.specs.Search.{any, none}
+use Rattle.model.proofs.Machine.{numberOn, eventBy, cardsBy, cardsFrom, eventsFrom, Passed, passed, count-kept}
+use Rattle.history.specs.WorkedOut.{entryFrom}
+use Rattle.history.specs.Engine.{overLimits, HISTORY-FULL, guardRows, engineRows, keptBy, deducedBy, deduced}
+use Rattle.history_claims.specs.Claims.{cardFrom, keptAfter, engineEvent, engineEvents, gave22}
+use Rattle.history_claims.proofs.Cards.{card-here, card-other, card-none}
+use Rattle.history.proofs.Raised.{entry-here}
+
+-- The engine shows these cards.
+pub record Shows (n c : ℕ) (kept : List (List ℕ)) (cs : Cards) : Type 0 where
+  pub count : length (cs .cards) ≡ n
+  pub room : cs .room ≡ c
+  pub each : (k : ℕ) → k < n → getD (cs .cards) k noCard ≡ cardFrom kept k
+
+pub shows-fresh : (n c : ℕ) → Shows n c [] (freshCards n c)
+unfolding freshCards
+shows-fresh n c =
+    record {
+      count = length-replicate n noCard;
+      room = refl;
+      each = λ k h. getD-replicate n k noCard noCard h ∙ sym (card-none k);
+    }
+
+-- ---- one request
+
+module _ (n c : ℕ) (kept : List (List ℕ)) (cs : Cards) (shows : Shows n c kept cs) (s : Sent) where
+  abbrev place : ℕ
+  place = fieldsOf (s .command) .card
+
+  abbrev number : ℕ
+  number = first (engineRows n c kept (s .command) (length (s .lent)))
+
+  card-is : ltb place n ≡ true → cardOf cs (fieldsOf (s .command)) ≡ cardFrom kept place
+  card-is h = shows .each place (ltb-true place n h)
+
+  -- The event's number is the table's.
+  pub number-is : deduced n c kept (s .command) (s .lent) .answer .number ≡ number
+  unfolding deduced deducedBy replied
+  number-is = refl
+
+  -- The rows of the guard, on what is worked out and on the cards.
+  pub guard-number : first (guardRows n c kept (s .command) (length (s .lent))) ≡ numberOn cs s
+  guard-number = go (cases (formed (s .command))) (cases (ltb place n))
+    where
+      go : (formed (s .command) ≡ true) ⊎ (formed (s .command) ≡ false) → (ltb place n ≡ true) ⊎ (ltb place n ≡ false)
+          → first (guardRows n c kept (s .command) (length (s .lent))) ≡ numberOn cs s
+      go (inr f) p = rw f
+      go (inl f) (inr p) = rw (f, shows .count, p)
+      go (inl f) (inl p) = rw (card-is p, shows .count, shows .room)
+
+  same-number : number ≢ HISTORY-FULL → number ≡ numberOn cs s
+  same-number h =
+      last-idle (guardRows n c kept (s .command) (length (s .lent))) (overLimits (s .command ∷ kept)) 21 tt refl h ∙ guard-number
+
+  -- Where the engine gives 22, the cards accept, and the entry of the command's card is theirs.
+  pub full-accepted : number ≡ HISTORY-FULL → numberOn cs s ≡ 0
+  full-accepted h =
+      sym guard-number
+      ∙ last-given (guardRows n c kept (s .command) (length (s .lent))) (overLimits (s .command ∷ kept)) 21 tt refl .0 h .0
+
+  pub full-entry : number ≡ HISTORY-FULL → entryFrom kept place ≡ cardOf cs (fieldsOf (s .command)) .entry
+  full-entry h =
+      let there = passed cs s (full-accepted h) .exists in
+      sym (ap (λ (card : Card). card .entry) (card-is (sym (ap (ltb place) (shows .count)) ∙ there)))
+
+  -- The event, by the number of the table of cards.
+  event-by : (m : ℕ) → numberOn cs s ≡ m → engineEvent s (deducedBy m kept (s .command) (s .lent)) ≡ eventBy m cs s
+  unfolding deducedBy replied
+  event-by m e = go m e (cases (formed (s .command))) (cases (ltb place n))
+    where
+      go : (m : ℕ) → numberOn cs s ≡ m → (formed (s .command) ≡ true) ⊎ (formed (s .command) ≡ false) → (ltb place n ≡ true) ⊎ (ltb place n ≡ false)
+          → engineEvent s (deducedBy m kept (s .command) (s .lent)) ≡ eventBy m cs s
+      go m e (inr f) p = let one : 1 ≡ m = sym (rw f) ∙ e in rw (← one)
+      go m e (inl f) (inr p) = let two : 2 ≡ m = sym (rw (f, shows .count, p)) ∙ e in rw (← two)
+      go (suc j) e (inl f) (inl p) = rw (card-is p)
+      go zero e (inl f) (inl p) = rw (card-is p, entry-here kept (s .command) place (eq-eqb place place refl))
+
+  pub same-event : number ≢ HISTORY-FULL → engineEvent s (deduced n c kept (s .command) (s .lent)) ≡ eventBy (numberOn cs s) cs s
+  unfolding deduced
+  same-event h = rw (same-number h) (event-by (numberOn cs s) refl)
+
+  -- The cards after it.
+  shows-by : (m : ℕ) → numberOn cs s ≡ m → Shows n c (keptBy m kept (s .command)) (cardsBy m cs s)
+  shows-by (suc j) e = shows
+  shows-by zero e =
+      record { count = count-kept 0 cs s ∙ shows .count; room = shows .room; each = each }
+    where
+      known : Passed cs s
+      known = passed cs s e
+
+      after : Card
+      after = stepped (cardOf cs (fieldsOf (s .command))) (fieldsOf (s .command)) (payload (s .command))
+
+      each : (k : ℕ) → k < n → getD (set (cs .cards) place after) k noCard ≡ cardFrom (s .command ∷ kept) k
+      each k h = go (cases (eqb place k))
+        where
+          go : (eqb place k ≡ true) ⊎ (eqb place k ≡ false) → getD (set (cs .cards) place after) k noCard ≡ cardFrom (s .command ∷ kept) k
+          go (inl q) =
+              let here : place ≡ k = eqb-true place k q in
+              rw (← here)
+              (getD-set-same (cs .cards) place after noCard (ltb-true place (length (cs .cards)) (known .exists))
+              ∙ ap (λ (card : Card). stepped card (fieldsOf (s .command)) (payload (s .command))) (shows .each place (rw here h))
+              ∙ sym (card-here kept (s .command) place (eq-eqb place place refl)))
+          go (inr q) =
+              getD-set-other (cs .cards) place k after noCard (λ z. eqb-false place k q (sym z))
+              ∙ shows .each k h
+              ∙ sym (card-other kept (s .command) k q)
+
+  pub shows-more : number ≢ HISTORY-FULL → Shows n c (deduced n c kept (s .command) (s .lent) .kept) (cardsBy (numberOn cs s) cs s)
+  unfolding deduced deducedBy
+  shows-more h = rw (same-number h) (shows-by (numberOn cs s) refl)
+
+-- ---- lists of requests
+
+module _ (n c : ℕ) (start : Cards) (fresh : Shows n c [] start) where
+  -- As long as no event gave 22.
+  pub record Together (sent : List Sent) : Type 0 where
+    pub log : engineEvents n c sent ≡ eventsFrom start sent
+    pub cards : Shows n c (keptAfter n c sent) (cardsFrom start sent)
+
+  pub together : (sent : List Sent) → none gave22 (engineEvents n c sent) ≡ true → Together sent
+  unfolding engineEvents keptAfter eventsFrom cardsFrom
+  together [] h = record { log = refl; cards = fresh }
+  together (s ∷ earlier) h =
+      let kept : List (List ℕ) = keptAfter n c earlier in
+      let both = or-fails (gave22 (engineEvent s (deduced n c kept (s .command) (s .lent)))) (any gave22 (engineEvents n c earlier)) (not-true _ h) in
+      let rest = together earlier (rw (both .1)) in
+      let other : number n c kept (cardsFrom start earlier) (rest .cards) s ≢ HISTORY-FULL =
+      λ z. eqb-false _ HISTORY-FULL (both .0) (number-is n c kept (cardsFrom start earlier) (rest .cards) s ∙ z) in
+      record {
+        log =
+            ap (λ (e : Event). e ∷ engineEvents n c earlier) (same-event n c kept (cardsFrom start earlier) (rest .cards) s other)
+            ∙ ap (λ (l : List Event). eventBy (numberOn (cardsFrom start earlier) s) (cardsFrom start earlier) s ∷ l) (rest .log);
+        cards = shows-more n c kept (cardsFrom start earlier) (rest .cards) s other;
+      }

@@ -1,0 +1,230 @@
+-- Two lists with the same sequence of requests for each card: a request is moved to the front by swaps, one after another. Assumes nothing.
+use Prim.Native.Nat.{ℕ}
+use mathlib.Core.Path.{_≡_, refl, sym, ap, subst, _∙_}
+use mathlib.Core.Logic.{_⊎_, inl, inr}
+use mathlib.Core.List.{List, [], _∷_, _++_, nil≢cons, cons≢nil, head-eq-of-cons-eq, tail-eq-of-cons-eq}
+use mathlib.Core.Bool.{Bool, true, false, cond, _&&_, _||_}
+use borrow.Author.Tests.{eq-eqb, eqb-true}
+use lib.Dec.{eqb}
+use Rattle.lists.specs.Parts.{Bytes}
+use Rattle.lists.specs.Search.{any, those}
+use Rattle.lists.proofs.Tests.{cases, never-both, and-left, and-right, and-in, or-fails}
+use Rattle.commands.specs.Bytes.{fieldsOf, formed}
+use Rattle.image.specs.Image.{sound}
+use Rattle.model.specs.Serve.{serve, serveBy}
+use Rattle.model.specs.Words.{Sent, Event, eventOf, imageAfter, history, sentFor}
+use Rattle.model.specs.Claims.{SentBytes, AllBytes}
+use Rattle.history_claims.specs.Swaps.{swap, Apart, SameSequences, eventFor, SameByCard, Sequences}
+use Rattle.history_claims.proofs.Swaps.{imageBy, event, unsound-image, swapping}
+
+-- ---- those elements of a list
+
+module _ {A : Type 0} (p : A → Bool) where
+  those-append : (a b : List A) → those p (a ++ b) ≡ those p a ++ those p b
+  those-append [] b = refl
+  those-append (x ∷ a) b = go (p x) (those-append a b)
+    where
+      go : (q : Bool) → those p (a ++ b) ≡ those p a ++ those p b
+          → cond q (x ∷ those p (a ++ b)) (those p (a ++ b)) ≡ cond q (x ∷ those p a) (those p a) ++ those p b
+      go true rest = ap (λ (l : List A). x ∷ l) rest
+      go false rest = rest
+
+  those-swap : (a b : A) (l : List A) → (p a ≡ true → p b ≡ true → ⊥) → those p (a ∷ b ∷ l) ≡ those p (b ∷ a ∷ l)
+  those-swap a b l h = go (p a) (p b) h
+    where
+      go : (q r : Bool) → (q ≡ true → r ≡ true → ⊥)
+          → cond q (a ∷ cond r (b ∷ those p l) (those p l)) (cond r (b ∷ those p l) (those p l))
+          ≡ cond r (b ∷ cond q (a ∷ those p l) (those p l)) (cond q (a ∷ those p l) (those p l))
+      go true true h = absurd (h refl refl)
+      go true false h = refl
+      go false true h = refl
+      go false false h = refl
+
+  those-none : (l : List A) → any p l ≡ false → those p l ≡ []
+  those-none [] h = refl
+  those-none (x ∷ l) h = let both = or-fails (p x) (any p l) h in rw (both .0) (those-none l (both .1))
+
+  -- The list, split at the first of them.
+  record Split (l : List A) (x : A) (rest : List A) : Type 0 where
+    front : List A
+    back : List A
+    joined : l ≡ front ++ x ∷ back
+    free : any p front ≡ false
+    later : those p back ≡ rest
+
+  split-first : (l : List A) (x : A) (rest : List A) → those p l ≡ x ∷ rest → Split l x rest
+  split-first [] x rest e = absurd (nil≢cons e)
+  split-first (y ∷ l) x rest e = go (p y) refl e (split-first l x rest)
+    where
+      go : (q : Bool) → p y ≡ q → cond q (y ∷ those p l) (those p l) ≡ x ∷ rest → (those p l ≡ x ∷ rest → Split l x rest) → Split (y ∷ l) x rest
+      go true h e more =
+          record {
+            front = [];
+            back = l;
+            joined = ap (λ (z : A). z ∷ l) (head-eq-of-cons-eq e);
+            free = refl;
+            later = tail-eq-of-cons-eq e;
+          }
+      go false h e more =
+          let s = more e in
+          record {
+            front = y ∷ s .front;
+            back = s .back;
+            joined = ap (λ (m : List A). y ∷ m) (s .joined);
+            free = rw h (s .free);
+            later = s .later;
+          }
+
+  -- One element more in front, by its test.
+  those-here : {x : A} (l : List A) → p x ≡ true → those p (x ∷ l) ≡ x ∷ those p l
+  those-here l h = rw h
+
+  those-past : {x : A} (l : List A) → p x ≡ false → those p (x ∷ l) ≡ those p l
+  those-past l h = rw h
+
+-- ---- a malformed request is for no card and changes nothing
+
+unseen : (k : ℕ) (s : Sent) → formed (s .command) ≡ false → sentFor k s ≡ false
+unseen k s f = rw f
+
+malformed-image : (image : List ℕ) (s : Sent) → formed (s .command) ≡ false → imageBy image s ≡ image
+unfolding serve serveBy
+malformed-image image s f = go (cases (sound image))
+  where
+    go : (sound image ≡ true) ⊎ (sound image ≡ false) → imageBy image s ≡ image
+    go (inl e) = rw (e, f)
+    go (inr e) = unsound-image image s e
+
+-- A well-formed request is for its card.
+own-card : (s : Sent) → formed (s .command) ≡ true → sentFor (fieldsOf (s .command) .card) s ≡ true
+own-card s f = and-in f (eq-eqb (fieldsOf (s .command) .card) (fieldsOf (s .command) .card) refl)
+
+-- Requests that are both for card k are for one card.
+not-both : (a b : Sent) → Apart a b → (k : ℕ) → sentFor k a ≡ true → sentFor k b ≡ true → ⊥
+not-both a b apart k ha hb =
+    let fa = and-left (formed (a .command)) (eqb (fieldsOf (a .command) .card) k) ha in
+    let fb = and-left (formed (b .command)) (eqb (fieldsOf (b .command) .card) k) hb in
+    let ka = eqb-true (fieldsOf (a .command) .card) k (and-right (formed (a .command)) (eqb (fieldsOf (a .command) .card) k) ha) in
+    let kb = eqb-true (fieldsOf (b .command) .card) k (and-right (formed (b .command)) (eqb (fieldsOf (b .command) .card) k) hb) in
+    apart fa fb (ka ∙ sym kb)
+
+-- ---- a request moved to the front
+
+moved-bytes : (front : List Sent) (s : Sent) (back : List Sent) → AllBytes (front ++ s ∷ back) → AllBytes (s ∷ (front ++ back))
+moved-bytes [] s back b = b
+moved-bytes (p ∷ front) s back b = let rest = moved-bytes front s back (b .1) in (rest .0, (b .0, rest .1))
+
+-- One more event, the same on both sides.
+events-more : (k : ℕ) (e : Event) (a b : List Event) → those (eventFor k) a ≡ those (eventFor k) b → those (eventFor k) (e ∷ a) ≡ those (eventFor k) (e ∷ b)
+events-more k e a b h = ap (λ (l : List Event). cond (eventFor k e) (e ∷ l) l) h
+
+module _ (start : List ℕ) (bs : Bytes start) (s : Sent) (f : formed (s .command) ≡ true) where
+  abbrev k : ℕ
+  k = fieldsOf (s .command) .card
+
+  moved : (front back : List Sent) → AllBytes (front ++ s ∷ back) → any (sentFor k) front ≡ false
+      → SameByCard start (front ++ s ∷ back) (s ∷ (front ++ back))
+  unfolding imageAfter history swap
+  moved [] back b free = record { image = refl; events = λ j. refl }
+  moved (p ∷ front) back b free =
+      let both = or-fails (sentFor k p) (any (sentFor k) front) free in
+      let rest = moved front back (b .1) (both .1) in
+      let bytes = moved-bytes front s back (b .1) in
+      let apart : Apart p s = λ fp fs z. never-both (and-in fp (eq-eqb (fieldsOf (p .command) .card) k z)) (both .0) in
+      let two = swapping start bs (p ∷ s ∷ (front ++ back)) (b .0, bytes) 0 apart in
+      let ahead : List ℕ = imageAfter start (s ∷ (front ++ back)) in
+      record {
+        image = ap (λ (image : List ℕ). imageBy image p) (rest .image) ∙ sym (two .image);
+        events =
+            λ j.
+            ap (λ (image : List ℕ). those (eventFor j) (event image p ∷ history start (front ++ s ∷ back))) (rest .image)
+            ∙ events-more j (event ahead p) (history start (front ++ s ∷ back)) (history start (s ∷ (front ++ back))) (rest .events j)
+            ∙ those-swap (eventFor j) (event ahead p) (event (imageAfter start (front ++ back)) s) (history start (front ++ back)) (not-both p s apart j)
+            ∙ ap (those (eventFor j)) (sym (two .log));
+      }
+
+-- ---- both lists
+
+-- Requests of which none is for any card.
+idle : (start : List ℕ) (b : List Sent) → ((k : ℕ) → [] ≡ those (sentFor k) b) → SameByCard start [] b
+unfolding imageAfter history
+idle start [] h = record { image = refl; events = λ k. refl }
+idle start (s ∷ b) h = go (cases (formed (s .command))) (idle start b)
+  where
+    go : (formed (s .command) ≡ true) ⊎ (formed (s .command) ≡ false) → (((k : ℕ) → [] ≡ those (sentFor k) b) → SameByCard start [] b)
+        → SameByCard start [] (s ∷ b)
+    go (inl f) more =
+        let k : ℕ = fieldsOf (s .command) .card in
+        absurd (nil≢cons (h k ∙ those-here (sentFor k) b (own-card s f)))
+    go (inr f) more =
+        let rest = more (λ k. h k ∙ those-past (sentFor k) b (unseen k s f)) in
+        record {
+          image = rest .image ∙ sym (malformed-image (imageAfter start b) s f);
+          events = λ k. rest .events k ∙ sym (those-past (eventFor k) (history start b) (unseen k s f));
+        }
+
+-- The sequences are the same without the request that was moved.
+without : (s : Sent) (a front back : List Sent) → formed (s .command) ≡ true → any (sentFor (fieldsOf (s .command) .card)) front ≡ false
+    → SameSequences (s ∷ a) (front ++ s ∷ back) → SameSequences a (front ++ back)
+without s a front back f free h j = go (cases (sentFor j s))
+  where
+    there : those (sentFor j) (front ++ s ∷ back) ≡ those (sentFor j) front ++ those (sentFor j) (s ∷ back)
+    there = those-append (sentFor j) front (s ∷ back)
+
+    apart : those (sentFor j) (front ++ back) ≡ those (sentFor j) front ++ those (sentFor j) back
+    apart = those-append (sentFor j) front back
+
+    go : (sentFor j s ≡ true) ⊎ (sentFor j s ≡ false) → those (sentFor j) a ≡ those (sentFor j) (front ++ back)
+    go (inl t) =
+        let card = eqb-true (fieldsOf (s .command) .card) j (and-right (formed (s .command)) (eqb (fieldsOf (s .command) .card) j) t) in
+        let none : those (sentFor j) front ≡ [] = those-none (sentFor j) front (subst (λ (i : ℕ). any (sentFor i) front ≡ false) card free) in
+        tail-eq-of-cons-eq
+        (sym (those-here (sentFor j) a t)
+        ∙ h j
+        ∙ there
+        ∙ ap (λ (l : List Sent). l ++ those (sentFor j) (s ∷ back)) none
+        ∙ those-here (sentFor j) back t)
+        ∙ sym (apart ∙ ap (λ (l : List Sent). l ++ those (sentFor j) back) none)
+    go (inr n) =
+        sym (those-past (sentFor j) a n)
+        ∙ h j
+        ∙ there
+        ∙ ap (λ (l : List Sent). those (sentFor j) front ++ l) (those-past (sentFor j) back n)
+        ∙ sym apart
+
+pub sequences : Sequences
+unfolding imageAfter history
+sequences start bs [] b ba bb h = idle start b h
+sequences start bs (s ∷ a) b ba bb h = go (cases (formed (s .command))) (λ l. sequences start bs a l (ba .1))
+  where
+    go : (formed (s .command) ≡ true) ⊎ (formed (s .command) ≡ false)
+        → ((l : List Sent) → AllBytes l → SameSequences a l → SameByCard start a l)
+        → SameByCard start (s ∷ a) b
+    go (inr f) more =
+        let rest = more b bb (λ k. sym (those-past (sentFor k) a (unseen k s f)) ∙ h k) in
+        record {
+          image = malformed-image (imageAfter start a) s f ∙ rest .image;
+          events = λ k. those-past (eventFor k) (history start a) (unseen k s f) ∙ rest .events k;
+        }
+    go (inl f) more =
+        let k : ℕ = fieldsOf (s .command) .card in
+        let at = split-first (sentFor k) b s (those (sentFor k) a) (sym (h k) ∙ those-here (sentFor k) a (own-card s f)) in
+        let front : List Sent = at .front in
+        let back : List Sent = at .back in
+        let bytes = subst AllBytes (at .joined) bb in
+        let ahead = moved start bs s f front back bytes (at .free) in
+        let rest =
+        more (front ++ back) (moved-bytes front s back bytes .1)
+        (without s a front back f (at .free) (λ j. h j ∙ ap (those (sentFor j)) (at .joined))) in
+        record {
+          image =
+              ap (λ (image : List ℕ). imageBy image s) (rest .image)
+              ∙ sym (ahead .image)
+              ∙ ap (imageAfter start) (sym (at .joined));
+          events =
+              λ j.
+              ap (λ (image : List ℕ). those (eventFor j) (event image s ∷ history start a)) (rest .image)
+              ∙ events-more j (event (imageAfter start (front ++ back)) s) (history start a) (history start (front ++ back)) (rest .events j)
+              ∙ sym (ahead .events j)
+              ∙ ap (λ (l : List Sent). those (eventFor j) (history start l)) (sym (at .joined));
+        }

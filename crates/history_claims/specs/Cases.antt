@@ -1,0 +1,92 @@
+-- Worked cases of the history engine and of commands for different cards.
+-- Assumes nothing.
+use Prim.Native.Nat.{ℕ, _+_}
+use mathlib.Core.Path.{_≡_}
+use mathlib.Core.List.{List, [], _∷_, _++_, reverse}
+use mathlib.Core.Bool.{true, false}
+use lib.ListN.{replicate}
+use Rattle.lists.specs.Parts.{splice}
+use Rattle.lists.specs.Le.{toLe}
+use Rattle.lists.specs.Search.{none}
+use Rattle.stamps.specs.Stamp.{shared}
+use Rattle.commands.specs.Bytes.{fixed}
+use Rattle.image.specs.Image.{fresh}
+use Rattle.model.specs.Words.{Sent}
+use Rattle.model.specs.Cases.{pair, request, got, stamp1, stamp2, verify, writeOriginal, writeTranslation, readOriginal, text205, text401, long}
+use Rattle.history.specs.Engine.{overLimits, deduced}
+use Rattle.history.specs.Lent.{historySize, keptIn, historyServe}
+use Rattle.history_claims.specs.Claims.{keptAfter, engineEvent, engineLog, gave22, EqualSoFar, FirstRefusal}
+use Rattle.history_claims.specs.Lent.{LentEqual}
+use Rattle.history_claims.specs.Swaps.{Undisturbed, SameByCard}
+
+-- ---- the limits (rule 14.2)
+
+-- A kept command with so many payload bytes.
+abbrev pub paying : ℕ → List ℕ
+paying n = replicate (fixed + n) 0
+
+-- 200 commands are kept and 201 are not; 32,768 payload bytes in all are kept and one more is not.
+pub record KeptLimits : Type 0 where
+  pub many : overLimits (replicate 200 (paying 0)) ≡ false
+  pub too-many : overLimits (replicate 201 (paying 0)) ≡ true
+  pub heavy : overLimits (paying 32000 ∷ paying 768 ∷ []) ≡ false
+  pub too-heavy : overLimits (paying 32000 ∷ paying 769 ∷ []) ≡ true
+
+-- ---- one command again and again
+
+-- A shared verify of card 0 by the first desk, which is accepted however often it was.
+abbrev pub again : Sent
+again = verify shared stamp1 0
+
+-- From a fresh store with N 1 and C 16, 200 of them are answered as by the store, from nothing kept or from lent zeros. The next is the first to get 22.
+pub record TwoHundred : Type 0 where
+  pub until : none gave22 (engineLog 1 16 (replicate 200 again)) ≡ true
+  pub equal : EqualSoFar 1 16 (replicate 200 again)
+  pub lent-equal : LentEqual 1 16 (replicate historySize 0) (replicate 200 again)
+  pub next : gave22 (engineEvent again (deduced 1 16 (keptAfter 1 16 (reverse (replicate 200 again))) (again .command) (again .lent))) ≡ true
+  pub first-refused : FirstRefusal 1 16 (replicate 200 again) again
+
+-- ---- answers over lent bytes (rules 14.4 to 14.9)
+
+abbrev pub wrote205 : Sent
+wrote205 = writeOriginal stamp1 stamp1 text205
+
+abbrev pub wrote401 : Sent
+wrote401 = writeTranslation stamp2 stamp2 1 text401
+
+-- Three commands end to end: the original 205, a read of it, and the translation 401 by the next desk, 162 bytes in all; behind them four bytes that
+-- are no whole command.
+abbrev pub keptBytes : List ℕ
+keptBytes = wrote205 .command ++ readOriginal [] .command ++ wrote401 .command ++ replicate 4 7
+
+-- A shared read of the translation under the pair of the desk that wrote it.
+abbrev pub readAfter : Sent
+readAfter = request 2 shared (pair stamp2 stamp2) 0 [] (long 5)
+
+-- With 1,000 bytes said to be used, the three commands are kept. The read is accepted, shows 401 and is kept from byte 162 on; a command of the first desk
+-- comes late and leaves the number of used bytes as it was.
+pub record WorkedBytes : Type 0 where
+  pub three : keptIn keptBytes 1000 ≡ wrote401 .command ∷ readOriginal [] .command ∷ wrote205 .command ∷ []
+  pub read : historyServe 1 16 keptBytes 1000 (readAfter .command) (readAfter .lent) .answer ≡ got 0 stamp2 stamp2 0 0 1 1 3 [] .answer
+  pub text : historyServe 1 16 keptBytes 1000 (readAfter .command) (readAfter .lent) .reply ≡ text401 ++ long 2
+  pub used : historyServe 1 16 keptBytes 1000 (readAfter .command) (readAfter .lent) .used ≡ 214
+  pub late : historyServe 1 16 keptBytes 1000 (again .command) (again .lent) .answer ≡ got 3 stamp2 stamp2 0 0 1 1 0 [] .answer
+  pub late-used : historyServe 1 16 keptBytes 1000 (again .command) (again .lent) .used ≡ 1000
+
+-- ---- different cards (rules 14.12 and 14.13)
+
+-- The same request for another card: bytes 2 and 3 of a command name it.
+abbrev pub onCard : ℕ → Sent → Sent
+onCard k s = record { command = splice 2 (toLe 2 k) (s .command); lent = s .lent }
+
+-- Bytes that are no command.
+abbrev pub malformed : Sent
+malformed = record { command = 5 ∷ []; lent = long 2 }
+
+-- A write of card 0 and a read of card 1 are swapped; so are a malformed request and a write; and two requests to bytes that are no image. Malformed
+-- requests aside, two writes may come in either order.
+pub record ApartCases : Type 0 where
+  pub cards-apart : Undisturbed (fresh 2 16) (onCard 1 (readOriginal (long 3)) ∷ wrote205 ∷ []) 0
+  pub malformed-apart : Undisturbed (fresh 2 16) (again ∷ wrote205 ∷ malformed ∷ []) 1
+  pub unsound-apart : Undisturbed (1 ∷ []) (onCard 1 again ∷ wrote205 ∷ []) 0
+  pub either-order : SameByCard (fresh 2 16) (onCard 1 wrote205 ∷ malformed ∷ wrote205 ∷ []) (wrote205 ∷ onCard 1 wrote205 ∷ [])

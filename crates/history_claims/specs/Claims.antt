@@ -1,0 +1,119 @@
+-- What is claimed of the history engine on lists of kept commands. The theorems stand in proofs/.
+-- Assumes nothing.
+use Prim.Native.Nat.{ℕ, suc}
+use mathlib.Core.Path.{_≡_}
+use mathlib.Core.Logic.{_↔_}
+use mathlib.Core.List.{List, [], _∷_, map, reverse}
+use mathlib.Core.Bool.{Bool, true, false}
+use lib.ListN.{length}
+use lib.Dec.{T, eqb}
+use Rattle.lists.specs.Parts.{table}
+use Rattle.lists.specs.Search.{none, those}
+use Rattle.lists.specs.Table.{applies, earlier, noRow}
+use Rattle.commands.specs.Command.{original, translation}
+use Rattle.commands.specs.Bytes.{fieldsOf}
+use Rattle.guard.specs.Replies.{replied}
+use Rattle.image.specs.Layout.{shapeOk}
+use Rattle.image.specs.Image.{fresh, Card, Cards, decode}
+use Rattle.model.specs.Serve.{cardOf, serve}
+use Rattle.model.specs.Words.{Sent, Event, imageAfter, logOf}
+use Rattle.model.specs.Claims.{SentBytes, AllBytes}
+use Rattle.history.specs.WorkedOut.{entryFrom, textFrom}
+use Rattle.history.specs.Engine.{overLimits, HISTORY-FULL, Deduced, guardRows, engineRows, deduced}
+
+-- ---- the engine over a list of requests, at first with nothing kept
+
+-- What is kept after requests, latest first.
+unfoldable pub keptAfter : ℕ → ℕ → List Sent → List (List ℕ)
+keptAfter n c [] = []
+keptAfter n c (s ∷ earlier) = deduced n c (keptAfter n c earlier) (s .command) (s .lent) .kept
+
+-- What a sender sees of a request to the engine.
+abbrev pub engineEvent : Sent → Deduced → Event
+engineEvent s d = record { sent = s; answer = d .answer; reply = d .reply }
+
+-- The events of requests, both latest first.
+unfoldable pub engineEvents : ℕ → ℕ → List Sent → List Event
+engineEvents n c [] = []
+engineEvents n c (s ∷ earlier) =
+    engineEvent s (deduced n c (keptAfter n c earlier) (s .command) (s .lent)) ∷ engineEvents n c earlier
+
+-- The log of requests in the order in which they are sent.
+unfoldable pub engineLog : ℕ → ℕ → List Sent → List Event
+engineLog n c sent = engineEvents n c (reverse sent)
+
+-- An event was accepted; one found the history full.
+abbrev pub wasAccepted : Event → Bool
+wasAccepted e = eqb (e .answer .number) 0
+
+abbrev pub gave22 : Event → Bool
+gave22 e = eqb (e .answer .number) HISTORY-FULL
+
+-- The cards as the engine works them out.
+abbrev pub cardFrom : List (List ℕ) → ℕ → Card
+cardFrom kept k =
+    record { entry = entryFrom kept k; original = textFrom original kept k; translation = textFrom (translation 0) kept k }
+
+unfoldable pub cardsShown : ℕ → ℕ → List (List ℕ) → Cards
+cardsShown n c kept = record { room = c; cards = table (cardFrom kept) n }
+
+-- ---- what it keeps (rules 14.1 and 14.2)
+
+-- It keeps the commands that it accepted, each once and in order, and never passes a limit.
+pub record Keeping (n c : ℕ) (sent : List Sent) : Type 0 where
+  pub those-accepted : keptAfter n c sent ≡ map (λ (e : Event). e .sent .command) (those wasAccepted (engineEvents n c sent))
+  pub within-limits : overLimits (keptAfter n c sent) ≡ false
+
+abbrev pub KeepsAccepted : Type 0
+KeepsAccepted = (n c : ℕ) (sent : List Sent) → Keeping n c sent
+
+-- ---- equal to the guard until the first 22 (rule 14.10)
+
+-- Requests to a fresh store and to the engine: one log, with every number, field and reply buffer, and one set of cards, with every text.
+pub record EqualSoFar (n c : ℕ) (sent : List Sent) : Type 0 where
+  pub log : engineLog n c sent ≡ logOf n c sent
+  pub cards : cardsShown n c (keptAfter n c (reverse sent)) ≡ decode (imageAfter (fresh n c) (reverse sent))
+
+abbrev pub EqualsGuard : Type 0
+EqualsGuard =
+    (n c : ℕ) → T (shapeOk n c) → (sent : List Sent) → AllBytes sent → none gave22 (engineLog n c sent) ≡ true → EqualSoFar n c sent
+
+-- ---- the first 22 (rule 14.11)
+
+-- A request that is the first to get 22: the store, sent the same, accepts it, and 22 replies the entry that the store has for its card.
+pub record FirstRefusal (n c : ℕ) (sent : List Sent) (s : Sent) : Type 0 where
+  pub accepted-there : serve (imageAfter (fresh n c) (reverse sent)) (s .command) (s .lent) .answer .number ≡ 0
+  pub replies-stored :
+      deduced n c (keptAfter n c (reverse sent)) (s .command) (s .lent) .answer
+      ≡ replied HISTORY-FULL (cardOf (decode (imageAfter (fresh n c) (reverse sent))) (fieldsOf (s .command)) .entry) (fieldsOf (s .command))
+
+abbrev pub FirstFull : Type 0
+FirstFull =
+    (n c : ℕ) → T (shapeOk n c) → (sent : List Sent) → AllBytes sent → (s : Sent)
+    → none gave22 (engineLog n c sent) ≡ true
+    → gave22 (engineEvent s (deduced n c (keptAfter n c (reverse sent)) (s .command) (s .lent))) ≡ true
+    → FirstRefusal n c sent s
+
+-- ---- each number (rules 14.7 and 14.9), for whatever is kept
+
+pub record EngineNumber (n c : ℕ) (kept : List (List ℕ)) (command reply : List ℕ) : Type 0 where
+  -- a refusal's number exactly when its row applies and none before it does; 0 exactly when none applies
+  pub refused :
+      (m : ℕ) → (deduced n c kept command reply .answer .number ≡ suc m)
+      ↔ (T (applies (suc m) (engineRows n c kept command (length reply))) × T (noRow (earlier (suc m) (engineRows n c kept command (length reply)))))
+  pub accepts : (deduced n c kept command reply .answer .number ≡ 0) ↔ T (noRow (engineRows n c kept command (length reply)))
+  -- 22 exactly when the guard's rows let the command pass and with it a limit would be passed
+  pub full :
+      (deduced n c kept command reply .answer .number ≡ HISTORY-FULL)
+      ↔ (T (noRow (guardRows n c kept command (length reply))) × T (overLimits (command ∷ kept)))
+  -- 22 replies the entry as it stands
+  pub stands :
+      deduced n c kept command reply .answer .number ≡ HISTORY-FULL
+      → deduced n c kept command reply .answer ≡ replied HISTORY-FULL (entryFrom kept (fieldsOf command .card)) (fieldsOf command)
+  -- no refusal, 22 neither, changes anything
+  pub unchanged :
+      (m : ℕ) → deduced n c kept command reply .answer .number ≡ suc m
+      → (deduced n c kept command reply .kept ≡ kept) × (deduced n c kept command reply .reply ≡ reply)
+
+abbrev pub EngineNumbers : Type 0
+EngineNumbers = (n c : ℕ) (kept : List (List ℕ)) (command reply : List ℕ) → EngineNumber n c kept command reply

@@ -1,0 +1,4 @@
+pub mod Claims
+pub mod Lent
+pub mod Swaps
+pub mod Cases
