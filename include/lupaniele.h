@@ -31,6 +31,13 @@ uint8_t lupaniele_leave(uint8_t modes[32], uint64_t s[32], uint64_t x[32], uint6
    0, 10, 21, 15 or 25; all else is as for leaving. */
 uint8_t lupaniele_lapse(uint8_t modes[32], uint64_t s[32], uint64_t x[32], uint64_t kept[3], uint64_t places,
                         uint32_t desk, double period, double drift, double begin, double now, uint64_t fields[4]);
+/* What a desk knows of one card (rules 10.1 and 10.2): known is the largest s and the largest x that it has heard of,
+   zeros when it starts. It learns the pair (s, x) of an answer for that card. */
+void lupaniele_learn(uint64_t known[2], uint64_t s, uint64_t x);
+
+/* A desk with its start proposes a pair for a card, mode 1 shared or 2 exclusive (rules 10.3 to 10.7): 0, the pair in
+   pair and learnt in known; or 1 or 16, and neither array is written. */
+uint8_t lupaniele_propose(uint16_t desk, uint16_t start, uint64_t known[2], uint8_t mode, uint64_t pair[2]);
 
 /* The text that a desk shows: 0 and in count how many first bytes of the buffer asked for are the text, or 8 or 6
    and none. asked: 0 the original, 1 the translation; any other gets 1. */

@@ -1,3 +1,4 @@
 pub mod Arrays
+pub mod Desks
 pub mod Numbers
 pub mod Silences

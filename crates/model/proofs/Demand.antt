@@ -20,7 +20,7 @@ use Rattle.model.proofs.Sentences.{Told, told}
 use Rattle.model.proofs.Simulation.{same-events}
 
 -- What holds of each event and the events before it, along a list of events.
-abbrev Along : (Event → List Event → Type 0) → List Event → Type 0
+abbrev pub Along : (Event → List Event → Type 0) → List Event → Type 0
 Along P [] = Unit {0}
 Along P (e ∷ before) = P e before × Along P before
 
@@ -29,7 +29,7 @@ module _ (P : Event → List Event → Type 0) where
   along-at [] e before a = a .0
   along-at (d ∷ later) e before a = along-at later e before (a .1)
 
-  along-split : (log later : List Event) (e : Event) (before : List Event) → Along P log → log ≡ later ++ e ∷ before → P e before
+  pub along-split : (log later : List Event) (e : Event) (before : List Event) → Along P log → log ≡ later ++ e ∷ before → P e before
   along-split log later e before a split = along-at later e before (subst (Along P) split a)
 
 -- ---- the run on cards

@@ -6,6 +6,7 @@ pub mod Sentences
 pub mod Simulation
 pub mod Demand
 pub mod Exact
+pub mod Pairs
 pub mod Premise
 pub mod Sound
 pub mod Cases

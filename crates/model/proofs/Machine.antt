@@ -221,11 +221,11 @@ abbrev pub Ties : Cards → List Event → Type 0
 Ties cs before = (k : ℕ) → k < length (cs .cards) → Tied before k (getD (cs .cards) k noCard)
 
 -- A refused request is no accepted command; an accepted one is for its own card.
-refused-other : (j : ℕ) (cs : Cards) (s : Sent) (k : ℕ) → accepted k (eventBy (suc j) cs s) ≡ false
+pub refused-other : (j : ℕ) (cs : Cards) (s : Sent) (k : ℕ) → accepted k (eventBy (suc j) cs s) ≡ false
 unfolding replied
 refused-other j cs s k = rw (eqb·suc-zero j)
 
-accepted-at : (cs : Cards) (s : Sent) (k : ℕ) → accepted k (eventBy 0 cs s) ≡ eqb (fieldsOf (s .command) .card) k
+pub accepted-at : (cs : Cards) (s : Sent) (k : ℕ) → accepted k (eventBy 0 cs s) ≡ eqb (fieldsOf (s .command) .card) k
 unfolding replied
 accepted-at cs s k = refl
 

@@ -25,11 +25,11 @@ pub const EXCLUSIVE: u8 = 2;
 pub const MALFORMED: u8 = 1;
 
 // A stamp is T.desk.start: 32, 16 and 16 bits, T highest. So many numbers a start, a desk, and a desk with its start have.
-const STARTS: u64 = 65536;
+pub const STARTS: u64 = 65536;
 
 const DESKS: u64 = 65536;
 
-const DESK_STARTS: u64 = 4294967296;
+pub const DESK_STARTS: u64 = 4294967296;
 
 // Whether a stamp is valid: zero, or one with a desk of at least 1.
 pub fn stamp_valid(n: u64) -> bool

@@ -66,6 +66,15 @@ kinds! {
     RoundedOver 1 "silent desks that left since the time passed was rounded up to the wait"
     Desks 4 "desks' texts: original, translation, refused with 6, with 8"
     ThirdLanguage 1 "desks asked for a third language"
+    Proposals 4 "proposals: shared, exclusive, refused with 1, with 16"
+    ProposalTimes 3 "proposals with the T of the known stamp, with the next, with the last there is"
+    Learnt 4 "pairs learnt with neither stamp larger, s alone, x alone, both"
+    Systems 1 "systems of desks by the rules, over real queues and a real store"
+    SystemSteps 7 ".. steps: starts, proposals, asks, leaves, queues lost, commands, lessons"
+    SystemPremise 2 ".. cards of which the premise speaks, and holds; of which it is silent"
+    SystemIsolated 1 ".. pairs of one session, isolated outright"
+    BrokenRules 13 "systems with one rule broken, and the premise with it, by the rule"
+    LostIsolation 1 ".. in which a session was not isolated"
     Walks 2 "walks of a stream, to its end, to a cut"
     EveryCut 1 "streams cut at every byte"
     Places 2 "places of a stream where a whole command stands, where none does"
@@ -97,7 +106,7 @@ kinds! {
 /// The largest number that any operation answers with, and those that some
 /// operation gives today.
 const MOST: usize = 26;
-pub const GIVEN: &[usize] = &[0, 1, 2, 3, 4, 5, 6, 7, 8, 9, 10, 11, 12, 13, 14, 15, 18, 19, 20, 21, 22, 25];
+pub const GIVEN: &[usize] = &[0, 1, 2, 3, 4, 5, 6, 7, 8, 9, 10, 11, 12, 13, 14, 15, 16, 18, 19, 20, 21, 22, 25];
 
 /// What was run.
 pub struct Run {
@@ -156,7 +165,7 @@ impl Run {
             let each: Vec<String> = counts.iter().map(u64::to_string).collect();
             let more = match size {
                 1 => String::new(),
-                2..=8 => format!(": {}", each.join(", ")),
+                2..=8 | 13 => format!(": {}", each.join(", ")),
                 _ => format!(": each of {size}, {least} times or more"),
             };
             let _ = writeln!(table, "{sum:>12}  {text}{more}");

@@ -109,28 +109,71 @@ impl<'a> List<'a> {
             .filter(move |command| command.card == card)
     }
 
+    /// The places of the accepted commands for a card.
+    fn accepted_for(&self, card: u16) -> Vec<usize> {
+        let places = 0..self.events.len();
+        let of_card = |at: &usize| self.accepted(*at).is_some_and(|one| one.card == card);
+        places.filter(of_card).collect()
+    }
+
+    /// The exclusive commands for a card under a stamp, refused ones too.
+    fn under(&self, card: u16, stamp: u64) -> impl Iterator<Item = &Command<'a>> {
+        self.sent_for(card)
+            .filter(move |other| other.mode == Mode::Exclusive && other.pair.x == stamp)
+    }
+
     /// Whether the premise holds for a card, and whether any command carries
     /// another desk's exclusive stamp.
     fn premise(&self, card: u16) -> (bool, bool) {
-        let carries = |command: &&Command| {
-            let Command { mode, pair, .. } = command;
-            *mode == Mode::Shared && pair.x != 0 && desk_and_start(pair.x) != desk_and_start(pair.s)
-        };
-        let under = |stamp: u64| {
-            self.sent_for(card)
-                .filter(move |other| other.mode == Mode::Exclusive && other.pair.x == stamp)
-        };
-        let holds = self
-            .sent_for(card)
-            .filter(carries)
-            .all(|shared| under(shared.pair.x).all(|other| shared.pair.s > other.pair.s));
-        (holds, self.sent_for(card).any(|command| carries(&command)))
+        let mut carried = self.sent_for(card).filter(|command| carries(command));
+        let holds = carried.all(|shared| {
+            self.under(card, shared.pair.x)
+                .all(|other| shared.pair.s > other.pair.s)
+        });
+        (holds, self.sent_for(card).any(carries))
     }
+}
+
+/// A shared command that carries another desk's exclusive stamp.
+fn carries(command: &Command) -> bool {
+    let Command { mode, pair, .. } = command;
+    *mode == Mode::Shared && pair.x != 0 && desk_and_start(pair.x) != desk_and_start(pair.s)
 }
 
 /// Whether the premise on shared stamps holds for a card of a list.
 pub fn premise(events: &[Event], card: u16) -> bool {
     List::new(events).premise(card).0
+}
+
+/// Whether some command for a card carries another desk's exclusive stamp, and
+/// some exclusive command stands under it.
+pub fn premise_speaks(events: &[Event], card: u16) -> bool {
+    let list = List::new(events);
+    let mut carried = list.sent_for(card).filter(|command| carries(command));
+    carried.any(|shared| list.under(card, shared.pair.x).next().is_some())
+}
+
+/// How many pairs of one session there are, if all are isolated, whether the
+/// premise holds or not.
+pub fn isolated_outright(cards: u16, events: &[Event]) -> Result<usize, String> {
+    let list = List::new(events);
+    let mut pairs = 0;
+    for card in 0..cards {
+        let accepted = list.accepted_for(card);
+        for (place, &first) in accepted.iter().enumerate() {
+            for &second in &accepted[place + 1..] {
+                let told = between(&list, (first, second));
+                pairs += usize::from(told.is_some());
+                if let Some(Between {
+                    let_in: Some(at), ..
+                }) = told
+                {
+                    return Err(let_in(at, first, second));
+                }
+            }
+        }
+    }
+    Ok(pairs)
 }
 
 /// Evaluates every sentence on a list from a fresh image of so many cards,
@@ -203,18 +246,58 @@ fn isolation(list: &List, card: u16, run: &mut Run) -> Result<(), String> {
     if carries || !premise {
         run.seen_at(Kind::Premise, usize::from(!premise));
     }
-    let accepted: Vec<usize> = (0..list.events.len())
-        .filter(|&at| {
-            list.accepted(at)
-                .is_some_and(|command| command.card == card)
-        })
-        .collect();
+    let accepted = list.accepted_for(card);
     for (place, &first) in accepted.iter().enumerate() {
         for &second in &accepted[place + 1..] {
             isolated(list, premise, (first, second), run)?;
         }
     }
     Ok(())
+}
+
+/// What stands between two accepted commands of one session that is not of its
+/// desk.
+#[derive(Default)]
+struct Between {
+    /// A command was accepted that does not go together with them.
+    let_in: Option<usize>,
+    /// How many were.
+    intruders: usize,
+    /// One that does not go together with them was refused.
+    barred: bool,
+    /// A shared one was accepted between shared ones.
+    together: bool,
+}
+
+/// What stands between two accepted commands, if they are of one session.
+fn between(list: &List, (first, second): (usize, usize)) -> Option<Between> {
+    let (a, b) = (list.accepted(first)?, list.accepted(second)?);
+    if a.session() != b.session() {
+        return None;
+    }
+    let mut found = Between::default();
+    for at in first + 1..second {
+        let Some(other) = list.commands[at].as_ref() else {
+            continue;
+        };
+        if other.card != b.card || other.desk == b.desk {
+            continue;
+        }
+        let intrudes = b.mode == Mode::Exclusive || other.mode == Mode::Exclusive;
+        match (list.events[at].number == 0, intrudes) {
+            (true, true) => {
+                found.let_in = found.let_in.or(Some(at));
+                found.intruders += 1;
+            }
+            (true, false) => found.together = true,
+            (false, intrudes) => found.barred |= intrudes,
+        }
+    }
+    Some(found)
+}
+
+fn let_in(at: usize, first: usize, second: usize) -> String {
+    format!("command {at} was accepted between {first} and {second}, one session of another desk")
 }
 
 /// Two accepted commands of one session, and what stands between them.
@@ -224,38 +307,19 @@ fn isolated(
     (first, second): (usize, usize),
     run: &mut Run,
 ) -> Result<(), String> {
-    let (Some(a), Some(b)) = (list.accepted(first), list.accepted(second)) else {
+    let Some(found) = between(list, (first, second)) else {
         return Ok(());
     };
-    if a.session() != b.session() {
+    if !premise {
+        (0..found.intruders).for_each(|_| run.seen(Kind::LetIn));
         return Ok(());
     }
-    let (mut barred, mut together) = (false, false);
-    for at in first + 1..second {
-        let Some(other) = list.commands[at].as_ref() else {
-            continue;
-        };
-        if other.card != b.card || other.desk == b.desk {
-            continue;
-        }
-        let intrudes = b.mode == Mode::Exclusive || other.mode == Mode::Exclusive;
-        match (list.events[at].number == 0, intrudes, premise) {
-            (true, true, true) => {
-                return Err(format!(
-                    "under the premise, command {at} was accepted between {first} and {second}, one session of another desk"
-                ))
-            }
-            (true, true, false) => run.seen(Kind::LetIn),
-            (true, false, _) => together = true,
-            (false, intrudes, _) => barred |= intrudes,
-        }
+    if let Some(at) = found.let_in {
+        return Err(format!("under the premise, {}", let_in(at, first, second)));
     }
-    if premise {
-        run.seen(Kind::Isolated);
-        let between = [barred, together].into_iter().enumerate();
-        between
-            .filter(|(_, came)| *came)
-            .for_each(|(at, _)| run.seen_at(Kind::Between, at));
-    }
+    run.seen(Kind::Isolated);
+    let came = [found.barred, found.together].into_iter().enumerate();
+    came.filter(|(_, came)| *came)
+        .for_each(|(at, _)| run.seen_at(Kind::Between, at));
     Ok(())
 }

@@ -9,6 +9,8 @@
 //!   ask again. [`lapses`]: desks that fall silent.
 //! - [`history`]: the history engine, beside the store. [`swaps`]: commands for
 //!   different cards in another order.
+//! - [`proposals`]: what a desk knows and proposes. [`systems`]: random systems
+//!   of desks, queues and a store, by the rules and with one rule broken.
 //! - [`trials`]: the sheet's trials, by both.
 //! - [`sessions`]: lists of commands as desks send them, sessions interleaved.
 //! - [`demand3`]: the sentences of demand 3, over a list of events.
@@ -24,12 +26,14 @@ pub mod images;
 pub mod lapses;
 pub mod lists;
 pub mod program;
+pub mod proposals;
 pub mod proved;
 pub mod queues;
 pub mod run;
 pub mod sessions;
 pub mod streams;
 pub mod swaps;
+pub mod systems;
 pub mod texts;
 pub mod trials;
 pub mod upgrades;

@@ -9,7 +9,7 @@ use std::time::{Instant, SystemTime, UNIX_EPOCH};
 
 use compare::coverage::Run;
 use compare::run::Compared;
-use compare::{answers, desks, history, images, lapses, lists, program, queues, streams, swaps, texts, trials, upgrades};
+use compare::{answers, desks, history, images, lapses, lists, program, proposals, queues, streams, swaps, systems, texts, trials, upgrades};
 use second::random::Random;
 
 /// The fixed seed and the cases of `make test`, and its inputs to the program.
@@ -91,6 +91,8 @@ fn round(run: &mut Run, random: &mut Random) -> Compared<()> {
     queues::any(run, random)?;
     lapses::any(run, random)?;
     desks::any(run, random)?;
+    proposals::any(run, random)?;
+    systems::any(run, random)?;
     streams::any(run, random)?;
     texts::any(run, random)?;
     history::any(run, random)?;

@@ -9,10 +9,13 @@ use second::{CommandFields, Entry, Layout, Mark, Pair};
 
 /// A session: a card, a mode and a pair.
 #[derive(Clone, Copy, Debug, Default)]
-struct Open {
-    card: u16,
-    mode: u8,
-    pair: Pair,
+pub struct Open {
+    /// The card.
+    pub card: u16,
+    /// 1 shared, 2 exclusive.
+    pub mode: u8,
+    /// The pair.
+    pub pair: Pair,
 }
 
 /// The desks of a store, their clock and the sessions that they opened.
@@ -75,7 +78,7 @@ fn stored(image: &[u8], card: u16) -> Entry {
 }
 
 /// A command of a session.
-fn sent(random: &mut Random, image: &[u8], session: Open) -> Vec<u8> {
+pub fn sent(random: &mut Random, image: &[u8], session: Open) -> Vec<u8> {
     let stored = stored(image, session.card);
     let act = match session.mode {
         1 => random.pick(&[1, 2, 2, 5]),

@@ -12,6 +12,7 @@
 //!   0 to 9.
 //! - [`desk`]: the text a desk shows.
 //! - [`texts`]: structured texts and whether two agree, numbers 18 to 20.
+//! - [`proposal`]: what a desk knows and proposes, numbers 1 and 16.
 //! - [`queue`]: the lock queue of one card, upgrades too, numbers 10 to 13 and
 //!   15.
 //! - [`lease`]: desks that fall silent, numbers 21 and 25.
@@ -44,6 +45,7 @@ pub mod language;
 pub mod lease;
 pub mod number;
 pub mod program;
+pub mod proposal;
 pub mod queue;
 pub mod random;
 pub mod short;
@@ -61,6 +63,7 @@ pub use image::{is_sound, make_fresh, Layout};
 pub use language::Language;
 pub use lease::{Lease, Silence};
 pub use program::output;
+pub use proposal::Known;
 pub use queue::{Place, Queue, QueueAnswer, Turn};
 pub use stamp::{Mark, Mode, Pair, Session};
 pub use store::{answer, Answer, ReplyFields};

@@ -35,6 +35,8 @@ pub const FULL: u8 = 13;
 pub const NOT_MADE: u8 = 14;
 /// This desk and start does not stand in the queue.
 pub const NOT_STANDING: u8 = 15;
+/// The desk has no stamp of its own left above the one it knows.
+pub const NO_STAMP_LEFT: u8 = 16;
 /// The first of two texts is ill formed.
 pub const FIRST_ILL_FORMED: u8 = 18;
 /// The second of two texts is ill formed.

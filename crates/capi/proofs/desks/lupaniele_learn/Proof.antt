@@ -1,0 +1,30 @@
+-- The larger of each, written back. Assumes nothing.
+use Rattle.capi.proofs.Proposed.{learnt-leaves}
+use borrow.Author.Needs.{needs}
+use Rattle.capi.proofs.desks.lupaniele_learn.Statement.{statement}
+use Rattle.capi.proofs.desks.lupaniele_learn.Tie as tie
+use Rattle.capi.proofs.desks.lupaniele_learn.Reads as reads
+use Rattle.capi.proofs.desks.lupaniele_learn.Lts as lts
+use Rattle.capi.proofs.desks.known_in.Reads as known-in-reads
+use Rattle.capi.proofs.desks.write_stamps.Reads as write-stamps-reads
+use Rattle.proposals.proofs.Known.learn.Reads as learn-reads
+
+-- src/desks.rt:36:9
+known-in-requires : tie.Need-known-in-requires
+known-in-requires c κs = search needs
+
+-- src/desks.rt:37:9
+learn-requires : tie.Need-learn-requires
+learn-requires c κs = search needs
+
+-- src/desks.rt:38:5
+write-stamps-requires : tie.Need-write-stamps-requires
+write-stamps-requires c κs = search needs
+
+-- src/desks.rt:32:1
+returns : tie.Need-returns
+returns c = learnt-leaves _ (c .before .before .before .known-in .ensures) (c .before .before .learn .ensures) (c .write-stamps .ensures)
+
+pub lupaniele-learn-spec : {M : Type 1} → statement M
+lupaniele-learn-spec =
+    tie.close (tie.spec known-in-requires learn-requires write-stamps-requires returns)

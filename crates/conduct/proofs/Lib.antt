@@ -1,0 +1,4 @@
+pub mod Backing
+pub mod Kept
+pub mod Claims
+pub mod Trials

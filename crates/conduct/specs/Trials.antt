@@ -1,0 +1,286 @@
+-- Desks by the rules in a computed story, and for each rule one run in which it alone is broken, and with it demand 3's premise. Proved by computation in
+-- proofs/Trials.antt.
+-- Assumes nothing.
+use Prim.Native.Nat.{ℕ}
+use mathlib.Core.Path.{_≡_}
+use mathlib.Core.List.{List, [], _∷_, _++_, map, reverse}
+use mathlib.Core.Bool.{true, false}
+use lib.ListN.{take}
+use Rattle.stamps.specs.Stamp.{stamp, shared, exclusive, noPair}
+use Rattle.stamps.specs.declared.Pair.{Pair}
+use Rattle.lock_queue.specs.Queue.{State, noWaiting}
+use Rattle.lock_queue.specs.declared.Waiting.{Waiting}
+use Rattle.commands.specs.Bytes.{fieldsOf}
+use Rattle.model.specs.Serve.{serve}
+use Rattle.model.specs.Words.{Sent, Event, logOf, carries, under, premise}
+use Rattle.model.specs.Cases.{pair, request, text205, text401, long}
+use Rattle.conduct.specs.System.{
+  System,
+  Move,
+  Made,
+  Told,
+  begin,
+  propose,
+  ask,
+  leave,
+  lose,
+  send,
+  learn,
+  opening,
+  allowed,
+  withImage,
+  withQueue,
+  withKnown,
+  withMade,
+  stepTo,
+  course,
+  byRules,
+  sentOf,
+  sentBy,
+}
+
+-- Desks 1, 2 and 3, each with start 0, and desk 2 with start 1; a store with one card of room 16, and queues of two places.
+abbrev pub deskOne : ℕ
+deskOne = stamp 0 1 0
+
+abbrev pub deskTwo : ℕ
+deskTwo = stamp 0 2 0
+
+abbrev pub deskTwoAgain : ℕ
+deskTwoAgain = stamp 0 2 1
+
+abbrev pub deskThree : ℕ
+deskThree = stamp 0 3 0
+
+abbrev pub twoPlaces : ℕ → ℕ
+twoPlaces k = 2
+
+abbrev pub singleCard : System
+singleCard = opening 1 16 twoPlaces
+
+abbrev pub waits : ℕ → ℕ → ℕ → Waiting
+waits mode s x = record { mode = mode; pair = pair s x }
+
+-- A read and a write of card 0's original under a pair.
+abbrev pub readUnder : ℕ → ℕ → Sent
+readUnder s x = request 1 shared (pair s x) 0 [] (long 3)
+
+abbrev pub writeUnder : ℕ → ℕ → List ℕ → Sent
+writeUnder s x text = request 3 exclusive (pair s x) 0 text []
+
+-- ---- a story by the rules
+
+abbrev pub story : List Move
+story =
+    begin deskOne
+    ∷ begin deskTwo
+    -- desk 1 reads under (0.1.0, 0)
+    ∷ propose deskOne 0 shared
+    ∷ ask 0 (waits shared (stamp 0 1 0) 0)
+    ∷ send (readUnder (stamp 0 1 0) 0)
+    -- desk 2 knows nothing, asks exclusive under (0, 0.2.0) and is denied; with the denial's pair it proposes (0.1.0, 1.2.0), and writes
+    ∷ propose deskTwo 0 exclusive
+    ∷ ask 0 (waits exclusive 0 (stamp 0 2 0))
+    ∷ learn deskTwo 0 (pair (stamp 0 1 0) 0)
+    ∷ propose deskTwo 0 exclusive
+    ∷ ask 0 (waits exclusive (stamp 0 1 0) (stamp 1 2 0))
+    ∷ leave 0 deskOne
+    ∷ send (writeUnder (stamp 0 1 0) (stamp 1 2 0) text205)
+    -- desk 1's session is stale now; it learns, and reads under desk 2's exclusive stamp with a larger s
+    ∷ send (readUnder (stamp 0 1 0) 0)
+    ∷ learn deskOne 0 (pair (stamp 0 1 0) (stamp 1 2 0))
+    ∷ leave 0 deskTwo
+    ∷ propose deskOne 0 shared
+    ∷ ask 0 (waits shared (stamp 1 1 0) (stamp 1 2 0))
+    ∷ send (readUnder (stamp 1 1 0) (stamp 1 2 0))
+    -- a malformed ask may carry anything; an old answer to desk 1 is learnt late, by desk 2
+    ∷ ask 0 (waits 3 0 0)
+    ∷ learn deskTwo 0 (pair (stamp 0 1 0) 0)
+    -- desk 1 upgrades, and writes
+    ∷ propose deskOne 0 exclusive
+    ∷ ask 0 (waits exclusive (stamp 1 1 0) (stamp 2 1 0))
+    ∷ send (writeUnder (stamp 1 1 0) (stamp 2 1 0) text401)
+    -- malformed bytes are free too; desk 2's write comes again, late
+    ∷ send (record { command = 1 ∷ 2 ∷ 0 ∷ []; lent = [] })
+    ∷ send (writeUnder (stamp 0 1 0) (stamp 1 2 0) text205)
+    -- the queue is lost; desk 2 starts again, knows nothing and is let in, but the guard is not taken in
+    ∷ lose 0 (noWaiting ∷ noWaiting ∷ [])
+    ∷ begin deskTwoAgain
+    ∷ propose deskTwoAgain 0 exclusive
+    ∷ ask 0 (waits exclusive 0 (stamp 0 2 1))
+    ∷ send (writeUnder 0 (stamp 0 2 1) text205)
+    -- it learns from the guard's reply, leaves, and reads what desk 1 wrote
+    ∷ learn deskTwoAgain 0 (pair (stamp 1 1 0) (stamp 2 1 0))
+    ∷ propose deskTwoAgain 0 shared
+    ∷ leave 0 deskTwoAgain
+    ∷ ask 0 (waits shared (stamp 1 2 1) (stamp 2 1 0))
+    ∷ send (readUnder (stamp 1 2 1) (stamp 2 1 0))
+    ∷ []
+
+-- An answer for card 0.
+abbrev pub heard : ℕ → ℕ → ℕ → Told
+heard number s x = record { card = 0; number = number; pair = pair s x }
+
+pub record Story : Type 0 where
+  pub rules : byRules twoPlaces singleCard story ≡ true
+  -- the answers of the queue and of the store, in order
+  pub answers :
+      reverse (course twoPlaces singleCard story .told)
+      ≡ heard 0 (stamp 0 1 0) 0
+      ∷ heard 0 (stamp 0 1 0) 0
+      ∷ heard 11 (stamp 0 1 0) 0
+      ∷ heard 0 (stamp 0 1 0) (stamp 1 2 0)
+      ∷ heard 0 (stamp 0 1 0) (stamp 1 2 0)
+      ∷ heard 0 (stamp 0 1 0) (stamp 1 2 0)
+      ∷ heard 3 (stamp 0 1 0) (stamp 1 2 0)
+      ∷ heard 0 (stamp 0 1 0) (stamp 1 2 0)
+      ∷ heard 0 (stamp 1 1 0) (stamp 1 2 0)
+      ∷ heard 0 (stamp 1 1 0) (stamp 1 2 0)
+      ∷ heard 1 0 0
+      ∷ heard 0 (stamp 1 1 0) (stamp 2 1 0)
+      ∷ heard 0 (stamp 1 1 0) (stamp 2 1 0)
+      ∷ heard 1 0 0
+      ∷ heard 3 (stamp 1 1 0) (stamp 2 1 0)
+      ∷ heard 0 0 (stamp 0 2 1)
+      ∷ heard 3 (stamp 1 1 0) (stamp 2 1 0)
+      ∷ heard 0 0 (stamp 0 2 1)
+      ∷ heard 0 (stamp 1 2 1) (stamp 2 1 0)
+      ∷ heard 0 (stamp 1 2 1) (stamp 2 1 0)
+      ∷ []
+  -- what its commands show
+  pub shows :
+      map (λ e. take (e .answer .length) (e .reply)) (reverse (logOf 1 16 (sentBy story)))
+      ≡ [] ∷ [] ∷ [] ∷ text205 ∷ [] ∷ [] ∷ [] ∷ [] ∷ text401 ∷ []
+  -- the premise has something to say of it: a shared command carries the stamp of an exclusive one
+  pub carried : carries (fieldsOf (readUnder (stamp 1 1 0) (stamp 1 2 0) .command)) ≡ true
+  pub below : under (stamp 1 2 0) (fieldsOf (writeUnder (stamp 0 1 0) (stamp 1 2 0) text205 .command)) ≡ true
+
+-- ---- one rule broken
+
+-- Steps by the rules, one that is not, and steps by the rules: what was sent breaks the premise of card 0.
+pub record BrokenBy (lead : List Move) (wrong : Move) (rest : List Move) : Type 0 where
+  pub before : byRules twoPlaces singleCard lead ≡ true
+  pub refused : allowed (course twoPlaces singleCard lead) wrong ≡ false
+  pub after : byRules twoPlaces (stepTo twoPlaces (course twoPlaces singleCard lead) wrong) rest ≡ true
+  pub broken : premise 0 (sentBy (lead ++ wrong ∷ rest)) ≡ false
+
+-- The same with a change of the system that is no step.
+pub record BrokenWith (lead : List Move) (wrong : System → System) (rest : List Move) : Type 0 where
+  pub before : byRules twoPlaces singleCard lead ≡ true
+  pub after : byRules twoPlaces (wrong (course twoPlaces singleCard lead)) rest ≡ true
+  pub broken : premise 0 (sentBy (lead ++ rest)) ≡ false
+
+-- Desk 3 asks under (0.3.0, 0), so that a pair with an s and no x is told.
+abbrev pub threeAsks : List Move
+threeAsks = begin deskThree ∷ propose deskThree 0 shared ∷ ask 0 (waits shared (stamp 0 3 0) 0) ∷ []
+
+-- Desk 1 writes under (0, 0.1.0).
+abbrev pub oneWrites : List Move
+oneWrites = begin deskOne ∷ propose deskOne 0 exclusive ∷ send (writeUnder 0 (stamp 0 1 0) text205) ∷ []
+
+-- Desk 2 learns that, and reads under (0.2.0, 0.1.0).
+abbrev pub twoReads : List Move
+twoReads =
+    begin deskTwo
+    ∷ learn deskTwo 0 (pair 0 (stamp 0 1 0))
+    ∷ propose deskTwo 0 shared
+    ∷ send (readUnder (stamp 0 2 0) (stamp 0 1 0))
+    ∷ []
+
+-- Desk 1, which knows no x, learns desk 3's s, proposes (0.3.0, 0.1.0) and writes: with what it wrote and desk 2 read before, that breaks the premise.
+abbrev pub oneAbove : List Move
+oneAbove =
+    learn deskOne 0 (pair (stamp 0 3 0) 0)
+    ∷ propose deskOne 0 exclusive
+    ∷ send (writeUnder (stamp 0 3 0) (stamp 0 1 0) text401)
+    ∷ []
+
+-- Desk 2, which knows (0, 0.1.0), proposes (0.2.0, 0.1.0) and reads.
+abbrev pub twoBelow : List Move
+twoBelow = propose deskTwo 0 shared ∷ send (readUnder (stamp 0 2 0) (stamp 0 1 0)) ∷ []
+
+-- Desk 1 proposes exclusive for card 1, which no command names, and asks there.
+abbrev pub oneElsewhere : List Move
+oneElsewhere = begin deskOne ∷ propose deskOne 1 exclusive ∷ ask 1 (waits exclusive 0 (stamp 0 1 0)) ∷ []
+
+-- Desk 3 asks for card 1, and desk 1 proposes (0.3.0, 0.1.0) for card 1.
+abbrev pub aboveElsewhere : List Move
+aboveElsewhere =
+    begin deskThree
+    ∷ propose deskThree 1 shared
+    ∷ ask 1 (waits shared (stamp 0 3 0) 0)
+    ∷ learn deskOne 1 (pair (stamp 0 3 0) 0)
+    ∷ propose deskOne 1 exclusive
+    ∷ []
+
+-- A proposal for card 0 that is not what the desk's knowledge gives.
+abbrev pub claims : ℕ → ℕ → ℕ → System → System
+claims mode s x y = withMade (record { card = 0; mode = mode; pair = pair s x }) y
+
+-- Desk 2, which knows nothing, learns the x 0.1.0 at the store or at the queue, and reads under (1.2.0, 0.1.0).
+abbrev pub twoLearnsAt : Move → List Move
+twoLearnsAt first =
+    begin deskTwo
+    ∷ propose deskTwo 0 shared
+    ∷ first
+    ∷ learn deskTwo 0 (pair 0 (stamp 0 1 0))
+    ∷ propose deskTwo 0 shared
+    ∷ send (readUnder (stamp 1 2 0) (stamp 0 1 0))
+    ∷ []
+
+-- Desk 3 asks under its second shared proposal, and desk 1 writes under (1.3.0, 0.1.0).
+abbrev pub oneFarAbove : List Move
+oneFarAbove =
+    begin deskThree
+    ∷ propose deskThree 0 shared
+    ∷ propose deskThree 0 shared
+    ∷ ask 0 (waits shared (stamp 1 3 0) 0)
+    ∷ begin deskOne
+    ∷ learn deskOne 0 (pair (stamp 1 3 0) 0)
+    ∷ propose deskOne 0 exclusive
+    ∷ send (writeUnder (stamp 1 3 0) (stamp 0 1 0) text401)
+    ∷ []
+
+pub record RulesNeeded : Type 0 where
+  -- rule 10.9: desk 1 starts again under the same start, and proposes its old exclusive stamp with a larger s
+  pub start-again : BrokenBy (threeAsks ++ (oneWrites ++ twoReads)) (begin deskOne) oneAbove
+  -- rule 10.8: a command under a pair that nobody proposed; under one that was proposed in the other mode; for another card
+  pub never-proposed : BrokenBy (oneWrites ++ twoReads) (send (writeUnder (stamp 0 3 0) (stamp 0 1 0) text401)) []
+  pub other-mode : BrokenBy (oneWrites ++ twoReads) (send (writeUnder (stamp 0 2 0) (stamp 0 1 0) text401)) []
+  pub other-card :
+      BrokenBy (oneWrites ++ (twoReads ++ aboveElsewhere)) (send (writeUnder (stamp 0 3 0) (stamp 0 1 0) text401)) []
+  -- rule 10.8: an ask under a pair that nobody proposed, at a queue that was just lost: it is told, and learnt
+  pub never-proposed-ask :
+      BrokenBy (threeAsks ++ (begin deskOne ∷ begin deskTwo ∷ lose 0 (noWaiting ∷ noWaiting ∷ []) ∷ []))
+      (ask 0 (waits exclusive 0 (stamp 0 1 0)))
+      (learn deskTwo 0 (pair 0 (stamp 0 1 0)) ∷ twoBelow ++ oneAbove)
+  -- rule 10.1: desk 2 learns an x without the s beside it; a pair that was told for another card
+  pub half-learnt :
+      BrokenBy (threeAsks ++ (begin deskOne ∷ oneAbove ++ (begin deskTwo ∷ []))) (learn deskTwo 0 (pair 0 (stamp 0 1 0))) twoBelow
+  pub learnt-elsewhere :
+      BrokenBy (oneElsewhere ++ (threeAsks ++ (oneAbove ++ (begin deskTwo ∷ [])))) (learn deskTwo 0 (pair 0 (stamp 0 1 0))) twoBelow
+  -- rule 10.7: desk 1 forgets its own proposal
+  pub own-forgotten : BrokenWith (threeAsks ++ (oneWrites ++ twoReads)) (withKnown deskOne (λ k. noPair)) oneAbove
+  -- rule 10.4: a shared proposal with an s that is not above the known one; with an x that is not the known one
+  pub not-above :
+      BrokenWith (threeAsks ++ (begin deskOne ∷ oneAbove ++ (begin deskTwo ∷ learn deskTwo 0 (pair (stamp 0 3 0) (stamp 0 1 0)) ∷ [])))
+      (claims shared (stamp 0 2 0) (stamp 0 1 0))
+      (send (readUnder (stamp 0 2 0) (stamp 0 1 0)) ∷ [])
+  pub guessed :
+      BrokenWith (threeAsks ++ (begin deskOne ∷ begin deskTwo ∷ [])) (claims shared (stamp 0 2 0) (stamp 0 1 0))
+      (send (readUnder (stamp 0 2 0) (stamp 0 1 0)) ∷ oneAbove)
+  -- rule 10.5: an exclusive proposal with an x that is not above the known one
+  pub kept-x :
+      BrokenWith (oneWrites ++ twoReads) (claims exclusive (stamp 0 2 0) (stamp 0 1 0))
+      (send (writeUnder (stamp 0 2 0) (stamp 0 1 0) text401) ∷ [])
+  -- rule 10.11: something known, stored or queued at the opening
+  pub knew :
+      BrokenWith (threeAsks ++ (begin deskOne ∷ begin deskTwo ∷ [])) (withKnown deskTwo (λ k. pair 0 (stamp 0 1 0)))
+      (twoBelow ++ oneAbove)
+  pub stored :
+      BrokenWith [] (λ y. withImage (serve (y .image) (writeUnder 0 (stamp 0 1 0) text205 .command) [] .image) y)
+      (twoLearnsAt (send (readUnder (stamp 0 2 0) 0)) ++ oneFarAbove)
+  pub queued :
+      BrokenWith []
+      (withQueue 0 (record { places = noWaiting ∷ noWaiting ∷ []; count = 0; largest = pair 0 (stamp 0 1 0) }))
+      (twoLearnsAt (ask 0 (waits shared (stamp 0 2 0) 0)) ++ (lose 0 (noWaiting ∷ noWaiting ∷ []) ∷ oneFarAbove))

@@ -1,0 +1,82 @@
+-- What is claimed of a desk's proposals, by themselves and with the lock queue of one card (docs/RULES.md, section 10). The theorems stand in proofs/.
+-- Assumes nothing.
+use Prim.Native.Nat.{ℕ, suc, _+_, _*_, _%_, _≤_, _<_}
+use mathlib.Core.Path.{_≡_}
+use mathlib.Core.Logic.{_↔_}
+use mathlib.Core.List.{List, [], _∷_}
+use mathlib.Core.Bool.{Bool, true, false, not, _&&_}
+use lib.Dec.{T, eqb}
+use Rattle.lists.specs.Table.{all, applies, noRow, earlier}
+use Rattle.stamps.specs.Stamp.{stamp, deskNumber, deskOf, stampValid, sessionChecks, shared, exclusive, noPair}
+use Rattle.stamps.specs.declared.Pair.{Pair}
+use Rattle.lock_queue.specs.Queue.{State}
+use Rattle.lock_queue.specs.declared.Waiting.{Waiting}
+use Rattle.lock_queue.specs.Numbers.{PAIR-DENIED}
+use Rattle.lock_queue.specs.Requests.{Request, asks, leaves, lapses, number, after, answer}
+use Rattle.lock_queue_claims.specs.Course.{queueAfter}
+use Rattle.proposals.specs.declared.Known.{Known}
+use Rattle.proposals.specs.declared.Proposed.{Proposed}
+use Rattle.proposals.specs.Propose.{learnt, nextT, ownAbove, lastT, proposalRows, proposed}
+
+-- A stamp of this desk and start.
+pub record OfDesk (desk start n : ℕ) : Type 0 where
+  pub desk-is : deskNumber n ≡ desk
+  pub start-is : n % 65536 ≡ start
+
+-- Rule 10.3: it is the desk's own, it is above n, and no stamp of the desk's own above n is smaller.
+pub record SmallestAbove (desk start n r : ℕ) : Type 0 where
+  pub mine : OfDesk desk start r
+  pub above : n < r
+  pub smallest : (m : ℕ) → OfDesk desk start m → n < m → r ≤ m
+
+abbrev pub Smallest : Type 0
+Smallest = (desk start n : ℕ) → desk < 65536 → start < 65536 → SmallestAbove desk start n (ownAbove desk start n)
+
+-- Rule 10.6: the test for 16 holds exactly where none of the desk's own stamps, which are numbers of 64 bits, is above n.
+abbrev pub Spent : Type 0
+Spent =
+    (desk start n : ℕ) → desk < 65536 → start < 65536 →
+    (lastT < nextT desk start n) ↔ ((m : ℕ) → m < 18446744073709551616 → OfDesk desk start m → m ≤ n)
+
+-- Rules 10.4, 10.5 and 1: a proposal made from valid stamps keeps a session's rules, and names the desk and start that makes it.
+pub record Fine (k : Known) (mode : ℕ) : Type 0 where
+  pub rules : all (sessionChecks mode (proposed k mode .pair)) ≡ true
+  pub desk : deskOf mode (proposed k mode .pair) ≡ k .desk * 65536 + k .start
+
+abbrev pub WellProposed : Type 0
+WellProposed =
+    (k : Known) (mode : ℕ) → k .desk < 65536 → k .start < 65536 → stampValid (k .pair .s) ≡ true → stampValid (k .pair .x) ≡ true →
+    proposed k mode .number ≡ 0 → Fine k mode
+
+-- A request that the queue accepts as an entry: leaving, also by lease, accepts nothing.
+abbrev pub entered : ℕ → State → Request → Bool
+entered lent q (asks new) = eqb (number lent q (asks new)) 0
+entered lent q (leaves d) = false
+entered lent q (lapses r) = false
+
+-- None of these requests, in the order in which they come, is accepted as an entry.
+unfoldable pub quiet : ℕ → State → List Request → Bool
+quiet lent q [] = true
+quiet lent q (r ∷ rs) = not (entered lent q r) && quiet lent (after lent q r) rs
+
+-- Rule 10.10: an ask is denied, requests come of which none enters, and the desk, which has learnt the denial's pair, proposes and asks: it is
+-- not denied. Of any queue, with whatever the desk knew before, in either mode.
+abbrev pub NotDenied : Type 0
+NotDenied =
+    (lent : ℕ) (q : State) (new : Waiting) (between : List Request) (k : Known) (mode : ℕ) →
+    number lent q (asks new) ≡ PAIR-DENIED →
+    quiet lent (after lent q (asks new)) between ≡ true →
+    proposed (learnt k (answer lent q (asks new) .largest)) mode .number ≡ 0 →
+    number lent (queueAfter lent (after lent q (asks new)) between)
+    (asks (record { mode = mode; pair = proposed (learnt k (answer lent q (asks new) .largest)) mode .pair }))
+    ≡ PAIR-DENIED → ⊥
+
+-- Rule 10.6: each number exactly when its row applies and no earlier row does.
+abbrev pub EachProposal : Type 0
+EachProposal =
+    (k : Known) (mode n : ℕ) →
+    (proposed k mode .number ≡ suc n) ↔ (T (applies (suc n) (proposalRows k mode)) × T (noRow (earlier (suc n) (proposalRows k mode))))
+
+-- Rule 10.6: a refusal leaves what the desk knows, and gives no pair.
+abbrev pub Unmoved : Type 0
+Unmoved = (k : Known) (mode n : ℕ) → proposed k mode .number ≡ suc n → (proposed k mode .known ≡ k) × (proposed k mode .pair ≡ noPair)

@@ -1,0 +1,1 @@
+// What is claimed of proposals: definitions in specs/, theorems in proofs/. There is no code here.
