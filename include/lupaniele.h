@@ -62,5 +62,17 @@ uint8_t lupaniele_agree(const uint8_t *first, size_t first_length, const uint8_t
 uint8_t lupaniele_history_answer(uint8_t history[43168], uint64_t *used, uint16_t cards, uint16_t room,
                                  const uint8_t *command, size_t command_length, uint8_t *reply, size_t reply_length,
                                  uint64_t fields[7]);
+/* A desk's redo log, docs/RULES.md section 11. Whether the bytes are a good log: 0, or 23 (rules 11.5, 11.6). */
+uint8_t lupaniele_log_check(const uint8_t *log, size_t log_length);
+
+/* Appends a record as far as the first `stores` stores of one byte go (rules 11.9 to 11.12): 0, or 23 or 24 and nothing stored, or
+   26. kind: 1 begin, 2 update, 3 commit, 4 synced; body: as rule 11.4 lays it out. The whole append takes body_length + 12 stores. */
+uint8_t lupaniele_log_append(uint8_t *log, size_t log_length, uint8_t kind, const uint8_t *body, size_t body_length,
+                             uint64_t stores);
+
+/* Sends each update that is due through the guard (rules 11.15 to 11.20): 0, 23, or the number of the write that was refused, and in
+   line the line of its record, else 0. s, x: the pair of each card, by card; a card beyond the end has zeros. */
+uint8_t lupaniele_recover(const uint8_t *log, size_t log_length, uint8_t *image, size_t image_length, const uint64_t *s,
+                          size_t s_length, const uint64_t *x, size_t x_length, uint64_t *line);
 
 #endif

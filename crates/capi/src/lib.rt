@@ -5,6 +5,7 @@ pub mod desks;
 pub mod histories;
 pub mod inner;
 pub mod lapse;
+pub mod log;
 
 ghost use mathlib.Core.Path.{_≡_};
 ghost use lib.ListN.{length};

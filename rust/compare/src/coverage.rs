@@ -78,6 +78,20 @@ kinds! {
     Walks 2 "walks of a stream, to its end, to a cut"
     EveryCut 1 "streams cut at every byte"
     Places 2 "places of a stream where a whole command stands, where none does"
+    Appends 4 "appends to a redo log: taken, refused with 23, with 24, cut with 26"
+    Cuts 3 ".. cut within its body, within its line, before its count"
+    FullLogs 2 ".. refused with 24 at 200 records, for want of room"
+    Rooms 3 ".. of a body that just fits, one byte more, above 65,535"
+    LogLengths 3 "redo logs too short, of 2,201 to 65,536 bytes, too long"
+    LogCount 1 "redo logs refused with 23 by the count"
+    LogLines 11 ".. by one byte of a line"
+    LogBodies 1 ".. by a byte of a body"
+    StillGood 1 "redo logs changed and still good"
+    AnyLogs 1 "any bytes as log, image and pairs"
+    Recoveries 8 "recoveries answered 0, 1, 2, 3, 5, 7, 9, 23"
+    RecoveredTexts 2 "texts after a recovery: of a committed update, as before"
+    RecoveredTwice 1 "recoveries run twice, neither refused"
+    RecoveryWrites 2 "recovery's writes in demand 3's list: accepted, refused"
     Outputs 4 "the program: too long, bad store, runs to the end, to a cut"
     TextsIll 3 "texts: the first ill formed alone, both, the second alone"
     TextsDamaged 4 "texts by one byte: changed and ill formed, changed and still well formed, taken, added"
@@ -106,7 +120,7 @@ kinds! {
 /// The largest number that any operation answers with, and those that some
 /// operation gives today.
 const MOST: usize = 26;
-pub const GIVEN: &[usize] = &[0, 1, 2, 3, 4, 5, 6, 7, 8, 9, 10, 11, 12, 13, 14, 15, 16, 18, 19, 20, 21, 22, 25];
+pub const GIVEN: &[usize] = &[0, 1, 2, 3, 4, 5, 6, 7, 8, 9, 10, 11, 12, 13, 14, 15, 16, 18, 19, 20, 21, 22, 23, 24, 25, 26];
 
 /// What was run.
 pub struct Run {

@@ -4,7 +4,7 @@
 //! - [`proved`]: the proved library by its exported functions.
 //! - [`run`]: how a difference is told. [`coverage`]: what a run counts.
 //! - [`answers`], [`images`], [`lists`], [`queues`], [`desks`], [`streams`],
-//!   [`texts`], [`program`]: what is compared, part by part.
+//!   [`texts`], [`logs`], [`program`]: what is compared, part by part.
 //! - [`upgrades`]: lists of turns from an empty queue, in which standing desks
 //!   ask again. [`lapses`]: desks that fall silent.
 //! - [`history`]: the history engine, beside the store. [`swaps`]: commands for
@@ -25,6 +25,7 @@ pub mod history;
 pub mod images;
 pub mod lapses;
 pub mod lists;
+pub mod logs;
 pub mod program;
 pub mod proposals;
 pub mod proved;

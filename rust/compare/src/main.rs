@@ -9,7 +9,7 @@ use std::time::{Instant, SystemTime, UNIX_EPOCH};
 
 use compare::coverage::Run;
 use compare::run::Compared;
-use compare::{answers, desks, history, images, lapses, lists, program, proposals, queues, streams, swaps, systems, texts, trials, upgrades};
+use compare::{answers, desks, history, images, lapses, lists, logs, program, proposals, queues, streams, swaps, systems, texts, trials, upgrades};
 use second::random::Random;
 
 /// The fixed seed and the cases of `make test`, and its inputs to the program.
@@ -96,7 +96,8 @@ fn round(run: &mut Run, random: &mut Random) -> Compared<()> {
     streams::any(run, random)?;
     texts::any(run, random)?;
     history::any(run, random)?;
-    swaps::any(run, random)
+    swaps::any(run, random)?;
+    logs::any(run, random)
 }
 
 /// Prints the table, and what never came.

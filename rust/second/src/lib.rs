@@ -17,6 +17,8 @@
 //!   15.
 //! - [`lease`]: desks that fall silent, numbers 21 and 25.
 //! - [`history`]: the history engine, number 22.
+//! - [`log`], [`recovery`]: a desk's redo log, numbers 23, 24 and 26, and
+//!   recovery from it.
 //! - [`stream`], [`program`]: streams and the program's output.
 //! - [`number`]: the names of the numbers. [`endian`]: little-endian numbers.
 //!   [`random`]: random numbers for tests. [`short`], [`generate`], [`trials`]:
@@ -43,11 +45,13 @@ pub mod history;
 pub mod image;
 pub mod language;
 pub mod lease;
+pub mod log;
 pub mod number;
 pub mod program;
 pub mod proposal;
 pub mod queue;
 pub mod random;
+pub mod recovery;
 pub mod short;
 pub mod stamp;
 pub mod store;
@@ -62,9 +66,11 @@ pub use history::History;
 pub use image::{is_sound, make_fresh, Layout};
 pub use language::Language;
 pub use lease::{Lease, Silence};
+pub use log::{append, check, read_back};
 pub use program::output;
 pub use proposal::Known;
 pub use queue::{Place, Queue, QueueAnswer, Turn};
+pub use recovery::{recover, Recovered};
 pub use stamp::{Mark, Mode, Pair, Session};
 pub use store::{answer, Answer, ReplyFields};
 pub use stream::{standing_at, walk, Reader, Standing, Walk};

@@ -49,3 +49,9 @@ pub const LEASE_REFUSED: u8 = 21;
 pub const STILL_WAITING: u8 = 25;
 /// The history engine has no room for one more accepted command.
 pub const HISTORY_FULL: u8 = 22;
+/// The log is bad, or the record to be appended is.
+pub const BAD_LOG: u8 = 23;
+/// The log has no line or no room left.
+pub const LOG_FULL: u8 = 24;
+/// The append had fewer stores than it needs.
+pub const APPEND_CUT: u8 = 26;

@@ -15,7 +15,7 @@ use guard::NO_CARD;
 use stamps::MALFORMED;
 
 // A command for a card that exists, on a sound image: its entry judges, and an accepted command is carried out.
-fn carry(image: &mut [u8], c: Command, text: &[u8], reply: &mut [u8]) -> Answer
+pub fn carry(image: &mut [u8], c: Command, text: &[u8], reply: &mut [u8]) -> Answer
     requires { ⌜ (sound (now image) ≡ true) × (c .card < countOf (now image)) × (length (now text) ≡ c .length) ⌝ }
     ensures answer { λ r. ⌜ r ≡ carried (now (image .entry)) c (now (text .entry)) (now (reply .entry)) .answer ⌝ }
     ensures image { λ _. ⌜ now (image .exit) ≡ carried (now (image .entry)) c (now (text .entry)) (now (reply .entry)) .image ⌝ }

@@ -1,0 +1,46 @@
+use lib.ListN.{length-drop}
+use borrow.Author.Needs.{needs}
+use Rattle.recovery.proofs.inner.write_of.Statement.{statement}
+use Rattle.recovery.proofs.inner.write_of.Tie as tie
+use Rattle.recovery.proofs.inner.write_of.Reads as reads
+use Rattle.recovery.proofs.inner.write_of.Lts as lts
+use Rattle.slices.proofs.inner.fixed_width.read_u16.Reads as read-u16-reads
+use Rattle.recovery.proofs.inner.act_of.Reads as act-of-reads
+use Rattle.recovery.proofs.inner.edition_of.Reads as edition-of-reads
+
+sub-size : tie.Need-sub-size
+sub-size c = search needs
+
+shared-slice-read-act-of : tie.Need-shared-slice-read-act-of
+shared-slice-read-act-of c = search needs
+
+act-of-requires : tie.Need-act-of-requires
+act-of-requires c κs = search needs
+
+read-u16-requires : tie.Need-read-u16-requires
+read-u16-requires c κs = search needs
+
+shared-slice-read-edition-of : tie.Need-shared-slice-read-edition-of
+shared-slice-read-edition-of c = search needs
+
+edition-of-requires : tie.Need-edition-of-requires
+edition-of-requires c κs = search needs
+
+cast-t14 : tie.Need-cast-t14
+cast-t14 c = search needs
+
+returns : tie.Need-returns
+returns c = rw (c .edition-of .ensures, c .before .before .read-u16 .ensures, c .before .before .before .act-of .ensures, length-drop)
+
+pub write-of-spec : {M : Type 1} → statement M
+write-of-spec =
+    tie.close
+    (tie.spec
+    sub-size
+    shared-slice-read-act-of
+    act-of-requires
+    read-u16-requires
+    shared-slice-read-edition-of
+    edition-of-requires
+    cast-t14
+    returns)

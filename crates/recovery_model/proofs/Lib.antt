@@ -1,0 +1,5 @@
+pub mod Steps
+pub mod Sending
+pub mod Pairs
+pub mod Texts
+pub mod Cases

@@ -1,0 +1,187 @@
+-- What recovery sends is bytes, and stands in demand 3's list. Assumes nothing.
+use Prim.Native.Nat.{ℕ, zero, suc, _+_, _≤_, _<_}
+use native.Mathlib.Omega.{arith}
+use mathlib.Core.Path.{_≡_, refl, sym, ap, _∙_, subst}
+use mathlib.Core.Logic.{_⊎_, inl, inr}
+use mathlib.Core.List.{List, [], _∷_, _++_, reverse, reverseAux}
+use mathlib.Core.Bool.{Bool, true, false, cond}
+use borrow.Author.Tests.{ltb-true, ltb-false}
+use lib.ListN.{length, getD, length-drop, List·getD-eq-default}
+use lib.Dec.{ltb, eqb, lit<}
+use Rattle.lists.specs.Parts.{Bytes}
+use Rattle.lists.proofs.Bytes.{Bytes-nil, Bytes-drop, Bytes-part}
+use Rattle.lists.proofs.Le.{le-part-bound}
+use Rattle.lists.proofs.Tests.{cases}
+use Rattle.guard.specs.Entry.{noEntry, FitsEntry}
+use Rattle.commands.specs.Command.{FitsCommand}
+use Rattle.commands.proofs.CommandBytes.{Bytes-command}
+use Rattle.image.specs.Image.{fresh, Cards, noCard, encode, decode}
+use Rattle.image.specs.Image.{GoodCards, freshCards}
+use Rattle.image_claims.proofs.Claims.{goodEncodes, freshSound}
+use Rattle.model.specs.Serve.{serve}
+use Rattle.model.specs.Words.{Sent, imageAfter}
+use Rattle.model.specs.Claims.{SentBytes, AllBytes}
+use Rattle.model.proofs.Machine.{cardsFrom}
+use Rattle.model.proofs.Simulation.{all-good, same-images}
+use Rattle.model.proofs.Demand.{demand3}
+use Rattle.redo_log.specs.Log.{LogRecord, recordCard, recordSide, recordText, recordCount, recordAt, startAt, lengthAt, goodLog, records}
+use Rattle.redo_log.proofs.Records.{short-record}
+use Rattle.redo_log.proofs.ReadBack.{length-records, record-of}
+use Rattle.recovery_model.specs.Recovery.{Pairs, FitsPairs, Recovery, recordIn, writeOf, recoverySent, entryFor, recoveryStep, recovering, recovered}
+use Rattle.recovery_model.specs.Claims.{Deed, oneRequest, oneRecovery, imageAfterDeeds, requestsOfDeeds, FitsDeeds, Demand3Mixed}
+use Rattle.recovery_model.proofs.Steps.{R, S, Idle, Sends, next, stands, recovers}
+
+-- ---- a write fits its fields
+
+fits-none : FitsEntry noEntry
+fits-none =
+    record {
+      pair = record { s = lit< tt; x = lit< tt };
+      mark = record { desk = lit< tt; transaction = lit< tt };
+      edition = lit< tt;
+      from = lit< tt;
+      original = lit< tt;
+      translation = lit< tt;
+    }
+
+pub entry-fits : (cs : Cards) → GoodCards cs → (k : ℕ) → FitsEntry (getD (cs .cards) k noCard .entry)
+entry-fits cs g k = go (cases (ltb k (length (cs .cards))))
+  where
+    go : (ltb k (length (cs .cards)) ≡ true) ⊎ (ltb k (length (cs .cards)) ≡ false) → FitsEntry (getD (cs .cards) k noCard .entry)
+    go (inl e) = g .each k (ltb-true k (length (cs .cards)) e) .fits
+    go (inr e) = rw (List·getD-eq-default (cs .cards) noCard {n = k} (ltb-false k (length (cs .cards)) e)) fits-none
+
+pub fits-write : (pairs : Pairs) (image : List ℕ) (r : LogRecord) → FitsPairs pairs → FitsEntry (entryFor image (recordCard r)) → Bytes (r .body) → length (r .body) < 65536
+    → FitsCommand (writeOf pairs image r)
+fits-write pairs image r p e b h =
+    record {
+      act = small (eqb (recordSide r) 1);
+      mode = lit< tt;
+      card = le-part-bound 0 2 (r .body) b;
+      pair = record { s = p .s (recordCard r); x = p .x (recordCard r) };
+      expected = e .mark;
+      next = e .mark;
+      edition = named (eqb (recordSide r) 1);
+      length = rw length-drop (omega arith);
+    }
+  where
+    small : (t : Bool) → cond t 3 4 < 256
+    small true = lit< tt
+    small false = lit< tt
+
+    named : (t : Bool) → cond t 0 (entryFor image (recordCard r) .edition) < 65536
+    named true = lit< tt
+    named false = e .edition
+
+pub sent-bytes : (pairs : Pairs) (image : List ℕ) (r : LogRecord) → FitsCommand (writeOf pairs image r) → Bytes (r .body) → SentBytes (recoverySent pairs image r)
+unfolding recoverySent
+sent-bytes pairs image r f b =
+    record { command = Bytes-command (writeOf pairs image r) (recordText r) f (Bytes-drop 3 (r .body) b); lent = Bytes-nil }
+
+applied-bytes : (i : ℕ) (s : Sent) (r : Recovery) → SentBytes s → AllBytes (r .sent) → AllBytes (recoveryStep i s r .sent)
+unfolding recoveryStep
+applied-bytes i s r sb ab = (sb, ab)
+
+-- ---- a run from cards by the rules
+
+-- Each record has a body of bytes, whose length a u16 holds.
+abbrev pub FitsRecords : List LogRecord → Type 0
+FitsRecords rs = (i : ℕ) → i < length rs → Bytes (recordIn rs i .body) × (length (recordIn rs i .body) < 65536)
+
+module _ (pairs : Pairs) (rs : List LogRecord) (cs : Cards) (gc : GoodCards cs) (fp : FitsPairs pairs) (fit : FitsRecords rs) where
+  -- The cards before record i.
+  abbrev pub C : ℕ → Cards
+  C i = cardsFrom cs (R pairs rs (encode cs) i .sent)
+
+  module _ (i : ℕ) (ab : AllBytes (R pairs rs (encode cs) i .sent)) where
+    pub cards-good : GoodCards (C i)
+    cards-good = all-good cs (R pairs rs (encode cs) i .sent) gc ab
+
+    pub image-is : R pairs rs (encode cs) i .image ≡ encode (C i)
+    image-is = stands pairs rs (encode cs) i ∙ same-images cs (R pairs rs (encode cs) i .sent) gc ab
+
+    pub decode-is : decode (R pairs rs (encode cs) i .image) ≡ C i
+    decode-is = ap decode image-is ∙ goodEncodes (C i) cards-good .same
+
+    pub fits-here : i < length rs → FitsCommand (writeOf pairs (R pairs rs (encode cs) i .image) (recordIn rs i))
+    fits-here h =
+        fits-write pairs (R pairs rs (encode cs) i .image) (recordIn rs i) fp
+        (subst (λ (d : Cards). FitsEntry (getD (d .cards) (recordCard (recordIn rs i)) noCard .entry)) (sym decode-is) (entry-fits (C i) cards-good (recordCard (recordIn rs i))))
+        (fit i h .0)
+        (fit i h .1)
+
+  pub all-bytes : (i : ℕ) → i ≤ length rs → AllBytes (R pairs rs (encode cs) i .sent)
+  unfolding recovering
+  all-bytes zero h = tt
+  all-bytes (suc i) h = go (next pairs rs (encode cs) i) (all-bytes i (omega arith))
+    where
+      go : Idle pairs rs (encode cs) i ⊎ Sends pairs rs (encode cs) i → AllBytes (R pairs rs (encode cs) i .sent) → AllBytes (R pairs rs (encode cs) (suc i) .sent)
+      go (inl idle) b = subst (λ (r : Recovery). AllBytes (r .sent)) (sym (idle .same)) b
+      go (inr s) b =
+          subst (λ (r : Recovery). AllBytes (r .sent)) (sym (s .now))
+          (applied-bytes i (S pairs rs (encode cs) i) (R pairs rs (encode cs) i) (sent-bytes pairs (R pairs rs (encode cs) i .image) (recordIn rs i) (fits-here i b h) (fit i h .0)) b)
+
+-- A run from a good log of bytes.
+pub fits-log : (log : List ℕ) → Bytes log → goodLog log ≡ true → FitsRecords (records log)
+unfolding recordAt
+fits-log log lb g i h =
+    let k : i < recordCount log = rw (length-records log) at h in
+    let same : recordAt log i ≡ recordIn (records log) i = sym (record-of log i k) in (
+      subst (λ (r : LogRecord). Bytes (r .body)) same (Bytes-part (startAt log i) (lengthAt log i) log lb),
+      subst (λ (r : LogRecord). length (r .body) < 65536) same (short-record log g i k),
+    )
+
+pub recovered-bytes : (pairs : Pairs) (log : List ℕ) (cs : Cards) → GoodCards cs → FitsPairs pairs → Bytes log → AllBytes (recovered pairs log (encode cs) .sent)
+unfolding recovered
+recovered-bytes pairs log cs gc fp lb = go (goodLog log) refl
+  where
+    go : (g : Bool) → goodLog log ≡ g → AllBytes (recovered pairs log (encode cs) .sent)
+    go true e = rw e (all-bytes pairs (records log) cs gc fp (fits-log log lb e) (length (records log)) (omega arith))
+    go false e = rw e tt
+
+-- ---- mixed lists
+
+after-append : (start : List ℕ) (a b : List Sent) → imageAfter start (a ++ b) ≡ imageAfter (imageAfter start b) a
+unfolding imageAfter
+after-append start [] b = refl
+after-append start (s ∷ a) b = ap (λ (im : List ℕ). serve im (s .command) (s .lent) .image) (after-append start a b)
+
+pub same-mixed : (start : List ℕ) (deeds : List Deed) → imageAfterDeeds start deeds ≡ imageAfter start (requestsOfDeeds start deeds)
+unfolding imageAfterDeeds requestsOfDeeds imageAfter
+same-mixed start [] = refl
+same-mixed start (oneRequest s ∷ before) = ap (λ (im : List ℕ). serve im (s .command) (s .lent) .image) (same-mixed start before)
+same-mixed start (oneRecovery pairs log ∷ before) =
+    recovers pairs log (imageAfterDeeds start before) .sends
+    ∙ ap (λ (im : List ℕ). imageAfter im (recovered pairs log (imageAfterDeeds start before) .sent)) (same-mixed start before)
+    ∙ sym (after-append start (recovered pairs log (imageAfterDeeds start before) .sent) (requestsOfDeeds start before))
+
+bytes-append : (a b : List Sent) → AllBytes a → AllBytes b → AllBytes (a ++ b)
+bytes-append [] b x y = y
+bytes-append (s ∷ a) b x y = (x .0, bytes-append a b (x .1) y)
+
+bytes-reverse : (sent more : List Sent) → AllBytes sent → AllBytes more → AllBytes (reverseAux sent more)
+bytes-reverse [] more b m = m
+bytes-reverse (s ∷ sent) more b m = bytes-reverse sent (s ∷ more) (b .1) (b .0, m)
+
+pub bytes-mixed : (cs : Cards) → GoodCards cs → (deeds : List Deed) → FitsDeeds deeds → AllBytes (requestsOfDeeds (encode cs) deeds)
+unfolding requestsOfDeeds
+bytes-mixed cs g [] f = tt
+bytes-mixed cs g (oneRequest s ∷ before) f = (f .0, bytes-mixed cs g before (f .1))
+bytes-mixed cs g (oneRecovery pairs log ∷ before) f =
+    let old = bytes-mixed cs g before (f .1) in
+    let here : imageAfterDeeds (encode cs) before ≡ encode (cardsFrom cs (requestsOfDeeds (encode cs) before)) =
+    same-mixed (encode cs) before ∙ same-images cs (requestsOfDeeds (encode cs) before) g old in
+    bytes-append (recovered pairs log (imageAfterDeeds (encode cs) before) .sent) (requestsOfDeeds (encode cs) before)
+    (subst (λ (im : List ℕ). AllBytes (recovered pairs log im .sent)) (sym here)
+    (recovered-bytes pairs log (cardsFrom cs (requestsOfDeeds (encode cs) before)) (all-good cs (requestsOfDeeds (encode cs) before) g old) (f .0 .0) (f .0 .1)))
+    old
+
+pub demand3-mixed : Demand3Mixed
+demand3-mixed n c shape deeds f =
+    let fr = freshSound n c shape in
+    let bytes : AllBytes (requestsOfDeeds (fresh n c) deeds) =
+    subst (λ (im : List ℕ). AllBytes (requestsOfDeeds im deeds)) (fr .cards) (bytes-mixed (freshCards n c) (fr .good) deeds f) in
+    record {
+      same = same-mixed (fresh n c) deeds;
+      demand3 = demand3 n c shape (reverse (requestsOfDeeds (fresh n c) deeds)) (bytes-reverse (requestsOfDeeds (fresh n c) deeds) [] bytes tt);
+    }

@@ -1,0 +1,141 @@
+-- What is claimed of recovery. Proved in proofs/.
+-- Assumes nothing.
+use Prim.Native.Nat.{ℕ, zero, suc}
+use mathlib.Core.Path.{_≡_}
+use mathlib.Core.Logic.{_⊎_, _↔_}
+use mathlib.Core.List.{List, [], _∷_, _++_, reverse}
+use mathlib.Core.Bool.{Bool, true, false, cond, not, _&&_}
+use lib.ListN.{length, getD}
+use lib.Dec.{T, eqb}
+use Rattle.lists.specs.Parts.{Bytes}
+use Rattle.image.specs.Layout.{shapeOk}
+use Rattle.commands.specs.Command.{Language, original, translation}
+use Rattle.image.specs.Image.{fresh, text, noCard, decode, sound}
+use Rattle.model.specs.Serve.{serve}
+use Rattle.model.specs.Words.{Sent, Event, imageAfter, history, logOf}
+use Rattle.model.specs.Claims.{SentBytes, Claim}
+use Rattle.redo_log.specs.Log.{LogRecord, recordCard, recordSide, recordText, goodLog, records}
+use Rattle.redo_log.specs.Append.{appendNumber, appended}
+use Rattle.redo_log_claims.specs.Claims.{admittedOf, wholly, cutAfter, BytesOfRecords}
+use Rattle.stamps.specs.Stamp.{exclusive}
+use Rattle.commands.specs.Command.{update}
+use Rattle.commands.specs.Bytes.{fieldsOf}
+use Rattle.recovery_model.specs.Recovery.{Pairs, FitsPairs, Recovery, recordIn, due, recoveryPair, recovered}
+
+-- ---- recovery's requests and its answer (rules 11.18 and 11.19)
+
+-- Every event was answered with 0.
+abbrev pub AllTaken : List Event → Type 0
+AllTaken [] = Unit {0}
+AllTaken (e ∷ log) = (e .answer .number ≡ 0) × AllTaken log
+
+-- Events, latest first: the latest was answered with the number, all before it with 0.
+abbrev pub StopsWith : ℕ → List Event → Type 0
+StopsWith number [] = Unit {0}
+StopsWith number (e ∷ log) = (e .answer .number ≡ number) × AllTaken log
+
+pub record Recovers (pairs : Pairs) (log image : List ℕ) : Type 0 where
+  -- the image is the one after its requests, each a request by itself, and nothing else
+  pub sends : recovered pairs log image .image ≡ imageAfter image (recovered pairs log image .sent)
+  -- it stops at the first request that is refused, and answers its number
+  pub stops : StopsWith (recovered pairs log image .number) (history image (recovered pairs log image .sent))
+  -- 23 comes exactly for a bad log, and then nothing is sent
+  pub bad : (recovered pairs log image .number ≡ 23) ↔ (goodLog log ≡ false)
+  pub silent : goodLog log ≡ false → recovered pairs log image .sent ≡ []
+  -- line 0 is never that of a refused write: it comes exactly with 0 and with 23
+  pub line : (recovered pairs log image .line ≡ 0) ↔ ((recovered pairs log image .number ≡ 0) ⊎ (recovered pairs log image .number ≡ 23))
+
+abbrev pub RecoversAll : Type 0
+RecoversAll = (pairs : Pairs) (log image : List ℕ) → Recovers pairs log image
+
+-- ---- recovery's requests stand in demand 3's list (rule 11.20)
+
+-- What is done to a store: one request, or a recovery with some pairs from some log.
+pub data Deed : Type 0 where
+  oneRequest : Sent → Deed
+  oneRecovery : Pairs → List ℕ → Deed
+
+-- The image after deeds, latest first, and all the requests that were sent, latest first.
+unfoldable pub imageAfterDeeds : List ℕ → List Deed → List ℕ
+imageAfterDeeds start [] = start
+imageAfterDeeds start (oneRequest s ∷ before) = serve (imageAfterDeeds start before) (s .command) (s .lent) .image
+imageAfterDeeds start (oneRecovery pairs log ∷ before) = recovered pairs log (imageAfterDeeds start before) .image
+
+unfoldable pub requestsOfDeeds : List ℕ → List Deed → List Sent
+requestsOfDeeds start [] = []
+requestsOfDeeds start (oneRequest s ∷ before) = s ∷ requestsOfDeeds start before
+requestsOfDeeds start (oneRecovery pairs log ∷ before) = recovered pairs log (imageAfterDeeds start before) .sent ++ requestsOfDeeds start before
+
+-- Deeds of bytes, and of stamps that fit.
+abbrev pub FitsDeeds : List Deed → Type 0
+FitsDeeds [] = Unit {0}
+FitsDeeds (oneRequest s ∷ before) = SentBytes s × FitsDeeds before
+FitsDeeds (oneRecovery pairs log ∷ before) = (FitsPairs pairs × Bytes log) × FitsDeeds before
+
+-- Any mixture of requests and recoveries from a fresh image is one list of requests, and demand 3 holds of it.
+pub record Mixed (n c : ℕ) (deeds : List Deed) : Type 0 where
+  pub same : imageAfterDeeds (fresh n c) deeds ≡ imageAfter (fresh n c) (requestsOfDeeds (fresh n c) deeds)
+  pub demand3 : Claim n (reverse (requestsOfDeeds (fresh n c) deeds)) (logOf n c (reverse (requestsOfDeeds (fresh n c) deeds)))
+
+abbrev pub Demand3Mixed : Type 0
+Demand3Mixed = (n c : ℕ) → T (shapeOk n c) → (deeds : List Deed) → FitsDeeds deeds → Mixed n c deeds
+
+-- Every request is exclusive and under the pair given for its card.
+abbrev pub AllUnder : Pairs → List Sent → Type 0
+AllUnder pairs [] = Unit {0}
+AllUnder pairs (s ∷ sent) =
+    ((fieldsOf (s .command) .mode ≡ exclusive) × (update (fieldsOf (s .command)) ≡ recoveryPair pairs (fieldsOf (s .command) .card))) × AllUnder pairs sent
+
+abbrev pub Under : Type 0
+Under =
+    (pairs : Pairs) (log image : List ℕ) → FitsPairs pairs → Bytes log → Bytes image → sound image ≡ true
+    → AllUnder pairs (recovered pairs log image .sent)
+
+-- ---- the texts that recovery leaves (rule 11.21)
+
+abbrev pub textIn : List ℕ → Language → ℕ → List ℕ
+textIn image l k = text l (getD (decode image .cards) k noCard)
+
+-- The side of an update that is of a language.
+abbrev pub sideIs : Language → ℕ → Bool
+sideIs original side = eqb side 1
+sideIs (translation zero) side = not (eqb side 1)
+sideIs (translation (suc t)) side = false
+
+-- Record i is due and of card k and language l.
+abbrev pub rewrites : List LogRecord → Language → ℕ → ℕ → Bool
+rewrites rs l k i = due rs i && (eqb (recordCard (recordIn rs i)) k && sideIs l (recordSide (recordIn rs i)))
+
+-- The text of card k in language l after the first i records: that of the last such update, else as it was.
+unfoldable pub rewritten : List LogRecord → Language → ℕ → ℕ → List ℕ → List ℕ
+rewritten rs l k zero start = start
+rewritten rs l k (suc i) start = cond (rewrites rs l k i) (recordText (recordIn rs i)) (rewritten rs l k i start)
+
+-- The text that records leave of one that stood there: the last update of it that is due, so of a committed transaction alone.
+abbrev pub textOf : List LogRecord → Language → ℕ → List ℕ → List ℕ
+textOf rs l k start = rewritten rs l k (length rs) start
+
+-- Appends to a good log, the power failing after the first `stores` of all their stores, and then a recovery that answers 0: each text is that which
+-- the records leave that stood in the log or were wholly appended.
+abbrev pub CutAnywhere : Type 0
+CutAnywhere =
+    (stores : ℕ) (log : List ℕ) (rs : List LogRecord) → goodLog log ≡ true
+    → (pairs : Pairs) (image : List ℕ) → FitsPairs pairs → Bytes log → BytesOfRecords rs → Bytes image → sound image ≡ true
+    → recovered pairs (cutAfter stores log rs) image .number ≡ 0
+    → (l : Language) (k : ℕ)
+    → textIn (recovered pairs (cutAfter stores log rs) image .image) l k ≡ textOf (records log ++ wholly stores (admittedOf log rs)) l k (textIn image l k)
+
+-- Recovery from a log whose append was cut is recovery from the log before it.
+abbrev pub CutRecovers : Type 0
+CutRecovers =
+    (budget : ℕ) (log : List ℕ) (r : LogRecord) → appendNumber budget log r ≡ 26
+    → (pairs : Pairs) (image : List ℕ) → recovered pairs (appended budget log r) image ≡ recovered pairs log image
+
+-- A second run, under other pairs if need be, leaves the texts as the first did, where neither has a write refused.
+abbrev pub Twice : Type 0
+Twice =
+    (pairs again : Pairs) (log image : List ℕ) → FitsPairs pairs → FitsPairs again → Bytes log → Bytes image → sound image ≡ true
+    → recovered pairs log image .number ≡ 0
+    → recovered again log (recovered pairs log image .image) .number ≡ 0
+    → (l : Language) (k : ℕ)
+    → textIn (recovered again log (recovered pairs log image .image) .image) l k ≡ textIn (recovered pairs log image .image) l k

@@ -1,0 +1,32 @@
+use native.Mathlib.Omega.{arith}
+use Rattle.redo_log.proofs.Reading.{last-kept, last-new}
+use Rattle.redo_log.proofs.Records.{ok-inside, begin-length}
+use mathlib.Core.Path.{sym, _∙_}
+use borrow.Author.Needs.{needs}
+use Rattle.redo_log.proofs.inner.reading.last_after.Statement.{statement}
+use Rattle.redo_log.proofs.inner.reading.last_after.Tie as tie
+use Rattle.redo_log.proofs.inner.reading.last_after.Reads as reads
+use Rattle.redo_log.proofs.inner.reading.last_after.Lts as lts
+use Rattle.slices.proofs.inner.fixed_width.read_u32.Reads as read-u32-reads
+
+mul-if1 : tie.Need-mul-if1
+mul-if1 c = search needs
+
+add-if1 : tie.Need-add-if1
+add-if1 c = search needs
+
+shared-slice-read-if1 : tie.Need-shared-slice-read-if1
+shared-slice-read-if1 c = search needs
+
+returns : tie.Need-returns
+returns c = c .before .before .before .pre .4 ∙ sym (last-kept (c .before .before .before .args .log .now) (c .before .before .before .args .i) (c .if1 .taken))
+
+read-u32-requires : tie.Need-read-u32-requires
+read-u32-requires c κs = omega (arith, ok-inside (c .before .before .before .args .log .now) (c .before .before .before .args .i) (c .before .before .before .pre .5), begin-length (c .before .before .before .args .log .now) (c .before .before .before .args .i) (c .before .before .before .pre .5) (c .if1 .left))
+
+returns-2 : tie.Need-returns-2
+returns-2 c = rw (c .read-u32 .ensures, c .before .before .before .before .pre .3) (sym (last-new (c .before .before .before .before .args .log .now) (c .before .before .before .before .args .i) (c .before .before .before .before .pre .5) (c .before .if1 .left)))
+
+pub last-after-spec : {M : Type 1} → statement M
+last-after-spec =
+    tie.close (tie.spec mul-if1 add-if1 shared-slice-read-if1 returns read-u32-requires returns-2)

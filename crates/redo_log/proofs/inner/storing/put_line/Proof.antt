@@ -1,0 +1,71 @@
+use native.Mathlib.Omega.{arith}
+use Rattle.redo_log.proofs.Budget.{line-put}
+use borrow.Author.Needs.{needs}
+use Rattle.redo_log.proofs.inner.storing.put_line.Statement.{statement}
+use Rattle.redo_log.proofs.inner.storing.put_line.Tie as tie
+use Rattle.redo_log.proofs.inner.storing.put_line.Reads as reads
+use Rattle.redo_log.proofs.inner.storing.put_line.Lts as lts
+use Rattle.redo_log.proofs.inner.storing.left.Reads as left-reads
+use Rattle.redo_log.proofs.inner.storing.put_number.Reads as put-number-reads
+use Rattle.redo_log.proofs.inner.reading.sum_of.Reads as sum-of-reads
+
+put-number-requires : tie.Need-put-number-requires
+put-number-requires c κs = search needs
+
+add-put-number : tie.Need-add-put-number
+add-put-number c = search needs
+
+left-requires : tie.Need-left-requires
+left-requires c κs = search needs
+
+put-number-requires-2 : tie.Need-put-number-requires-2
+put-number-requires-2 c κs = search needs
+
+add-put-number-2 : tie.Need-add-put-number-2
+add-put-number-2 c = search needs
+
+left-requires-2 : tie.Need-left-requires-2
+left-requires-2 c κs = search needs
+
+put-number-requires-3 : tie.Need-put-number-requires-3
+put-number-requires-3 c κs = search needs
+
+add-put-number-3 : tie.Need-add-put-number-3
+add-put-number-3 c = search needs
+
+sum-of-requires : tie.Need-sum-of-requires
+sum-of-requires c κs = search needs
+
+cast-put-number : tie.Need-cast-put-number
+cast-put-number c = search needs
+
+left-requires-3 : tie.Need-left-requires-3
+left-requires-3 c κs = search needs
+
+put-number-requires-4 : tie.Need-put-number-requires-4
+put-number-requires-4 c κs = search needs
+
+same-length : tie.Need-same-length
+same-length c = search needs
+
+returns : tie.Need-returns
+returns c = rw (c .before .before .put-number4 .ensures, c .before .before .before .left3 .ensures, c .before .before .before .before .before .before .before .before .put-number3 .ensures, c .before .before .before .before .before .before .before .before .before .left2 .ensures, c .before .before .before .before .before .before .before .before .before .before .before .before .before .put-number2 .ensures, c .before .before .before .before .before .before .before .before .before .before .before .before .before .before .left .ensures, c .before .before .before .before .before .before .before .before .before .before .before .before .before .before .before .before .before .before .put-number .ensures) (line-put (c .before .before .before .before .before .before .before .before .before .before .before .before .before .before .before .before .before .before .before .before .before .before .args .budget) (c .before .before .before .before .before .before .before .before .before .before .before .before .before .before .before .before .before .before .before .before .before .before .args .at) (c .before .before .before .before .before .before .before .before .before .before .before .before .before .before .before .before .before .before .before .before .before .before .args .kind) (c .before .before .before .before .before .before .before .before .before .before .before .before .before .before .before .before .before .before .before .before .before .before .args .place) _ (c .before .before .before .before .before .before .before .before .before .before .before .before .before .before .before .before .before .before .before .before .before .before .args .body .now) (c .before .before .before .before .before .before .before .before .before .before .before .before .before .before .before .before .before .before .before .before .before .before .args .log .now) (c .before .before .before .before .before .before .before .before .before .before .before .before .before .before .before .before .before .before .before .before .before .before .pre .0) (omega (arith, c .before .before .before .before .before .before .before .before .before .before .before .before .before .before .before .before .before .before .before .before .before .before .fits .kind)) (c .before .before .before .before .sum-of .ensures))
+
+pub put-line-spec : {M : Type 1} → statement M
+put-line-spec =
+    tie.close
+    (tie.spec
+    put-number-requires
+    add-put-number
+    left-requires
+    put-number-requires-2
+    add-put-number-2
+    left-requires-2
+    put-number-requires-3
+    add-put-number-3
+    sum-of-requires
+    cast-put-number
+    left-requires-3
+    put-number-requires-4
+    same-length
+    returns)

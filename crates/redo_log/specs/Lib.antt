@@ -1,0 +1,3 @@
+pub mod Log
+pub mod Append
+pub mod Scanned

@@ -1,0 +1,3 @@
+// What other crates need, and what asks something of its caller.
+pub mod reading;
+pub mod storing;

@@ -1,0 +1,94 @@
+//! Recovery from a desk's redo log, through the guard (request 6).
+
+use crate::command::CommandFields;
+use crate::image::Layout;
+use crate::log::{read_back, Logged, Record};
+use crate::number::{ACCEPTED, BAD_LOG};
+use crate::stamp::Pair;
+use crate::store::answer;
+
+/// What recovery answers.
+#[derive(Clone, Copy, Debug, PartialEq, Eq, Hash)]
+pub struct Recovered {
+    /// 0, 23, or the number of the write that was refused.
+    pub number: u8,
+    /// The line of the record whose write was refused, else 0.
+    pub line: u64,
+}
+
+/// Applies the updates of a log to an image, each under the exclusive pair
+/// given for its card in `s` and `x`.
+pub fn recover(log: &[u8], image: &mut [u8], s: &[u64], x: &[u64]) -> Recovered {
+    recover_by(log, image, s, x, |image, command| {
+        answer(image, command, &mut []).number
+    })
+}
+
+/// The same, with each write handed to `send`, which judges it on the image
+/// and answers its number.
+pub fn recover_by(
+    log: &[u8],
+    image: &mut [u8],
+    s: &[u64],
+    x: &[u64],
+    mut send: impl FnMut(&mut [u8], &[u8]) -> u8,
+) -> Recovered {
+    let Some(read) = read_back(log) else {
+        return Recovered {
+            number: BAD_LOG,
+            line: 0,
+        };
+    };
+    for (line, logged) in (0..).zip(&read.records) {
+        let Some(command) = write(&read.records, logged, image, s, x) else {
+            continue;
+        };
+        let number = send(image, &command);
+        if number != ACCEPTED {
+            return Recovered { number, line };
+        }
+    }
+    Recovered {
+        number: ACCEPTED,
+        line: 0,
+    }
+}
+
+/// The write of a record that is to be applied, as a command.
+fn write(
+    records: &[Logged],
+    logged: &Logged,
+    image: &[u8],
+    s: &[u64],
+    x: &[u64],
+) -> Option<Vec<u8>> {
+    let Record::Update { card, side, text } = logged.record else {
+        return None;
+    };
+    let transaction = logged.transaction;
+    let committed = |other: &Logged| other.record == Record::Commit(transaction);
+    let synced = |other: &Logged| match other.record {
+        Record::Synced {
+            card: of,
+            transaction: since,
+        } => of == card && since >= transaction,
+        _ => false,
+    };
+    if !records.iter().any(committed) || records.iter().any(synced) {
+        return None;
+    }
+    let stored = Layout::of_sound(image).and_then(|layout| layout.entry(image, card));
+    let stored = stored.unwrap_or_default();
+    let stamp = |stamps: &[u64]| stamps.get(usize::from(card)).copied().unwrap_or(0);
+    let fields = CommandFields {
+        act: if side == 1 { 3 } else { 4 },
+        mode: 2,
+        card,
+        pair: Pair::new(stamp(s), stamp(x)),
+        expected: stored.mark,
+        next: stored.mark,
+        edition: if side == 1 { 0 } else { stored.edition },
+        ..CommandFields::default()
+    };
+    Some(fields.with_payload(text))
+}
