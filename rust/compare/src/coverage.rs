@@ -117,10 +117,13 @@ kinds! {
     Regrouped 1 "lists sent again card after card"
 }
 
-/// The largest number that any operation answers with, and those that some
-/// operation gives today.
+/// The largest number that any operation answers with.
 const MOST: usize = 26;
-pub const GIVEN: &[usize] = &[0, 1, 2, 3, 4, 5, 6, 7, 8, 9, 10, 11, 12, 13, 14, 15, 16, 18, 19, 20, 21, 22, 23, 24, 25, 26];
+
+/// The numbers that some operation gives today.
+pub const GIVEN: &[usize] = &[
+    0, 1, 2, 3, 4, 5, 6, 7, 8, 9, 10, 11, 12, 13, 14, 15, 16, 18, 19, 20, 21, 22, 23, 24, 25, 26,
+];
 
 /// What was run.
 pub struct Run {

@@ -9,7 +9,10 @@ use std::time::{Instant, SystemTime, UNIX_EPOCH};
 
 use compare::coverage::Run;
 use compare::run::Compared;
-use compare::{answers, desks, history, images, lapses, lists, logs, program, proposals, queues, streams, swaps, systems, texts, trials, upgrades};
+use compare::{
+    answers, desks, history, images, lapses, lists, logs, program, proposals, queues, streams,
+    swaps, systems, texts, trials, upgrades,
+};
 use second::random::Random;
 
 /// The fixed seed and the cases of `make test`, and its inputs to the program.
