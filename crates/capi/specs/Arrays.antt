@@ -43,7 +43,7 @@ queueOf modes s x kept =
 abbrev pub keptOf : State → List ℕ
 keptOf q = q .count ∷ q .largest .s ∷ q .largest .x ∷ []
 
--- "Whether that desk holds the lock .., largest pair .., and how many entries were looked at".
+-- The queue's answer as numbers (rule 7.14): 1 if the desk holds the lock, else 0; the largest s and x; how many entries were looked at.
 abbrev pub answerOf : LockAnswer → List ℕ
 answerOf a = cond (a .holds) 1 0 ∷ a .largest .s ∷ a .largest .x ∷ a .looked ∷ []
 

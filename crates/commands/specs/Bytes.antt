@@ -1,4 +1,4 @@
--- A command in bytes (the sheet, "A command").
+-- A command in bytes (rules 3.1 and 3.3).
 -- Assumes nothing.
 use Prim.Native.Nat.{ℕ, _+_}
 use mathlib.Core.List.{List, [], _∷_, _++_}
@@ -14,11 +14,11 @@ use Rattle.commands.specs.Command.{wellFormed}
 use Rattle.commands.specs.declared.Parsed.{Parsed}
 use Rattle.commands.specs.declared.Parsed.the-variants.{Malformed, Formed}
 
--- "52 bytes, then its payload".
+-- The bytes in front of the payload (rule 3.1).
 abbrev pub fixed : ℕ
 fixed = 52
 
--- "36 expected commit desk u16; 38 expected transaction u32; 42 next desk u16; 44 next transaction u32".
+-- A commit mark at an offset (rule 3.1): the expected one at 36, the next one at 42.
 abbrev pub markAt : ℕ → List ℕ → Mark
 markAt at bytes = record { desk = field at 2 bytes; transaction = field (at + 2) 4 bytes }
 
@@ -39,8 +39,7 @@ fieldsOf bytes =
 unfoldable pub payload : List ℕ → List ℕ
 payload bytes = drop fixed bytes
 
--- Lent bytes are a command: exactly 52 plus length ("Lent bytes that are not exactly 52 plus length are malformed"), "20 sixteen zeros",
--- and the rules of its numbers.
+-- Lent bytes are a command (rule 3.3): as long as they say, with zeros at 20, and numbers by the rules.
 unfoldable pub formed : List ℕ → Bool
 formed bytes = eqb (length bytes) (fixed + field 50 2 bytes) && zeros (part 20 16 bytes) && wellFormed (fieldsOf bytes)
 

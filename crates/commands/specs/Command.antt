@@ -1,4 +1,4 @@
--- A command: its numbers and its rules (the sheet, "A command").
+-- A command: its numbers and its rules (rules 3.2 and 3.3).
 -- Assumes nothing.
 use Prim.Native.Nat.{ℕ, zero, suc, _<_}
 use mathlib.Core.List.{List, [], _∷_, _++_}
@@ -14,7 +14,7 @@ pub data Language : Type 0 where
   original : Language
   translation : ℕ → Language
 
--- "Acts: 1 read original, 2 read translation, 3 write original, 4 write translation, 5 verify."
+-- Which act reads and which writes a language (rule 3.2).
 abbrev pub reads : Language → Command → Bool
 reads original c = eqb (c .act) 1
 reads (translation zero) c = eqb (c .act) 2
@@ -36,7 +36,7 @@ verifier c = c .pair
 abbrev pub update : Command → Pair
 update c = c .pair
 
--- "A session is a card, a desk, a mode and a pair."
+-- Rule 1.6.
 pub record Session : Type 0 where
   pub card : ℕ
   pub desk : ℕ
@@ -51,13 +51,13 @@ abbrev pub checks : Command → List Bool
 checks c =
     -- acts are 1 to 5
     (leb 1 (c .act) && leb (c .act) 5)
-    -- "Writes must be exclusive."
+    -- a write is exclusive
     ∷ (not (isWrite c) || eqb (c .mode) exclusive)
-    -- "Edition is nonzero for act 4 and zero for every other act"
+    -- act 4 names an edition, and no other act does
     ∷ Bool·beq (eqb (c .act) 4) (not (eqb (c .edition) 0))
-    -- "length is zero unless act 3 or 4"
+    -- only a write has a payload
     ∷ (eqb (c .length) 0 || isWrite c)
-    -- the mode, "stamps are valid", and the mode's own stamp is nonzero; "each commit mark is both zero or both not"
+    -- the mode and its stamps (rule 1.4), and both marks (rule 1.7)
     ∷ (sessionChecks (c .mode) (update c) ++ (markWhole (c .expected) ∷ markWhole (c .next) ∷ []))
 
 unfoldable pub wellFormed : Command → Bool

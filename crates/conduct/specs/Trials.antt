@@ -241,6 +241,7 @@ oneFarAbove =
     ∷ send (writeUnder (stamp 1 3 0) (stamp 0 1 0) text401)
     ∷ []
 
+-- Rule 10.15.
 pub record RulesNeeded : Type 0 where
   -- rule 10.9: desk 1 starts again under the same start, and proposes its old exclusive stamp with a larger s
   pub start-again : BrokenBy (threeAsks ++ (oneWrites ++ twoReads)) (begin deskOne) oneAbove

@@ -1,4 +1,4 @@
--- What is claimed of the text that a desk shows (the sheet, "What a desk shows").
+-- What is claimed of the text that a desk shows (rules 6.2 and 6.3).
 -- Assumes nothing.
 use Prim.Native.Nat.{ℕ, suc}
 use mathlib.Core.Path.{_≡_}
@@ -36,7 +36,7 @@ pub record Alike (asked : Asked) (o t o' t' : Text) : Type 0 where
   pub size : length (of (other asked) o t .buffer) ≡ length (of (other asked) o' t' .buffer)
   pub long : of (other asked) o t .length ≡ of (other asked) o' t' .length
 
--- "Neither language ever stands in for the other."
+-- Rule 6.3: what is shown of one language does not depend on what the other buffer holds.
 pub record Independent (asked : Asked) (o t o' t' : Text) (edition from : ℕ) : Type 0 where
   pub number : shownNumber o t edition from asked ≡ shownNumber o' t' edition from asked
   pub part : shownPart o t edition from asked ≡ shownPart o' t' edition from asked

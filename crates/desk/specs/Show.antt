@@ -1,4 +1,4 @@
--- The text that a desk shows (the sheet, "What a desk shows").
+-- The text that a desk shows (rules 6.1 to 6.3).
 -- Assumes nothing.
 use Prim.Native.Nat.{ℕ}
 use mathlib.Core.List.{List, [], _∷_}
@@ -10,8 +10,7 @@ use Rattle.lists.specs.Table.{Row, row, first, settled}
 use Rattle.desk.specs.declared.Asked.{Asked}
 use Rattle.desk.specs.declared.Asked.the-variants.{Original, Translation}
 
--- "A desk holds one buffer with the original and one with the translation, their lengths, .. all at its own word": a buffer, and how
--- many of its first bytes are the text.
+-- Rule 6.1: a buffer, and how many of its first bytes are the text.
 pub record Text : Type 0 where
   pub buffer : List ℕ
   pub length : ℕ
@@ -32,7 +31,7 @@ beyond t = ltb (length (t .buffer)) (t .length)
 abbrev pub behindAsked : ℕ → ℕ → Asked → Bool
 behindAsked edition from asked = of asked false (behind edition from)
 
--- "Either length beyond its buffer gets 8, checked first, ..; a translation asked for and behind gets 6".
+-- Rule 6.2, in its order.
 abbrev pub showRows : Bool → Bool → List Row
 showRows long late = row long REPLY-SHORT ∷ row late EDITION-WRONG ∷ []
 
@@ -43,7 +42,7 @@ deskRows original translation edition from asked =
 abbrev pub shownNumber : Text → Text → ℕ → ℕ → Asked → ℕ
 shownNumber original translation edition from asked = first (deskRows original translation edition from asked)
 
--- "The shown text is handed back as a part of one of two lent buffers: the language asked for", and after a refusal "an empty part" of it.
+-- Rule 6.3: a front part of the buffer asked for, an empty one after a refusal.
 abbrev pub shownPart : Text → Text → ℕ → ℕ → Asked → List ℕ
 shownPart original translation edition from asked =
     take (settled (shownNumber original translation edition from asked) (of asked original translation .length) 0)

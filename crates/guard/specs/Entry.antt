@@ -1,4 +1,4 @@
--- A stored entry within its fields' widths, and its rules (the sheet, "The image").
+-- A stored entry within its fields' widths, and its rules (rules 2.4 and 2.6).
 -- Assumes nothing.
 use Prim.Native.Nat.{ℕ, _<_}
 use mathlib.Core.List.{List, [], _∷_}
@@ -12,8 +12,8 @@ use Rattle.guard.specs.declared.Entry.{Entry}
 abbrev pub noEntry : Entry
 noEntry = record { pair = noPair; mark = noMark; edition = 0; from = 0; original = 0; translation = 0 }
 
--- The rules of an entry, one test for each: "stamps are valid; commit desk and transaction are both zero or both not; lengths are at most C;
--- translated-from is at most edition; edition 0 has length 0; translated-from 0 has translation length 0".
+-- The rules of an entry (rule 2.6), one test for each: stamps, mark, both lengths within the room, translated-from no newer than the edition, and no text
+-- without an edition.
 abbrev pub entryChecks : ℕ → Entry → List Bool
 entryChecks room e =
     stampValid (e .pair .s)

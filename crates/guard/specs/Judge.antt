@@ -1,4 +1,4 @@
--- How an entry judges a command: the table's rows and the raised entry (the sheet, "How the guard judges" and "When the store says no").
+-- How an entry judges a command: the table's rows and the raised entry (rules 4.1 to 4.6).
 -- Assumes nothing.
 use Prim.Native.Nat.{ℕ, zero, suc, _+_}
 use mathlib.Core.List.{List, [], _∷_}
@@ -11,7 +11,7 @@ use Rattle.commands.specs.declared.Command.{Command}
 use Rattle.guard.specs.declared.Entry.{Entry}
 use Rattle.guard.specs.declared.Judged.{Judged}
 
--- ---- The numbers of the table, each by its name. 0 is accepted, 1 (`MALFORMED`) stands with the rules of stamps.
+-- ---- The numbers of the table (rule 5.1), each by its name. 0 is accepted, 1 (`MALFORMED`) stands with the rules of stamps.
 
 -- 2: no such card.
 abbrev pub NO-CARD : ℕ
@@ -42,7 +42,7 @@ UNSOUND = 9
 
 -- ---- The rows.
 
--- "A translation is behind if translated-from is 0 or is not the edition."
+-- Rule 4.6.
 abbrev pub behind : ℕ → ℕ → Bool
 behind edition from = eqb from 0 || not (eqb from edition)
 
@@ -60,16 +60,16 @@ textLength (translation (suc t)) e = 0
 abbrev pub overruns : Language → Entry → Command → ℕ → Bool
 overruns l e c lent = reads l c && ltb lent (textLength l e)
 
--- 6: "act 2: behind; act 4: named edition is not the stored one".
+-- Row 6: a read of a translation that is behind, or a write of one for another edition than the stored.
 abbrev pub wrongEdition : Entry → Command → Bool
 wrongEdition e c =
     reads (translation 0) c && behind (e .edition) (e .from) || writes (translation 0) c && not (eqb (c .edition) (e .edition))
 
--- 7: "act 3 at edition 65,535".
+-- Row 7: a write of the original that no edition is left for.
 abbrev pub editionsSpent : Entry → Command → Bool
 editionsSpent e c = writes original c && eqb (e .edition) lastEdition
 
--- 8: "text longer than the lent reply buffer", for reads.
+-- Row 8: a read whose text does not fit into the reply buffer.
 abbrev pub replyShort : Entry → Command → ℕ → Bool
 replyShort e c lent = overruns original e c lent || overruns (translation 0) e c lent
 
@@ -88,8 +88,8 @@ entryRows e c room lent =
 abbrev pub judgeRows : Entry → Command → ℕ → ℕ → List Row
 judgeRows e c room lent = row (not (wellFormed c)) MALFORMED ∷ entryRows e c room lent
 
--- The entry after an accepted command: "sets stored s and x each to the larger of old and new, and the stored mark to the next mark";
--- "writing an original raises the edition by 1"; a translation's named edition "becomes translated-from".
+-- The entry after an accepted command: the larger of each stamp and the next mark (rule 4.4); a write of the original counts one edition
+-- more, a write of the translation keeps the edition that it names (rule 4.5).
 unfoldable pub raise : Entry → Command → Entry
 raise e c =
     record {
@@ -101,7 +101,7 @@ raise e c =
       translation = cond (writes (translation 0) c) (c .length) (e .translation);
     }
 
--- "In the library a card's entry takes a command and comes back as the new entry": the number, and the entry as it now is.
+-- The entry takes a command: the number, and the entry as it then is.
 unfoldable pub judged : Entry → Command → ℕ → ℕ → Judged
 judged e c room lent =
     record {

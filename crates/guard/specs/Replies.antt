@@ -1,4 +1,4 @@
--- What is answered: the reply fields of a number and an entry (the sheet, "When the store says no").
+-- What is answered: the reply fields of a number and an entry (rule 4.8).
 -- Assumes nothing.
 use Prim.Native.Nat.{ℕ}
 use mathlib.Core.Bool.{Bool, cond, _||_}
@@ -20,8 +20,7 @@ blankReply number = eqb number UNSOUND || eqb number MALFORMED || eqb number NO-
 abbrev pub readLength : Entry → Command → ℕ
 readLength e c = cond (reads original c) (e .original) (cond (reads (translation 0) c) (e .translation) 0)
 
--- "Reply fields: s, x, commit desk, transaction, edition, translated-from, length (of the text read if a read is accepted, else 0)", for a
--- number and the entry as it is after it.
+-- The seven reply fields (rule 4.8), for a number and the entry as it is after it.
 unfoldable pub replied : ℕ → Entry → Command → Answer
 replied number e c =
     record {

@@ -21,7 +21,7 @@ use Rattle.commands.specs.declared.Parsed.the-variants.{Malformed, Formed}
 
 -- What holds of an entry that judges a command.
 pub record Judging (e : Entry) (c : Command) (room lent : ℕ) : Type 0 where
-  -- "A number is given exactly when its row applies and no earlier row does"; accepted, 0, exactly when no row applies.
+  -- Each number exactly when its row applies and none before it; accepted, 0, exactly when no row applies.
   pub each : (n : ℕ) → (judged e c room lent .number ≡ suc n) ↔ (T (applies (suc n) (judgeRows e c room lent)) × T (noRow (earlier (suc n) (judgeRows e c room lent))))
   pub accepts : (judged e c room lent .number ≡ 0) ↔ T (noRow (judgeRows e c room lent))
   -- A refusal leaves the entry as it was; an accepted command leaves it raised.

@@ -1,4 +1,4 @@
--- The bytes of a header, of an entry and of a body (the sheet, "The image: contents first, then bodies").
+-- The bytes of a header, of an entry and of a body (rules 2.3 to 2.5).
 -- Assumes nothing.
 use Prim.Native.Nat.{ℕ}
 use mathlib.Core.List.{List, [], _∷_, _++_}
@@ -10,7 +10,7 @@ use Rattle.stamps.specs.declared.Pair.{Pair}
 use Rattle.lists.specs.Parts.{part}
 use Rattle.image.specs.Layout.{entrySize, entryPlace}
 
--- "Header, 16 bytes: 52 43 31 00, version u16 = 1, cards N u16, room C u16, six zeros."
+-- The header's first numbers, and the whole header (rule 2.3).
 abbrev pub magic : List ℕ
 magic = 0x52 ∷ 0x43 ∷ 0x31 ∷ 0x00 ∷ []
 
@@ -23,8 +23,7 @@ headerNumbers n c = magic ++ toLe 2 version ++ toLe 2 n ++ toLe 2 c
 unfoldable pub header : ℕ → ℕ → List ℕ
 header n c = headerNumbers n c ++ replicate 6 0
 
--- "Entry: 0 s u64; 8 x u64; 16 commit desk u16; 18 zero u16; 20 commit transaction u32; 24 edition u16; 26 translated-from u16;
--- 28 original length u16; 30 translation length u16."
+-- An entry's parts in their order (rule 2.4): the pair, the mark with the zero field in it, the counts and lengths.
 abbrev pub entryPair : Pair → List ℕ
 entryPair p = toLe 8 (p .s) ++ toLe 8 (p .x)
 
@@ -41,7 +40,7 @@ entryBytes e = entryPair (e .pair) ++ entryMark (e .mark) ++ entryCounts e
 unfoldable pub pad : ℕ → List ℕ → List ℕ
 pad room text = take room (text ++ replicate room 0)
 
--- ---- What the bytes of an image say: N and C, and the entry of a card (the sheet, "The image: contents first, then bodies").
+-- ---- What the bytes of an image say: N and C, and the entry of a card (rules 2.3 and 2.4).
 
 -- N and C as the header says.
 abbrev pub countOf : List ℕ → ℕ
@@ -50,8 +49,7 @@ countOf image = field 6 2 image
 abbrev pub roomOf : List ℕ → ℕ
 roomOf image = field 8 2 image
 
--- "Entry: 0 s u64; 8 x u64; 16 commit desk u16; .. 20 commit transaction u32; 24 edition u16; 26 translated-from u16; 28 original length u16;
--- 30 translation length u16."
+-- The entry that 32 bytes stand for (rule 2.4). The zero field is not read.
 unfoldable pub readEntry : List ℕ → Entry
 readEntry bytes =
     record {

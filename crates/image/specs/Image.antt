@@ -1,4 +1,4 @@
--- The image: cards, their bytes, and when bytes are a sound image (the sheet, "The image: contents first, then bodies").
+-- The image: cards, their bytes, and when bytes are a sound image (rules 2.1 to 2.9).
 -- Assumes nothing.
 use Prim.Native.Nat.{ℕ, zero, suc, _+_, _-_, _<_}
 use mathlib.Core.Path.{_≡_}
@@ -72,7 +72,7 @@ pub record GoodCards (cs : Cards) : Type 0 where
 unfoldable pub bodies : ℕ → Card → List ℕ
 bodies room card = pad room (card .original) ++ pad room (card .translation)
 
--- The bytes of cards: "Then N entries of 32 bytes, then for each card its original and its translation, C bytes each."
+-- The bytes of cards (rules 2.3 to 2.5): the header, the entries, then the bodies card by card.
 unfoldable pub encode : Cards → List ℕ
 encode cs =
     header (length (cs .cards)) (cs .room)
@@ -95,7 +95,7 @@ cardAt image k =
 unfoldable pub decode : List ℕ → Cards
 decode image = record { room = roomOf image; cards = table (cardAt image) (countOf image) }
 
--- "Body bytes past the length are zero."
+-- Behind a text its body has zeros (rule 2.6).
 unfoldable pub tailZero : List ℕ → ℕ → ℕ → ℕ → Bool
 tailZero image k side count =
     zeros (part (bodyPlace (countOf image) (roomOf image) k side + count) (roomOf image - count) image)
@@ -110,7 +110,7 @@ cardSound image k =
     ∷ tailZero image k 1 (entryAt image k .translation)
     ∷ [])
 
--- The header by the rules, with N and C within the limits and the size "exactly the lent length".
+-- The header by the rules, with N and C within the limits, and as many bytes as they give (rules 2.2, 2.3 and 2.6).
 unfoldable pub headerSound : List ℕ → Bool
 headerSound image =
     all
@@ -125,9 +125,9 @@ headerSound image =
 unfoldable pub sound : List ℕ → Bool
 sound image = headerSound image && every (cardSound image) (countOf image)
 
--- ---- A fresh image, and when one is made (the sheet, "The image: contents first, then bodies").
+-- ---- A fresh image, and when one is made (rule 2.7).
 
--- "A fresh image is all zero after its header."
+-- Rule 2.7: zeros behind the header.
 unfoldable pub fresh : ℕ → ℕ → List ℕ
 fresh n c = header n c ++ replicate (sizeOf n c - headerSize) 0
 
@@ -135,7 +135,7 @@ fresh n c = header n c ++ replicate (sizeOf n c - headerSize) 0
 unfoldable pub freshCards : ℕ → ℕ → Cards
 freshCards n c = record { room = c; cards = replicate n noCard }
 
--- "Making a fresh image answers 14, and writes nothing, if N, C or the lent length breaks the rules."
+-- Rule 2.7: when an image is made, and the number if it is not.
 unfoldable pub makes : ℕ → ℕ → ℕ → Bool
 makes n c lent = shapeOk n c && eqb lent (sizeOf n c)
 
@@ -145,7 +145,7 @@ NOT-MADE = 14
 abbrev pub makeNumber : ℕ → ℕ → ℕ → ℕ
 makeNumber n c lent = cond (makes n c lent) 0 NOT-MADE
 
--- ---- The image in front of some bytes (the sheet, "Streams and the program").
+-- ---- The image in front of some bytes (rule 2.9).
 
 -- How long an image is by its own header.
 abbrev pub claimed : List ℕ → ℕ

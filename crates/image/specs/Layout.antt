@@ -1,4 +1,4 @@
--- Sizes, limits and places in an image (the sheet, "The image: contents first, then bodies").
+-- Sizes, limits and places in an image (rules 2.2, 2.4 and 2.5).
 -- Assumes nothing.
 use Prim.Native.Nat.{ℕ, _+_, _*_, _%_}
 use mathlib.Core.List.{[], _∷_}
@@ -6,7 +6,7 @@ use mathlib.Core.Bool.{Bool}
 use lib.Dec.{leb, eqb}
 use Rattle.lists.specs.Table.{all}
 
--- "N is 1 to 64, C is 16 to 1,024 in steps of 16, and the whole, 16 + 32N + 2CN, is at most 32,768".
+-- The limits of N, C and the whole (rule 2.2).
 abbrev pub mostCards : ℕ
 mostCards = 64
 
@@ -22,7 +22,7 @@ roomStep = 16
 abbrev pub mostBytes : ℕ
 mostBytes = 32768
 
--- "Header, 16 bytes"; "N entries of 32 bytes".
+-- The sizes of a header and of an entry (rules 2.3 and 2.4).
 abbrev pub headerSize : ℕ
 headerSize = 16
 

@@ -1,5 +1,5 @@
--- Worked cases: trial m with the neighbours of every limit, and one image with one byte changed (the sheet, "Trials at the desk" and
--- "The image").
+-- Worked cases: the neighbours of every limit of an image that is made (rules 2.2 and 2.7), and one image with one byte changed
+-- (rule 2.6).
 -- Assumes nothing.
 use Prim.Native.Nat.{ℕ}
 use mathlib.Core.Path.{_≡_}
@@ -20,29 +20,29 @@ asked n c lent number = record { n = n; c = c; lent = lent; number = number }
 
 abbrev pub limits : List MakeCase
 limits =
-    -- "m: N 15, C 1,024 (31,216 bytes) is made; N 16 (33,296) gets 14"
+    -- trial m: at room 1,024 fifteen cards fit, sixteen do not
     asked 15 1024 31216 0
     ∷ asked 16 1024 33296 14
-    -- "N is 1 to 64"
+    -- the limits of N
     ∷ asked 0 16 16 14
     ∷ asked 1 16 80 0
     ∷ asked 64 16 4112 0
     ∷ asked 65 16 4176 14
-    -- "C is 16 to 1,024"
+    -- the limits of C
     ∷ asked 1 0 48 14
     ∷ asked 1 15 78 14
     ∷ asked 1 1024 2096 0
     ∷ asked 1 1025 2098 14
     ∷ asked 1 1040 2128 14
-    -- "in steps of 16"
+    -- C by sixteens
     ∷ asked 1 17 82 14
     ∷ asked 1 24 96 14
     ∷ asked 1 31 110 14
     ∷ asked 1 32 112 0
-    -- "at most 32,768": the largest whole within it, and the next
+    -- the largest whole within the limit, and the next
     ∷ asked 31 512 32752 0
     ∷ asked 32 496 32784 14
-    -- "exactly the lent length"
+    -- the lent length
     ∷ asked 1 16 79 14
     ∷ asked 1 16 81 14
     ∷ asked 1 16 0 14
@@ -84,7 +84,7 @@ changed place byte sounds = record { place = place; byte = byte; sounds = sounds
 
 abbrev pub changes : List Changed
 changes =
-    -- "52 43 31 00, version u16 = 1"
+    -- the first bytes and the version
     changed 0 0x52 true
     ∷ changed 0 0x53 false
     ∷ changed 3 1 false
@@ -95,27 +95,27 @@ changes =
     ∷ changed 6 2 false
     ∷ changed 6 0 false
     ∷ changed 8 32 false
-    -- "six zeros"
+    -- the header's zeros
     ∷ changed 10 1 false
     ∷ changed 15 1 false
-    -- "stamps are valid"
+    -- stamps
     ∷ changed 18 0 false
     ∷ changed 18 2 true
     ∷ changed 26 0 false
-    -- "commit desk and transaction are both zero or both not"
+    -- the commit mark
     ∷ changed 32 0 false
     ∷ changed 36 0 false
     ∷ changed 36 1 true
-    -- "18 zero u16"
+    -- the zero field
     ∷ changed 34 1 false
     ∷ changed 35 1 false
-    -- "edition 0 has length 0"; "translated-from is at most edition"; "translated-from 0 has translation length 0"
+    -- texts and editions
     ∷ changed 40 0 false
     ∷ changed 40 1 true
     ∷ changed 42 2 true
     ∷ changed 42 3 false
     ∷ changed 42 0 false
-    -- "lengths are at most C"; "body bytes past the length are zero"
+    -- lengths, and the bytes behind a text
     ∷ changed 44 2 false
     ∷ changed 44 16 true
     ∷ changed 44 17 false

@@ -27,7 +27,7 @@ pub record Encodes (cs : Cards) : Type 0 where
 abbrev pub GoodEncodes : Type 0
 GoodEncodes = (cs : Cards) → GoodCards cs → Encodes cs
 
--- "Two sound images with the same N and C, equal entry fields and equal texts are the same bytes."
+-- Rule 2.8: images that say the same are the same bytes.
 abbrev pub OneImage : Type 0
 OneImage =
     (a b : List ℕ) → Bytes a → Bytes b → T (sound a) → T (sound b)

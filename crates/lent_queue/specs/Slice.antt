@@ -1,5 +1,4 @@
--- The queue over a lent list of places (the sheet, "The queue is a lent slice of waiting entries, 1 to 32 places, with a count and the
--- largest s and x ever accepted there").
+-- The queue over a lent list of places (rule 7.1).
 -- Assumes nothing.
 use Prim.Native.Nat.{ℕ, zero, suc}
 use mathlib.Core.List.{List, [], _∷_}

@@ -1,4 +1,4 @@
--- Little-endian numbers of any byte count (the sheet, "The image": all numbers are little-endian).
+-- Little-endian numbers of any byte count (rule 2.1).
 -- Assumes nothing.
 use Prim.Native.Nat.{ℕ, zero, suc, _+_, _*_, _/_, _%_}
 use mathlib.Core.List.{List, [], _∷_}

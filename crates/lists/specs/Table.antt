@@ -14,8 +14,8 @@ allFrom b (t ∷ ts) = allFrom (b && t) ts
 unfoldable pub all : List Bool → Bool
 all ts = allFrom true ts
 
--- ---- A table of numbered refusals, as data: rows in the order in which they are checked (the sheet, "When the store says no": "a number is
--- given exactly when its row applies and no earlier row does").
+-- ---- A table of numbered refusals, as data: rows in the order in which they are checked (rule 4.1). A number is the answer if its row applies and no row
+-- above it does.
 
 pub record Row : Type 0 where
   pub applies : Bool

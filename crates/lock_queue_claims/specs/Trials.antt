@@ -51,7 +51,7 @@ asker mode s x = record { mode = mode; pair = record { s = s; x = x } }
 abbrev pub twoShared : State
 twoShared = record { places = guest 1 ∷ guest 2 ∷ []; count = 2; largest = record { s = stamp 2 2 0; x = 0 } }
 
--- Desk 1's upgrade is denied while its s is too small, and accepted though every place is taken. Then desk 1, which stands exclusive, gets 12 for
+-- The queue of rule 7.15. Desk 1's upgrade is denied while its s is too small, and accepted though every place is taken. Then desk 1, which stands exclusive, gets 12 for
 -- both modes, and desk 2, which stands shared, for shared. Desk 2's upgrade is denied while its x is too small, accepted when it is not. Desk 3
 -- finds the queue full.
 abbrev pub TrialUpgrade : Type 0

@@ -1,4 +1,4 @@
--- The starred trials of the sheet ("Trials at the desk"), the four commands of case P, the three slips, commit marks, and the numbers 1, 2 and 9, as one
+-- Trials, the four commands of case P, the three slips, commit marks, and the numbers 1, 2 and 9, as one
 -- table: a start, requests in the order in which they are sent, and what each must get. Where no act is named it is verify.
 -- Assumes nothing.
 use Prim.Native.Nat.{ℕ}
@@ -42,7 +42,7 @@ pub record Trial : Type 0 where
 
 -- ---- requests
 
--- "A = (1.1.0, 0), A' = (1.1.0, 1.1.0), B = (2.2.0, 1.1.0), B' = (2.2.0, 2.2.0)", by the stamps 1.1.0 and 2.2.0.
+-- The stamps 1.1.0 and 2.2.0 of desks 1 and 2. A is (1.1.0, none), A' has 1.1.0 twice, B is (2.2.0, 1.1.0), B' has 2.2.0 twice.
 abbrev pub stamp1 : ℕ
 stamp1 = stamp 1 1 0
 
@@ -146,7 +146,7 @@ bothGot = got 0 stamp1 stamp1 0 0 1 0 0 [] ∷ got 0 stamp1 stamp1 0 0 1 1 0 [] 
 
 -- ---- the table
 
--- "a: shared A twice, exclusive A', shared B, exclusive B' twice: all 0."
+-- a: two sessions that follow one another, each shared and then exclusive.
 abbrev pub sentA : List Sent
 sentA =
     verify shared stamp1 0
@@ -170,7 +170,7 @@ gotA =
 abbrev pub trialA : Trial
 trialA = record { start = empty; sent = sentA; expected = gotA }
 
--- "b: then exclusive A': 3."
+-- b: after them the first session's exclusive command comes late.
 abbrev pub trialB : Trial
 trialB =
     record {
@@ -179,7 +179,7 @@ trialB =
       expected = gotA ++ (got 3 stamp2 stamp2 0 0 0 0 0 [] ∷ []);
     }
 
--- "c: shared A, shared (2.2.0, 0), shared A: 0; exclusive A': 3."
+-- c: shared commands do not bar each other; an exclusive one with a smaller s is late.
 abbrev pub trialC : Trial
 trialC =
     record {
@@ -193,7 +193,7 @@ trialC =
           ∷ [];
     }
 
--- "d: exclusive A', shared (0.2.0, 1.1.0), exclusive A': all 0."
+-- d: a shared command that carries another desk's x with a smaller s; the premise does not hold here.
 abbrev pub sentD : List Sent
 sentD = verify exclusive stamp1 stamp1 ∷ verify shared (stamp 0 2 0) stamp1 ∷ verify exclusive stamp1 stamp1 ∷ []
 
@@ -209,27 +209,27 @@ trialD =
           ∷ [];
     }
 
--- "e: read original at edition 0: 0, length 0."
+-- e: an original that was never written is read as empty.
 abbrev pub trialE : Trial
 trialE =
     record { start = empty; sent = readOriginal (long 2) ∷ []; expected = got 0 stamp2 stamp1 0 0 0 0 0 (long 2) ∷ [] }
 
--- "f: read translation there: 6."
+-- f: a translation that was never written is behind.
 abbrev pub trialF : Trial
 trialF =
     record { start = empty; sent = readTranslation (long 2) ∷ []; expected = got 6 0 0 0 0 0 0 0 (long 2) ∷ [] }
 
--- "g: payload C: 0."
+-- g: a payload of C bytes.
 abbrev pub trialG : Trial
 trialG =
     record { start = empty; sent = writeOriginal stamp1 stamp1 (long 16) ∷ []; expected = got 0 stamp1 stamp1 0 0 1 0 0 [] ∷ [] }
 
--- "h: C + 1: 5,
+-- h: one byte more;
 abbrev pub trialH : Trial
 trialH =
     record { start = empty; sent = writeOriginal stamp1 stamp1 (long 17) ∷ []; expected = got 5 0 0 0 0 0 0 0 [] ∷ [] }
 
--- or 3 if stale as well."
+-- stale comes first.
 abbrev pub trialHStale : Trial
 trialHStale =
     record {
@@ -238,12 +238,12 @@ trialHStale =
       expected = got 0 stamp2 stamp2 0 0 0 0 0 [] ∷ got 3 stamp2 stamp2 0 0 0 0 0 [] ∷ [];
     }
 
--- "i: edition 65,534 written: 0, now 65,535;
+-- i: the last edition but one is written;
 abbrev pub trialI : Trial
 trialI =
     record { start = nearlyLast; sent = writeOriginal stamp1 stamp1 text205 ∷ []; expected = got 0 stamp1 stamp1 0 0 65535 0 0 [] ∷ [] }
 
--- j: written again: 7."
+-- j: and no further.
 abbrev pub trialJ : Trial
 trialJ =
     record {
@@ -252,7 +252,7 @@ trialJ =
       expected = got 0 stamp1 stamp1 0 0 65535 0 0 [] ∷ got 7 stamp1 stamp1 0 0 65535 0 0 [] ∷ [];
     }
 
--- "k: reply buffer as long as the text: 0;" for each language,
+-- k: a reply buffer as long as the text, in each language;
 abbrev pub trialKOriginal : Trial
 trialKOriginal =
     record {
@@ -269,7 +269,7 @@ trialKTranslation =
       expected = bothGot ++ (got 0 stamp2 stamp1 0 0 1 1 3 text401 ∷ []);
     }
 
--- "l: one byte less: 8." for each language.
+-- l: one byte shorter, in each language.
 abbrev pub trialLOriginal : Trial
 trialLOriginal =
     record {
@@ -286,8 +286,8 @@ trialLTranslation =
       expected = bothGot ++ (got 8 stamp1 stamp1 0 0 1 1 0 (long 2) ∷ []);
     }
 
--- Case P: "exclusive write of original `205` by (1.1.0, 1.1.0); shared read of translation by (2.2.0, 1.1.0); exclusive write of translation
--- `401`, edition 1, by (2.2.0, 2.2.0); the first command again", with a reply buffer of C bytes.
+-- Case P (rule 8.5): the commands of the example there,
+-- with a reply buffer of C bytes.
 abbrev pub caseP : Trial
 caseP =
     record {
@@ -306,7 +306,7 @@ caseP =
           ∷ [];
     }
 
--- The three slips of the sheet ("Three slips we have seen"). "Serving a translation because its length is nonzero. The edition decides.":
+-- Three slips that were seen. A translation is served since it has bytes, though its edition is not the original's:
 -- a translation of three bytes, behind since the original was written again.
 abbrev pub slipByLength : Trial
 slipByLength =
@@ -316,8 +316,8 @@ slipByLength =
       expected = bothGot ++ (got 0 stamp1 stamp1 0 0 2 1 0 [] ∷ got 6 stamp1 stamp1 0 0 2 1 0 (long 3) ∷ []);
     }
 
--- "Storing the command's pair in place of the larger of each: a shared command with a small s would then reopen the card to an older exclusive
--- one."
+-- The command's pair is stored in place of the larger of each: after a shared command with a small s an older exclusive one would
+-- pass.
 abbrev pub slipCommandPair : Trial
 slipCommandPair =
     record {
@@ -330,7 +330,7 @@ slipCommandPair =
           ∷ [];
     }
 
--- "Raising the stored pair, then finding the reply buffer short (8).": A' still passes after a read by B that got 8.
+-- The pair is raised before the reply buffer is found short: A' still passes after a read by B that got 8.
 abbrev pub slipRaised : Trial
 slipRaised =
     record {

@@ -55,8 +55,8 @@ pub record Claim (n : ℕ) (sent : List Sent) (log : List Event) : Type 0 where
       → late before (commandOf e) ≡ false
       → rightMark before (commandOf e) ≡ true
       → (e .answer .number ≡ 6) ↔ (outdated t before (commandOf e .card) ≡ true)
-  -- "An accepted read shows as many first bytes of its reply buffer as its length field says; they are the whole payload of the last earlier
-  -- accepted write of that card and language, or none if there is no such write."
+  -- rule 9.4: an accepted read shows the last accepted text of its card and language, by as many bytes as its length field says, and nothing
+  -- where there is none
   pub showing :
       (later : List Event) (e : Event) (before : List Event) (l : Language) → log ≡ later ++ e ∷ before
       → e .answer .number ≡ 0
@@ -92,14 +92,14 @@ pub record Intruded (log : List Event) : Type 0 where
   pub same : OneSession a b
   pub intruder : intrudes 0 b e ≡ true
 
--- The premise is neither empty nor idle: it holds of trial a's list and fails of trial d's ("the premise on shared stamps is broken here"), in
+-- The premise is neither empty nor idle: it holds of trial a's list and fails of trial d's, in
 -- whose log sessions are not isolated.
 pub record PremiseTells : Type 0 where
   pub holds : premise 0 sentA ≡ true
   pub fails : premise 0 sentD ≡ false
   pub without : Intruded (logOf 1 16 sentD)
 
--- Demand 2: "a number is given exactly when its row applies and no earlier row does", and 0 exactly when none applies.
+-- Demand 2: each number exactly when its row applies and none above it, and 0 exactly when none applies.
 pub record Given (image command reply : List ℕ) : Type 0 where
   pub refused :
       (n : ℕ) → (serve image command reply .answer .number ≡ suc n)

@@ -1,4 +1,4 @@
--- One request on an image: the table, the reply fields, the image after and the reply buffer after (the sheet, "When the store says no").
+-- One request on an image: the table, the reply fields, the image after and the reply buffer after (rules 4.1 to 4.8).
 -- Assumes nothing.
 use Prim.Native.Nat.{ℕ}
 use mathlib.Core.List.{List, [], _∷_}
@@ -58,8 +58,8 @@ pub record Outcome : Type 0 where
   pub image : List ℕ
   pub reply : List ℕ
 
--- What a number makes of a request on a store's cards: the reply fields are the entry's as it now is; "an accepted read fills the first bytes of
--- the reply buffer; the rest keeps its bytes, and every other answer writes nothing there. Refusals change no byte of the image."
+-- What a number makes of a request on a store's cards: the reply fields are the entry's as it now is; an accepted read alone writes to the reply
+-- buffer, in front (rule 4.7), and a refusal leaves the image as it was (rule 4.1).
 abbrev pub answerBy : ℕ → Cards → List ℕ → Answer
 answerBy number cs command =
     replied number

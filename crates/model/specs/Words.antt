@@ -1,4 +1,4 @@
--- The words of demand 3 (the sheet, "The words of demand 3"), on the events of a list of requests, latest first.
+-- The words of demand 3 (rules 9.1 to 9.6), on the events of a list of requests, latest first.
 -- Assumes nothing.
 use Prim.Native.Nat.{ℕ}
 use mathlib.Core.Path.{_≡_}
@@ -14,7 +14,7 @@ use Rattle.commands.specs.declared.Command.{Command}
 use Rattle.image.specs.Image.{fresh}
 use Rattle.model.specs.Serve.{Outcome, serve}
 
--- A request as it is sent: "any lent bytes .., with a reply buffer of any length and content".
+-- A request as it is sent (rule 9.1): any bytes, and any reply buffer.
 pub record Sent : Type 0 where
   pub command : List ℕ
   pub lent : List ℕ
@@ -28,7 +28,7 @@ pub record Event : Type 0 where
 abbrev pub eventOf : Sent → Outcome → Event
 eventOf s o = record { sent = s; answer = o .answer; reply = o .reply }
 
--- The image after requests, latest first: "each is judged .. on the image as the one before left it; nothing else writes the image meanwhile".
+-- The image after requests, latest first: each meets the image as the one before left it (rule 9.1).
 unfoldable pub imageAfter : List ℕ → List Sent → List ℕ
 imageAfter start [] = start
 imageAfter start (s ∷ earlier) = serve (imageAfter start earlier) (s .command) (s .lent) .image
@@ -39,7 +39,7 @@ history start [] = []
 history start (s ∷ earlier) =
     eventOf s (serve (imageAfter start earlier) (s .command) (s .lent)) ∷ history start earlier
 
--- The log of requests in the order in which they are sent, from a fresh image: "its list starts from a fresh image".
+-- The log of requests in the order in which they are sent, from a fresh image (rule 9.1).
 unfoldable pub logOf : ℕ → ℕ → List Sent → List Event
 logOf n c sent = history (fresh n c) (reverse sent)
 
@@ -47,7 +47,7 @@ logOf n c sent = history (fresh n c) (reverse sent)
 abbrev pub commandOf : Event → Command
 commandOf e = fieldsOf (e .sent .command)
 
--- "Accepted is answer 0, refused as stale 3, as behind 6." An accepted command for card k.
+-- An accepted command, answered with 0, for card k.
 abbrev pub accepted : ℕ → Event → Bool
 accepted k e = eqb (e .answer .number) 0 && eqb (commandOf e .card) k
 
@@ -55,7 +55,7 @@ accepted k e = eqb (e .answer .number) 0 && eqb (commandOf e .card) k
 abbrev pub wrote : Language → ℕ → Event → Bool
 wrote l k e = accepted k e && writes l (commandOf e)
 
--- "A command is well formed if row 1 does not apply; a card exists if it is below N."
+-- Rule 9.2: well formed, and for a card that exists.
 pub record Proper (n : ℕ) (e : Event) : Type 0 where
   pub wellFormed : formed (e .sent .command) ≡ true
   pub exists : ltb (commandOf e .card) n ≡ true
@@ -71,8 +71,8 @@ largerX k c e = accepted k e && ltb (verifier c .x) (update (commandOf e) .x)
 abbrev pub late : List Event → Command → Bool
 late before c = any (largerX (c .card) c) before || eqb (c .mode) exclusive && any (largerS (c .card) c) before
 
--- "A commit mark is right if it passes number 4's comparison with the next mark of the last earlier accepted command for that card, or with
--- zeros if there is none."
+-- Rule 9.3: the expected mark passes what the last earlier accepted command for the card left, and no mark where there was
+-- none.
 abbrev pub rightMark : List Event → Command → Bool
 rightMark before c = markFits (last (accepted (c .card)) (λ e. commandOf e .next) noMark before) (c .expected)
 
@@ -80,18 +80,18 @@ rightMark before c = markFits (last (accepted (c .card)) (λ e. commandOf e .nex
 abbrev pub outdated : ℕ → List Event → ℕ → Bool
 outdated t before k = none (wrote (translation t) k) (since (wrote original k) before)
 
--- "The whole payload of the last earlier accepted write of that card and language, or none if there is no such write."
+-- Rule 9.4: what the last earlier accepted write of a card and language brought along; empty where there is none.
 abbrev pub lastText : Language → List Event → ℕ → List ℕ
 lastText l before k = last (wrote l k) (λ e. payload (e .sent .command)) [] before
 
--- "A shared command carries another desk's exclusive stamp if its x is nonzero and differs from its s in desk or start".
+-- Rule 9.5: a shared command carries another desk's exclusive stamp.
 abbrev pub carries : Command → Bool
 carries c =
     eqb (c .mode) shared
     && not (eqb (update c .x) 0)
     && not (eqb (deskStart (update c .x)) (deskStart (update c .s)))
 
--- "Exclusive commands under a stamp have it as their x."
+-- Rule 9.5: an exclusive command with that stamp as its x.
 abbrev pub under : ℕ → Command → Bool
 under stamp c = eqb (c .mode) exclusive && eqb (update c .x) stamp
 
@@ -105,12 +105,12 @@ abbrev pub breaks : Command → Command → Bool
 breaks c d = carries c && under (update c .x) d && not (ltb (update d .s) (update c .s))
 
 -- The premise for card k: a shared command that carries another desk's exclusive stamp has its s above that of every exclusive command under that
--- stamp. "The premise counts every well-formed command of the list for that card, refused ones too, in any order."
+-- stamp. Refused commands count as well, wherever they stand.
 abbrev pub premise : ℕ → List Sent → Bool
 premise k sent =
     none (λ a. sentFor k a && any (λ b. sentFor k b && breaks (fieldsOf (a .command)) (fieldsOf (b .command))) sent) sent
 
--- "Two commands are of one session if card, desk, mode and pair are equal."
+-- Rule 1.6: card, desk, mode and pair are the same.
 abbrev pub OneSession : Event → Event → Type 0
 OneSession a b = session (commandOf a) ≡ session (commandOf b)
 

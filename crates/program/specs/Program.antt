@@ -1,4 +1,4 @@
--- The program's input: an image in front, a stream behind it (the sheet, "Streams and the program").
+-- The program's input: an image in front, a stream behind it (rules 8.3 to 8.5).
 -- Assumes nothing.
 use Prim.Native.Nat.{ℕ, _*_, _/_, _≤_, _-_}
 use mathlib.Core.List.{List, [], _∷_}
@@ -18,20 +18,20 @@ use Rattle.program.specs.declared.Summary.{Summary}
 use Rattle.program.specs.declared.Report.{Report}
 use Rattle.program.specs.declared.Report.the-variants.{TooLong, BadStore, Lines}
 
--- "Standard input, at most 65,536 bytes".
+-- The longest input (rule 8.3).
 abbrev pub mostInput : ℕ
 mostInput = 65536
 
--- ---- What a line of the program's output shows of an answer (the sheet, "Streams and the program").
+-- ---- What a line of the program's output shows of an answer (rule 8.4).
 
--- "Number, then the seven fields": the numbers of a line, in the sheet's order, and how many they are.
+-- The numbers of a line behind its place, and how many they are (rule 8.4).
 unfoldable pub numbersOf : Answer → List ℕ
 numbersOf a = a .number ∷ replyFields a
 
 abbrev pub perLine : ℕ
 perLine = 8
 
--- ---- A run of commands over one image (the sheet, "Streams and the program"): the answers, what is printed of them, and what is left.
+-- ---- A run of commands over one image (rule 8.5): the answers, what is printed of them, and what is left.
 
 -- A run of commands over an image, with one reply buffer for all of them: the answers in order, the image and the reply buffer after.
 pub record Run : Type 0 where
@@ -53,13 +53,13 @@ runs image reply (c ∷ cs) =
 abbrev pub printed : Run → List ℕ
 printed r = spread numbersOf (r .answers)
 
--- ---- What the program makes of its input: a run of the stream over the image in front of it (the sheet, "Streams and the program").
+-- ---- What the program makes of its input: a run of the stream over the image in front of it (rules 8.3 and 8.5).
 
 -- As many numbers as the lines of the longest input can have: a command has at least 52 bytes.
 abbrev pub mostNumbers : ℕ
 mostNumbers = mostInput / fixed * perLine
 
--- "An image as long as its header says, then a stream"; "its reply buffer has C bytes", zeros at first.
+-- The image is so many bytes, the stream is what follows, and the reply buffer has C zeros.
 abbrev pub runBehind : ℕ → ℕ → List ℕ → Run
 runBehind size room input = runs (take size input) (replicate room 0) (commands (drop size input))
 
@@ -70,17 +70,17 @@ pub record Lent (input : List ℕ) (size room : ℕ) (out : List ℕ) : Type 0 w
   pub most : room ≤ mostRoom
   pub lines : length (commands (drop size input)) * perLine ≤ length out
 
--- ---- What the program prints for an input (the sheet, "Streams and the program").
+-- ---- What the program prints for an input (rules 8.3 and 8.4).
 
--- "An image as long as its header says, then a stream."
+-- The bytes behind the image.
 abbrev pub streamOf : List ℕ → List ℕ
 streamOf input = drop (frontSize input) input
 
--- The run of an input: "its reply buffer has C bytes".
+-- The run of an input.
 abbrev pub runOf : List ℕ → Run
 runOf input = runBehind (frontSize input) (roomOf input) input
 
--- The first line has N; there is one line for each whole command; "it ends with `end`, or `cut` and the bytes left over".
+-- The first line has N; there is one line for each whole command; the last tells how many bytes are left over, if any.
 abbrev pub summaryOf : List ℕ → Summary
 summaryOf input =
     record {
@@ -89,7 +89,7 @@ summaryOf input =
       left = length (streamOf input) - endOf (streamOf input);
     }
 
--- "It prints `too long` alone for more, else `bad store` alone if the header or the image is short or unsound, else the lines".
+-- Rule 8.3, in its order.
 unfoldable pub reportOf : List ℕ → Report
 reportOf input = cond (ltb mostInput (length input)) TooLong (cond (goodFront input) (Lines (summaryOf input)) BadStore)
 

@@ -1,4 +1,4 @@
--- Case P of the sheet ("Streams and the program"), whole: from the bytes of the input to what is printed.
+-- Case P (section 8 of the rules), whole: from the bytes of the input to what is printed.
 -- Assumes nothing.
 use Prim.Native.Nat.{ℕ}
 use mathlib.Core.Path.{_≡_}
@@ -9,12 +9,12 @@ use Rattle.stream.specs.Stream.{endToEnd}
 use Rattle.program.specs.Program.{printed, runOf, reportOf}
 use Rattle.program.specs.declared.Report.the-variants.{Lines}
 
--- "N 1, C 16, fresh; exclusive write of original `205` by (1.1.0, 1.1.0); shared read of translation by (2.2.0, 1.1.0); exclusive write of
--- translation `401`, edition 1, by (2.2.0, 2.2.0); the first command again; five more bytes."
+-- The image of one fresh card with room 16, the four commands,
+-- and five bytes more.
 abbrev pub inputP : List ℕ
 inputP = caseP .start ++ (endToEnd (map (λ (s : Sent). s .command) (caseP .sent)) ++ (3 ∷ 2 ∷ 0 ∷ 0 ∷ 0 ∷ []))
 
--- "Whole output": `cards 1`, four lines, `cut 5`; the numbers of the lines behind their places.
+-- The output: `cards 1`, four lines, `cut 5`; the numbers of the lines behind their places.
 pub record CaseP : Type 0 where
   pub report : reportOf inputP ≡ Lines (record { cards = 1; lines = 4; left = 5 })
   pub lines :

@@ -1,4 +1,4 @@
--- What is claimed of a run, and of the program's (the sheet, "Streams and the program" and "The words of demand 3").
+-- What is claimed of a run, and of the program's (rules 8.5 and 9.1).
 -- Assumes nothing.
 use Prim.Native.Nat.{ℕ, _*_, _<_}
 use mathlib.Core.Path.{_≡_}

@@ -23,7 +23,7 @@ knowing desk start s x = record { desk = desk; start = start; pair = record { s 
 abbrev pub gets : ℕ → ℕ → ℕ → Known → Proposed
 gets number s x known = record { number = number; pair = record { s = s; x = x }; known = known }
 
--- Desk 2 with start 5, mostly.
+-- Desk 2 with start 5, mostly; the desk of rule 10.16 is among them.
 pub record ProposalCases : Type 0 where
   -- its first proposals: T 0 is enough, as its desk is not 0
   pub first-shared : proposed (knowing 2 5 0 0) shared ≡ gets 0 (stamp 0 2 5) 0 (knowing 2 5 (stamp 0 2 5) 0)

@@ -1,4 +1,4 @@
--- Stamps, pairs, modes, desks and commit marks: the sheet, "Stamps, pairs and sessions" and the first sentences of "How the guard judges".
+-- Stamps, pairs, modes, desks and commit marks (rules 1.1 to 1.7), and what number 3 and number 4 compare (rules 4.2 and 4.3).
 -- Assumes nothing.
 use Prim.Native.Nat.{ℕ, _+_, _*_, _/_, _%_, _<_, max}
 use mathlib.Core.List.{List, [], _∷_}
@@ -7,7 +7,7 @@ use lib.Dec.{ltb, leb, eqb}
 use Rattle.stamps.specs.declared.Mark.{Mark}
 use Rattle.stamps.specs.declared.Pair.{Pair}
 
--- "A stamp is T.desk.start ..: 32, 16 and 16 bits, T highest, compared as one 64-bit number." Minuet: a timestamp T.cliID.incNum.
+-- A stamp of its three parts (rule 1.1). Minuet: a timestamp T.cliID.incNum.
 abbrev pub stamp : ℕ → ℕ → ℕ → ℕ
 stamp t desk start = t * 4294967296 + desk * 65536 + start
 
@@ -19,11 +19,11 @@ deskNumber n = n / 65536 % 65536
 abbrev pub deskStart : ℕ → ℕ
 deskStart n = n % 4294967296
 
--- "Zero means none; any other stamp needs a desk of at least 1."
+-- Rule 1.2: none, or with a desk.
 abbrev pub stampValid : ℕ → Bool
 stampValid n = eqb n 0 || not (eqb (deskNumber n) 0)
 
--- "Mode u8 (1 shared, 2 exclusive)."
+-- The modes (rule 1.4).
 abbrev pub shared : ℕ
 shared = 1
 
@@ -34,12 +34,12 @@ exclusive = 2
 abbrev pub own : ℕ → Pair → ℕ
 own mode pair = cond (eqb mode exclusive) (pair .x) (pair .s)
 
--- "A command's desk is the desk and start in its s if shared, in its x if exclusive."
+-- Rule 1.5: the desk and start of the mode's own stamp.
 abbrev pub deskOf : ℕ → Pair → ℕ
 deskOf mode pair = deskStart (own mode pair)
 
--- The rules for a mode and a pair, of a command and of an entry in the lock queue alike: mode 1 or 2; "stamps are valid";
--- "a shared command needs s nonzero, an exclusive one x nonzero".
+-- The rules for a mode and a pair, of a command and of an entry in the lock queue alike (rule 1.4): one of the two modes, valid stamps,
+-- and an own stamp.
 abbrev pub sessionChecks : ℕ → Pair → List Bool
 sessionChecks mode pair =
     (eqb mode shared || eqb mode exclusive)
@@ -52,16 +52,16 @@ sessionChecks mode pair =
 abbrev pub MALFORMED : ℕ
 MALFORMED = 1
 
--- "Shared is stale if its x is below the stored x; exclusive is stale if its s or its x is below the stored one. Equal is not stale."
+-- Rule 4.2: stale by x, and, if exclusive, by s; equal stamps are not.
 -- Minuet: EBADSESSION.
 abbrev pub stale : ℕ → Pair → Pair → Bool
 stale mode stored new = ltb (new .x) (stored .x) || eqb mode exclusive && ltb (new .s) (stored .s)
 
--- "Each to the larger of old and new": what an accepted command makes of the stored pair, in an entry and in the lock queue.
+-- The larger of each stamp (rule 4.4): what an accepted command makes of the stored pair, in an entry and in the lock queue.
 abbrev pub largerOfEach : Pair → Pair → Pair
 largerOfEach old new = record { s = max (old .s) (new .s); x = max (old .x) (new .x) }
 
--- A commit mark (Minuet: commit session identifier): "each commit mark is both zero or both not".
+-- A commit mark (Minuet: commit session identifier) is whole (rule 1.7).
 abbrev pub markWhole : Mark → Bool
 markWhole m = Bool·beq (eqb (m .desk) 0) (eqb (m .transaction) 0)
 

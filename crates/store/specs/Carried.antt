@@ -16,7 +16,7 @@ use Rattle.guard.specs.declared.Judged.{Judged}
 use Rattle.image.specs.Image.{cardAt, withCard, encode, decode}
 use Rattle.model.specs.Serve.{Outcome, textRead, stepped}
 
--- An image with a text in a body of card k, "writing zeroes the rest of that body": side 0 is the original, side 1 the translation.
+-- An image with a text in a body of card k, and zeros behind it (rule 4.5): side 0 is the original, side 1 the translation.
 abbrev pub bodyWritten : List ℕ → ℕ → ℕ → List ℕ → List ℕ
 bodyWritten image k side text = splice (bodyPlace (countOf image) (roomOf image) k side) (pad (roomOf image) text) image
 

@@ -1,4 +1,4 @@
--- A stream: commands end to end (the sheet, "Streams and the program").
+-- A stream: commands end to end (rules 8.1 and 8.2).
 -- Assumes nothing.
 use Prim.Native.Nat.{ℕ, zero, suc, _+_}
 use mathlib.Core.List.{List, [], _∷_}
@@ -13,8 +13,7 @@ use Rattle.stream.specs.declared.Next.the-variants.{Whole, Cut}
 use denote.Ref.{RefT, now}
 use Rattle.stream.specs.declared.Reader.{Reader}
 
--- How long the command is that begins these bytes. "Offset 50 is always taken as the payload's length, so a malformed command is answered
--- and passed over."
+-- How long the command is that begins these bytes, malformed or not (rule 8.1).
 unfoldable pub extent : List ℕ → ℕ
 extent bytes = fixed + field 50 2 bytes
 
@@ -41,7 +40,7 @@ commandsWithin (suc steps) bytes =
 unfoldable pub commands : List ℕ → List (List ℕ)
 commands stream = commandsWithin (length stream) stream
 
--- "The reader ends the walk at the first command that is not whole and gives the byte where it begins."
+-- Rule 8.2: where the first command begins that is not whole.
 unfoldable pub endWithin : ℕ → List ℕ → ℕ
 endWithin zero bytes = 0
 endWithin (suc steps) bytes = cond (whole bytes) (extent bytes + endWithin steps (drop (extent bytes) bytes)) 0
@@ -57,7 +56,7 @@ endToEnd cs = spread (λ (c : List ℕ). c) cs
 unfoldable pub placeOf : List ℕ → ℕ → ℕ
 placeOf stream i = length (endToEnd (take i (commands stream)))
 
--- ---- "A reader that keeps the lent stream and its place" (the sheet, "Streams and the program").
+-- ---- A reader that keeps the lent stream and its place.
 
 -- A reader at the first byte of a lent stream.
 abbrev pub begun : RefT (List ℕ) → Reader

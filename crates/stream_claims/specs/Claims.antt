@@ -1,4 +1,4 @@
--- What is claimed of a stream (the sheet, "Streams and the program").
+-- What is claimed of a stream (rules 8.1 and 8.2).
 -- Assumes nothing.
 use Prim.Native.Nat.{ℕ, suc, _+_, _-_, _/_, _≤_, _<_}
 use mathlib.Core.Path.{_≡_}
@@ -16,7 +16,7 @@ use Rattle.stream.specs.declared.Next.the-variants.{Whole, Cut}
 abbrev pub OneCommand : List ℕ → Type 0
 OneCommand c = (fixed ≤ length c) × (length c ≡ fixed + field 50 2 c)
 
--- "A stream is commands end to end", and what is left over begins no whole command.
+-- The commands and the rest, end to end, are the stream, and the rest begins no whole command.
 pub record Parts (stream : List ℕ) : Type 0 where
   pub joined : endToEnd (commands stream) ++ drop (endOf stream) stream ≡ stream
   pub each : (i : ℕ) → i < length (commands stream) → OneCommand (getD (commands stream) i [])
