@@ -28,7 +28,7 @@ sharedOf places = map (λ w. w .pair .s) places
 abbrev pub exclusiveOf : List Waiting → List ℕ
 exclusiveOf places = map (λ w. w .pair .x) places
 
--- ---- A queue, and its answers, as numbers in the order of the sheet.
+-- ---- A queue, and its answers, as numbers in the order of rule 7.14.
 
 -- The queue that three arrays hold, for the places, together with its count and the largest s and x.
 abbrev pub queueOf : List ℕ → List ℕ → List ℕ → List ℕ → State

@@ -22,7 +22,7 @@ fixed = 52
 abbrev pub markAt : ℕ → List ℕ → Mark
 markAt at bytes = record { desk = field at 2 bytes; transaction = field (at + 2) 4 bytes }
 
--- The numbers of a command, by the sheet's offsets.
+-- The numbers of a command, by the offsets of rule 3.1.
 unfoldable pub fieldsOf : List ℕ → Command
 fieldsOf bytes =
     record {
@@ -46,7 +46,7 @@ formed bytes = eqb (length bytes) (fixed + field 50 2 bytes) && zeros (part 20 1
 unfoldable pub parsed : List ℕ → Parsed
 parsed bytes = cond (formed bytes) (Formed (fieldsOf bytes)) Malformed
 
--- What a parse is on the sheet: number 1 and zeros where it is malformed, else the command, with nothing refused yet.
+-- What a parse is: number 1 and zeros where it is malformed, else the command, with nothing refused yet.
 abbrev pub parsedNumber : Parsed → ℕ
 parsedNumber Malformed = MALFORMED
 parsedNumber (Formed c) = 0

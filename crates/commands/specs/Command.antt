@@ -46,7 +46,7 @@ pub record Session : Type 0 where
 abbrev pub session : Command → Session
 session c = record { card = c .card; desk = deskOf (c .mode) (update c); mode = c .mode; pair = update c }
 
--- The rules of a command's numbers, one test for each sentence of the sheet.
+-- The rules of a command's numbers, one test for each part of rule 3.3.
 abbrev pub checks : Command → List Bool
 checks c =
     -- acts are 1 to 5

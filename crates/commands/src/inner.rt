@@ -14,7 +14,7 @@ use crate::NEXT;
 use crate::mark_at;
 use crate::pair_of;
 
-// The numbers of a command, by the sheet's offsets.
+// The numbers of a command, by the offsets of rule 3.1.
 pub fn fields(bytes: &[u8]) -> Command
     requires { ⌜ fixed ≤ length (now bytes) ⌝ }
     ensures { λ r. ⌜ r ≡ fieldsOf (now (bytes .entry)) ⌝ }

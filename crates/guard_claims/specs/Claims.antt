@@ -43,7 +43,7 @@ Judges = (e : Entry) (c : Command) (room lent : ℕ) → Judging e c room lent
 abbrev pub StaleStays : Type 0
 StaleStays = (mode : ℕ) (stored more new : Pair) → stored .s ≤ more .s → stored .x ≤ more .x → T (stale mode stored new) → T (stale mode more new)
 
--- Lent bytes by the sheet's number: 1 exactly where row 1 applies to them, with zeros, else 0 with the numbers at the sheet's offsets.
+-- Lent bytes by number: 1 exactly where row 1 applies to them, with zeros, else 0 with the numbers at their offsets (rule 3.1).
 pub record Parsing (bytes : List ℕ) : Type 0 where
   pub number : parsedNumber (parsed bytes) ≡ first (row (not (formed bytes)) 1 ∷ [])
   pub numbers : T (formed bytes) → parsedCommand (parsed bytes) ≡ fieldsOf bytes

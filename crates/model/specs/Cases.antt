@@ -89,7 +89,7 @@ writeTranslation s x edition text = request 4 exclusive (pair s x) edition text 
 
 -- ---- what they get
 
--- The number, then the reply fields in the sheet's order (s, x, commit desk, transaction, edition, translated-from, length), and the reply buffer.
+-- The number, then the reply fields in their order (s, x, commit desk, transaction, edition, translated-from, length), and the reply buffer.
 abbrev pub got : ℕ → ℕ → ℕ → ℕ → ℕ → ℕ → ℕ → ℕ → List ℕ → Got
 got number s x desk transaction edition from length reply =
     record {

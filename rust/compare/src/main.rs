@@ -1,4 +1,4 @@
-//! `compare test` runs a fixed seed and 2,000,000 cases; `compare soak
+//! `compare test` runs a fixed seed and 4,000,000 cases; `compare soak
 //! N` runs N cases, 500,000 at the least, with a new seed, which it prints.
 //! `compare seed S N` runs any seed again. Each prints the coverage table at
 //! its end, and fails at the first difference, and where a number or a kind of
@@ -17,7 +17,7 @@ use second::random::Random;
 
 /// The fixed seed and the cases of `make test`, and its inputs to the program.
 const SEED: u64 = 1;
-const CASES: u64 = 2_000_000;
+const CASES: u64 = 4_000_000;
 const INPUTS: u64 = 10_000;
 
 /// The fewest cases, in which every kind of the table comes.
