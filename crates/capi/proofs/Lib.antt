@@ -1,4 +1,4 @@
 pub mod Arrays
 pub mod Proposed
 pub mod Exits
-pub mod Shown
+pub mod Neither

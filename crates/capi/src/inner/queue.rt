@@ -1,13 +1,11 @@
-// The lock queue of one card as arrays of numbers: loaded, judged by value, and stored back.
+// The lock queue of one card as arrays of numbers: loaded, and an outcome stored back.
 ghost use mathlib.Core.Path.{_≡_};
 ghost use Rattle.lock_queue.specs.Queue.{state};
-ghost use Rattle.lock_queue.specs.Requests.{Request};
-ghost use Rattle.capi.specs.Arrays.{waiting, modesOf, sharedOf, exclusiveOf, queueOf, keptOf, answerOf, arrayTurn};
+ghost use Rattle.capi.specs.Arrays.{modesOf, sharedOf, exclusiveOf, queueOf, keptOf, answerOf};
 use crate::inner::columns::columns_of;
 use crate::inner::columns::places_of;
 use lock_queue::LockOutcome;
 use lock_queue::Queue;
-use lock_queue::Waiting;
 use stamps::Pair;
 
 // The queue that the arrays hold.
@@ -77,57 +75,4 @@ pub fn write_outcome(
     let given = outcome.answer;
     write_answer(fields, given);
     given.number
-}
-
-// A desk asks for the lock of the queue that the arrays hold, of which the first `places` places are lent.
-pub fn ask(
-    modes: &mut [u8; 32],
-    s: &mut [u64; 32],
-    x: &mut [u64; 32],
-    kept: &mut [u64; 3],
-    places: u64,
-    mode: u8,
-    asked_s: u64,
-    asked_x: u64,
-    fields: &mut [u64; 4],
-) -> u8
-    ensures number { λ r. ⌜ r ≡ arrayTurn places (queueOf (now (modes .entry)) (now (s .entry)) (now (x .entry)) (now (kept .entry))) (Request.asks (waiting mode «asked_s» «asked_x»)) .number ⌝ }
-    ensures fields { λ _. ⌜ now (fields .exit) ≡ arrayTurn places (queueOf (now (modes .entry)) (now (s .entry)) (now (x .entry)) (now (kept .entry))) (Request.asks (waiting mode «asked_s» «asked_x»)) .fields ⌝ }
-    ensures modes { λ _. ⌜ now (modes .exit) ≡ arrayTurn places (queueOf (now (modes .entry)) (now (s .entry)) (now (x .entry)) (now (kept .entry))) (Request.asks (waiting mode «asked_s» «asked_x»)) .modes ⌝ }
-    ensures s { λ _. ⌜ now (s .exit) ≡ arrayTurn places (queueOf (now (modes .entry)) (now (s .entry)) (now (x .entry)) (now (kept .entry))) (Request.asks (waiting mode «asked_s» «asked_x»)) .s ⌝ }
-    ensures x { λ _. ⌜ now (x .exit) ≡ arrayTurn places (queueOf (now (modes .entry)) (now (s .entry)) (now (x .entry)) (now (kept .entry))) (Request.asks (waiting mode «asked_s» «asked_x»)) .x ⌝ }
-    ensures kept { λ _. ⌜ now (kept .exit) ≡ arrayTurn places (queueOf (now (modes .entry)) (now (s .entry)) (now (x .entry)) (now (kept .entry))) (Request.asks (waiting mode «asked_s» «asked_x»)) .kept ⌝ }
-{
-    let queue = load(modes, s, x, kept);
-    let new = Waiting {
-        mode,
-        pair: Pair {
-            s: asked_s,
-            x: asked_x,
-        },
-    };
-    let outcome = lock_queue::ask(queue, places as usize, new);
-    write_outcome(modes, s, x, kept, fields, outcome)
-}
-
-// The desk and start `desk` leaves.
-pub fn leave(
-    modes: &mut [u8; 32],
-    s: &mut [u64; 32],
-    x: &mut [u64; 32],
-    kept: &mut [u64; 3],
-    places: u64,
-    desk: u32,
-    fields: &mut [u64; 4],
-) -> u8
-    ensures number { λ r. ⌜ r ≡ arrayTurn places (queueOf (now (modes .entry)) (now (s .entry)) (now (x .entry)) (now (kept .entry))) (Request.leaves desk) .number ⌝ }
-    ensures fields { λ _. ⌜ now (fields .exit) ≡ arrayTurn places (queueOf (now (modes .entry)) (now (s .entry)) (now (x .entry)) (now (kept .entry))) (Request.leaves desk) .fields ⌝ }
-    ensures modes { λ _. ⌜ now (modes .exit) ≡ arrayTurn places (queueOf (now (modes .entry)) (now (s .entry)) (now (x .entry)) (now (kept .entry))) (Request.leaves desk) .modes ⌝ }
-    ensures s { λ _. ⌜ now (s .exit) ≡ arrayTurn places (queueOf (now (modes .entry)) (now (s .entry)) (now (x .entry)) (now (kept .entry))) (Request.leaves desk) .s ⌝ }
-    ensures x { λ _. ⌜ now (x .exit) ≡ arrayTurn places (queueOf (now (modes .entry)) (now (s .entry)) (now (x .entry)) (now (kept .entry))) (Request.leaves desk) .x ⌝ }
-    ensures kept { λ _. ⌜ now (kept .exit) ≡ arrayTurn places (queueOf (now (modes .entry)) (now (s .entry)) (now (x .entry)) (now (kept .entry))) (Request.leaves desk) .kept ⌝ }
-{
-    let queue = load(modes, s, x, kept);
-    let outcome = lock_queue::leave(queue, places as usize, desk);
-    write_outcome(modes, s, x, kept, fields, outcome)
 }
