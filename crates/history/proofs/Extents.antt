@@ -16,7 +16,7 @@ use Rattle.commands.proofs.CommandBytes.{length-payload}
 use Rattle.stream.specs.Stream.{extent, whole, commands, endOf}
 use Rattle.stream.proofs.Place.{extent-fixed, extent-take, whole-out}
 use Rattle.stream.proofs.Commands.{along, commands-whole, commands-cut, end-whole, end-cut}
-use Rattle.stream_claims.proofs.Claims.{claims}
+use Rattle.stream.proofs.Walks as walk
 use Rattle.history.specs.Engine.{mostKept, mostPayload, overLimits}
 use Rattle.history.specs.Lent.{historySize}
 use Rattle.history.specs.Steps.{Measured, overWith}
@@ -91,7 +91,7 @@ unfolding spread
 measured s =
     let count = length-reverse (commands s) in
     let all = paid-reverse (commands s) [] in
-    record { ends = refl; counts = refl; pays = refl; sum = omega (arith, sum s, count, all); within = claims .parts s .within }
+    record { ends = refl; counts = refl; pays = refl; sum = omega (arith, sum s, count, all); within = walk.within s }
 
 -- The limits, by the command's own length.
 pub over-is : (command : List ℕ) (kept : List (List ℕ)) → formed command ≡ true → overLimits (command ∷ kept) ≡ overWith kept (fieldsOf command)

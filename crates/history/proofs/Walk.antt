@@ -21,7 +21,7 @@ use Rattle.guard.specs.declared.Entry.{Entry}
 use Rattle.stream.specs.Stream.{commands, nextAt, endOf}
 use Rattle.stream.specs.declared.Next.the-variants.{Whole, Cut}
 use Rattle.stream.proofs.Commands.{Walked, walked-none, walked-more, walked-done}
-use Rattle.stream_claims.proofs.Claims.{claims}
+use Rattle.stream.proofs.Walks as walk
 use Rattle.history.specs.WorkedOut.{concerns, entryFrom, highest, timesWritten}
 use Rattle.history.proofs.Raised.{entry-here, entry-other}
 use Rattle.history.specs.declared.Span.{Span}
@@ -57,16 +57,16 @@ module _ {B : Type 0} (step : B → List ℕ → B) where
     working-more end d e h =
         record {
           walked = walked-more s at end (w .walked) e .0;
-          left = rw h (rw (claims .stepping s at .passes end e .2) at (w .left));
+          left = rw h (rw (walk.passes s at end e .2) at (w .left));
         }
 
     pub working-done : nextAt s at ≡ Cut → b ≡ goal
     unfolding over
-    working-done e = rw (claims .stepping s at .stops e) at (w .left)
+    working-done e = rw (walk.stops s at e) at (w .left)
 
 -- Each step goes on by a whole command, within the bytes.
 pub within : (s : List ℕ) (at end : ℕ) → nextAt s at ≡ Whole end → (at + fixed ≤ end) × (end ≤ length s)
-within s at end e = let p = claims .stepping s at .passes end e in (p .0, p .1)
+within s at end e = let p = walk.passes s at end e in (p .0, p .1)
 
 pub less : (s : List ℕ) (at end : ℕ) → nextAt s at ≡ Whole end → length s - end < length s - at
 less s at end e = let w = within s at end e in omega (arith, w .0, w .1)

@@ -17,11 +17,10 @@ use Rattle.lists.proofs.Table.{unapplied, none-applies}
 use Rattle.lists.proofs.Tests.{cases}
 use Rattle.commands.specs.Bytes.{fieldsOf, formed}
 use Rattle.commands.proofs.CommandBytes.{formedness}
-use Rattle.stream.specs.Stream.{commands, endOf, endToEnd}
+use Rattle.stream.specs.Stream.{OneCommand, commands, endOf, endToEnd}
 use Rattle.stream.proofs.Place.{cut-short}
 use Rattle.stream.proofs.Commands.{end-length}
-use Rattle.stream_claims.specs.Claims.{OneCommand}
-use Rattle.stream_claims.proofs.Claims.{claims}
+use Rattle.stream.proofs.Walks as walk
 use Rattle.guard.specs.Replies.{replied}
 use Rattle.history.specs.Engine.{overLimits, HISTORY-FULL, engineRows, deducedBy, deduced}
 use Rattle.history.specs.Lent.{historySize, keptIn, bytesBy, usedBy, historyServe}
@@ -58,7 +57,7 @@ one-more l command each own i h = go (cases (ltb i (length l)))
 front : (s : List ℕ) → take (endOf s) s ≡ endToEnd (commands s)
 front s =
     ap (λ (n : ℕ). take n s) (end-length s)
-    ∙ ap (take (length (endToEnd (commands s)))) (sym (claims .parts s .joined))
+    ∙ ap (take (length (endToEnd (commands s)))) (sym (walk.joined s))
     ∙ take-append-seam (endToEnd (commands s)) (drop (endOf s) s)
 
 spread-one : (command : List ℕ) → endToEnd (command ∷ []) ≡ command
@@ -70,7 +69,7 @@ commands-more s command own =
     ap (λ (l : List ℕ). commands (l ++ command)) (front s)
     ∙ ap (λ (l : List ℕ). commands (endToEnd (commands s) ++ l)) (sym (spread-one command))
     ∙ ap commands (sym (spread-append (λ (c : List ℕ). c) (commands s) (command ∷ [])) ∙ sym (append-nil (endToEnd (commands s ++ (command ∷ [])))))
-    ∙ claims .back (commands s ++ (command ∷ [])) [] (one-more (commands s) command (claims .parts s .each) own) (cut-short [] (omega arith))
+    ∙ walk.back (commands s ++ (command ∷ [])) [] (one-more (commands s) command (walk.each s) own) (cut-short [] (omega arith))
 
 -- ---- the bytes
 
@@ -86,7 +85,7 @@ module _ (bytes : List ℕ) (used : ℕ) (command : List ℕ) (long : length byt
   -- What stands before the place.
   take-take : take (endOf s) bytes ≡ take (endOf s) s
   take-take =
-      let within = claims .parts s .within in
+      let within = walk.within s in
       let short = length-take used bytes in
       sym (lib.Seq.take-take (endOf s) used bytes (omega (arith, within, short)))
 

@@ -12,7 +12,7 @@ use Rattle.image.specs.Bytes.{roomOf}
 use Rattle.image.specs.Image.{frontSize}
 use Rattle.program.specs.Program.{perLine, mostInput, runs, printed, mostNumbers, runBehind, Lent}
 use Rattle.stream.specs.Stream.{commands}
-use Rattle.stream_claims.proofs.Claims.{claims}
+use Rattle.stream.proofs.Walks as walk
 use Rattle.image.proofs.InFront.{Fronting}
 
 -- The stream lent as the rest of the input, from a place on to its end.
@@ -36,7 +36,7 @@ answered-by size room input blank copy out₀ out within most put run =
 
 -- An input that is not too long has so few commands that their numbers have a place.
 pub lines-fit : (size : ℕ) (input : List ℕ) → length input ≤ mostInput → length (commands (drop size input)) * perLine ≤ mostNumbers
-lines-fit size input h = omega (arith, claims .parts (drop size input) .few, length-drop size input)
+lines-fit size input h = omega (arith, walk.few (drop size input), length-drop size input)
 
 pub lent : (input out : List ℕ) (size room : ℕ) → Fronting input → size ≡ frontSize input → room ≡ roomOf input → length input ≤ mostInput → mostNumbers ≤ length out →
     Lent input size room out

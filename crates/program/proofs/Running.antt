@@ -14,7 +14,7 @@ use Rattle.model.specs.Serve.{serve}
 use Rattle.stream.specs.Stream.{commands, nextAt}
 use Rattle.stream.specs.declared.Next.the-variants.{Whole, Cut}
 use Rattle.stream.proofs.Commands.{Walked, walked-none, walked-more}
-use Rattle.stream_claims.proofs.Claims.{claims}
+use Rattle.stream.proofs.Walks as walk
 
 -- A run that has come to a place of the stream, after so many commands: what is left to run from there on leaves what the whole run leaves.
 pub record Running (image₀ reply₀ stream out₀ image reply out : List ℕ) (at count : ℕ) : Type 0 where
@@ -47,7 +47,7 @@ running-none image reply stream out h =
 module _ (image₀ reply₀ stream out₀ image reply out : List ℕ) (at count : ℕ) (r : Running image₀ reply₀ stream out₀ image reply out at count) where
   pub running-within : (end : ℕ) → nextAt stream at ≡ Whole end → (at < end) × (end ≤ length stream) × (count * perLine + perLine ≤ length out) × (count < end)
   running-within end e =
-      let s = claims .stepping stream at .passes end e in
+      let s = walk.passes stream at end e in
       let n = rw (s .2) at (r .counted) in
       (omega (arith, s .0), s .1, omega (arith, n, r .room, r .long), omega (arith, s .0, r .few))
 
@@ -61,7 +61,7 @@ module _ (image₀ reply₀ stream out₀ image reply out : List ℕ) (at count 
       Running image₀ reply₀ stream out₀ image′ reply′ out′ end (count + 1)
   unfolding runs part spread
   running-more end a image′ reply′ out′ e l p q o wide deep =
-      let s = claims .stepping stream at .passes end e in
+      let s = walk.passes stream at end e in
       let n = rw (s .2) at (r .counted) in
       let w = running-within end e in
       let fits : count * perLine + length (numbersOf a) ≤ length out = omega (arith, per-line a, w .2) in
@@ -85,16 +85,16 @@ module _ (image₀ reply₀ stream out₀ image reply out : List ℕ) (at count 
 
   module _ (e : nextAt stream at ≡ Cut) where
     pub running-count : count ≡ length (commands stream)
-    running-count = let n = rw (claims .stepping stream at .stops e) at (r .counted) in omega (arith, n)
+    running-count = let n = rw (walk.stops stream at e) at (r .counted) in omega (arith, n)
 
     pub running-image : image ≡ runs image₀ reply₀ (commands stream) .image
     unfolding runs
-    running-image = rw (claims .stepping stream at .stops e) at (r .left-image)
+    running-image = rw (walk.stops stream at e) at (r .left-image)
 
     pub running-reply : reply ≡ runs image₀ reply₀ (commands stream) .reply
     unfolding runs
-    running-reply = rw (claims .stepping stream at .stops e) at (r .left-reply)
+    running-reply = rw (walk.stops stream at e) at (r .left-reply)
 
     pub running-out : out ≡ splice 0 (printed (runs image₀ reply₀ (commands stream))) out₀
     unfolding runs spread
-    running-out = sym (splice-nil (count * perLine) out) ∙ rw (claims .stepping stream at .stops e) at (r .left-out)
+    running-out = sym (splice-nil (count * perLine) out) ∙ rw (walk.stops stream at e) at (r .left-out)

@@ -1,2 +1,3 @@
 pub mod Place
 pub mod Commands
+pub mod Walks

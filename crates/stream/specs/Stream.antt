@@ -1,6 +1,7 @@
 -- A stream: commands end to end (rules 8.1 and 8.2).
 -- Assumes nothing.
-use Prim.Native.Nat.{ℕ, zero, suc, _+_}
+use Prim.Native.Nat.{ℕ, zero, suc, _+_, _≤_}
+use mathlib.Core.Path.{_≡_}
 use mathlib.Core.List.{List, [], _∷_}
 use mathlib.Core.Bool.{Bool, cond, _&&_}
 use lib.Dec.{leb}
@@ -20,6 +21,10 @@ extent bytes = fixed + field 50 2 bytes
 -- The bytes begin with a whole command: all of its fixed part, and all of its payload.
 unfoldable pub whole : List ℕ → Bool
 whole bytes = leb fixed (length bytes) && leb (extent bytes) (length bytes)
+
+-- A list of bytes is one whole command, by its own length field (rule 8.1).
+abbrev pub OneCommand : List ℕ → Type 0
+OneCommand c = (fixed ≤ length c) × (length c ≡ fixed + field 50 2 c)
 
 -- What stands at a place of a stream. From a place beyond the end on nothing is left, which is no whole command.
 unfoldable pub nextAt : List ℕ → ℕ → Next

@@ -9,12 +9,8 @@ use denote.Ref.{RefT, now}
 use Rattle.lists.specs.Parts.{part}
 use Rattle.commands.specs.Bytes.{fixed}
 use Rattle.lists.specs.Le.{field}
-use Rattle.stream.specs.Stream.{whole, nextAt, commands, endOf, endToEnd, placeOf, begun, movedTo, steps}
+use Rattle.stream.specs.Stream.{whole, OneCommand, nextAt, commands, endOf, endToEnd, placeOf, begun, movedTo, steps}
 use Rattle.stream.specs.declared.Next.the-variants.{Whole, Cut}
-
--- A list of bytes is one whole command, by its own length field.
-abbrev pub OneCommand : List ℕ → Type 0
-OneCommand c = (fixed ≤ length c) × (length c ≡ fixed + field 50 2 c)
 
 -- The commands and the rest, end to end, are the stream, and the rest begins no whole command.
 pub record Parts (stream : List ℕ) : Type 0 where
