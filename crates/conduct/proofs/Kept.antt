@@ -30,7 +30,7 @@ use Rattle.lock_queue.specs.declared.Waiting.{Waiting}
 use Rattle.lock_queue.specs.Good.{waitingFormed as wellFormed}
 use Rattle.lock_queue.specs.Requests.{Request, asks, leaves, lapses, answered, number, after, answer, blankAnswer}
 use Rattle.lock_queue.proofs.Judged.{no-row}
-use Rattle.lock_queue_claims.proofs.Claims.{refusal-leaves}
+use Rattle.lock_queue.proofs.After.{refusal-leaves}
 use Rattle.proposal_claims.proofs.Claims.{asked-largest, left-largest, lapsed-largest}
 use Rattle.proposals.specs.declared.Known.{Known}
 use Rattle.proposals.specs.Propose.{learnt, nextT, ownAbove, pairFor, proposed}

@@ -9,10 +9,9 @@ use mathlib.Core.Bool.{Bool, true, false, _&&_, and-false}
 use borrow.Author.Tests.{leb-true}
 use lib.Dec.{leb}
 use lib.ListN.{length, drop, replicate, length-replicate}
-use Rattle.lock_queue_claims.proofs.Claims.{refusal-leaves, others-kept, bad-number, bad-answer, beyond-lent}
+use Rattle.lock_queue.proofs.After.{refusal-leaves, others-kept, bad-number, bad-answer, beyond-lent}
 use Rattle.lock_queue.proofs.Checks.{good-unsized}
-use Rattle.lock_queue_claims.specs.Claims.{longer}
-use Rattle.lock_queue.specs.Queue.{State, state, mostPlaces, noWaiting}
+use Rattle.lock_queue.specs.Queue.{State, state, mostPlaces, noWaiting, longer}
 use Rattle.lock_queue.specs.Requests.{Request, number, after, answer}
 use Rattle.lock_queue.specs.declared.LockOutcome.{LockOutcome}
 use Rattle.lock_queue.specs.declared.Waiting.{Waiting}

@@ -6,3 +6,5 @@ pub mod Checks
 pub mod Upgrades
 pub mod Judged
 pub mod Literals
+pub mod Removed
+pub mod After

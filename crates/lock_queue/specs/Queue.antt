@@ -2,7 +2,7 @@
 -- lock manager's queue for one shared resource.
 -- Assumes nothing.
 use Prim.Native.Nat.{ℕ, suc, _+_}
-use mathlib.Core.List.{List, [], _∷_, map}
+use mathlib.Core.List.{List, [], _∷_, _++_, map}
 use mathlib.Core.Bool.{Bool, true, false, cond, not, _&&_, _||_}
 use lib.ListN.{length, take, getD}
 use lib.Dec.{eqb}
@@ -33,6 +33,10 @@ noWaiting = record { mode = 0; pair = noPair }
 -- Rule 7.3: an empty queue, over any places. None of them is taken, and nothing was accepted yet.
 abbrev pub emptyQueue : List Waiting → State
 emptyQueue places = record { places = places; count = 0; largest = noPair }
+
+-- The queue with more places behind those it has.
+abbrev pub longer : List Waiting → State → State
+longer more q = record { places = q .places ++ more; count = q .count; largest = q .largest }
 
 -- Rule 7.2: the entries that stand, from the front.
 abbrev pub standing : State → List Waiting

@@ -18,8 +18,9 @@ use Rattle.lock_queue.specs.declared.Waiting.{Waiting}
 use Rattle.lock_queue.proofs.Checks.{good-by}
 use Rattle.lock_queue.proofs.Judged.{accepted-good, accepted-after, lapse-leaves, lapse-same}
 use Rattle.lock_queue_claims.specs.Course.{queueAfter, granted, largestAsked, lasting, EmptyGood, LargestAccepted, StandingAccepted}
-use Rattle.lock_queue_claims.proofs.Claims.{refusal-leaves, joins-end, gap-closed, others-kept, onto-largest}
-use Rattle.lock_queue_claims.proofs.Removed.{first-alone, rest-distinct}
+use Rattle.lock_queue.proofs.After.{refusal-leaves, others-kept, onto-largest}
+use Rattle.lock_queue_claims.proofs.Claims.{joins-end, gap-closed}
+use Rattle.lock_queue.proofs.Removed.{first-alone, rest-distinct}
 
 pub empty-good : EmptyGood
 unfolding all allFrom distinct

@@ -1,4 +1,3 @@
-pub mod Removed
 pub mod Claims
 pub mod Upgrades
 pub mod Course

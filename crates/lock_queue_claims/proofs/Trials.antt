@@ -2,7 +2,8 @@
 use native.Mathlib.Omega.{arith}
 use mathlib.Core.Path.{_≡_, refl}
 use mathlib.Core.Logic.{inl, inr}
-use mathlib.Core.List.{[]}
+use mathlib.Core.List.{[], _∷_}
+use mathlib.Core.Bool.{true}
 use lib.Dec.{T}
 use Rattle.lists.proofs.Tests.{to-T}
 use Rattle.stamps.specs.Stamp.{stamp, exclusive}
@@ -14,7 +15,7 @@ use Rattle.lock_queue.specs.Good.{distinct, good}
 use Rattle.lock_queue.specs.Requests.{asks, leaves, joined, removed, without, upgrading, onto, answered, number, after, answer}
 use Rattle.lock_queue_claims.specs.Course.{queueAfter, granted, largestAsked, lasting}
 use Rattle.lock_queue_claims.specs.Trials.{numbers, guest, asker, twoShared, unused, courseSent, TrialN, TrialUpgrade, TrialUpgraded, TrialCourse}
-use Rattle.lock_queue_claims.proofs.Upgrades.{twelve-means, upgrade-by-pair, upgrade-never-full, upgrade-is-both}
+use Rattle.lock_queue_claims.proofs.Upgrades.{twelve-means, upgrade-by-pair, upgrade-never-full, upgrade-is-both, newcomer-joins-end, newcomer-holds}
 use Rattle.lock_queue_claims.proofs.Course.{empty-good, largest-accepted, standing-accepted}
 
 pub trial-n : TrialN
@@ -67,6 +68,19 @@ again-shared = twelve-means 2 twoShared (guest 2) .1 (to-T refl, to-T refl, to-T
 again-exclusive : number 2 (after 2 twoShared (asks raise)) (asks raise) ≡ 12
 unfolding number after upgrading onto firstPlace good all allFrom distinct stands joined without removed
 again-exclusive = twelve-means 2 (after 2 twoShared (asks raise)) raise .1 (to-T refl, to-T refl, to-T refl, inr refl)
+
+-- Desk 1 asks shared where nobody stands, and is no upgrade.
+new-accepted : number 2 unused (asks (guest 1)) ≡ 0
+unfolding number upgrading onto firstPlace good all allFrom distinct stands
+new-accepted = refl
+
+new-last : standing (after 2 unused (asks (guest 1))) ≡ guest 1 ∷ []
+unfolding upgrading firstPlace stands
+new-last = newcomer-joins-end 2 unused (guest 1) (omega arith) (λ t. t) new-accepted
+
+new-holds : answer 2 unused (asks (guest 1)) .holds ≡ true
+unfolding upgrading firstPlace stands noExclusive
+new-holds = newcomer-holds 2 unused (guest 1) (omega arith) (λ t. t) new-accepted
 
 -- The empty queue over one place and over 32, whatever they hold; and a list of requests over as many places as are lent.
 least : T (good 1 unused)

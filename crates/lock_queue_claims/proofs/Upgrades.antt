@@ -1,27 +1,29 @@
 -- The claims on upgrading. Assumes nothing.
-use Prim.Native.Nat.{ℕ}
+use Prim.Native.Nat.{ℕ, _≤_}
 use native.Mathlib.Omega.{arith}
 use mathlib.Core.Path.{_≡_, refl, sym, ap, _∙_}
 use mathlib.Core.Logic.{_⊎_, inl, inr}
-use mathlib.Core.List.{map}
+use mathlib.Core.List.{map, _++_, [], _∷_}
 use mathlib.Core.Bool.{Bool, true, false, cond, not, _&&_, and-false}
 use borrow.Author.Tests.{eq-eqb, ne-eqb, eqb-false, not-true, not-false}
 use lib.Dec.{T, eqb}
-use lib.ListN.{getD}
+use lib.ListN.{length, getD}
+use lib.Seq.{length-take-le}
 use Rattle.lists.specs.Table.{all, applies}
 use Rattle.lists.proofs.Tests.{cases, never-both, to-T, from-T, and-in, and-left, and-right}
 use Rattle.stamps.proofs.Stamp.{session-rules}
 use Rattle.stamps.specs.Stamp.{shared, exclusive}
 use Rattle.lock_queue.specs.Queue.{State, noWaiting, standing, desk, desks, stands, firstPlace}
 use Rattle.lock_queue.specs.Good.{waitingFormed, good}
-use Rattle.lock_queue.specs.Requests.{modeOf, upgrading, denied, asks, leaves, queueRows, applied, number, after}
+use Rattle.lock_queue.specs.Requests.{modeOf, upgrading, denied, asks, leaves, removed, queueRows, applied, number, after}
 use Rattle.lock_queue.specs.declared.Waiting.{Waiting}
 use Rattle.lock_queue.proofs.Checks.{good-out}
-use Rattle.lock_queue.proofs.Judged.{accepted-after}
+use Rattle.lock_queue.proofs.Judged.{accepted-after, accepted-good}
 use Rattle.lock_queue.proofs.Upgrades.{up-stands}
-use Rattle.lock_queue_claims.specs.Upgrades.{AsksUpgrade, TwelveMeans, UpgradeByPair, UpgradeNeverFull, UpgradeIsBoth}
-use Rattle.lock_queue_claims.proofs.Claims.{each-number, up-left, up-again, up-same}
-use Rattle.lock_queue_claims.proofs.Removed.{all-at, stands-inside}
+use Rattle.lock_queue_claims.specs.Upgrades.{AsksUpgrade, TwelveMeans, UpgradeByPair, UpgradeNeverFull, UpgradeIsBoth, NewcomerJoinsEnd, NewcomerHolds}
+use Rattle.lock_queue.proofs.After.{absent, up-left, up-again, up-same}
+use Rattle.lock_queue_claims.proofs.Claims.{each-number, joins-end, asker-holds}
+use Rattle.lock_queue.proofs.Removed.{all-at, stands-inside, removed-absent}
 
 -- An upgrade by its test.
 up : (new : Waiting) (q : State) → AsksUpgrade new q → upgrading (new .mode) (desk new) (standing q) ≡ true
@@ -115,3 +117,25 @@ twelve-means lent q new = (out, λ h. into (from-T (good lent q) (h .0)) (from-T
         let f = not-not (waitingFormed new) (and-left (not (not (waitingFormed new))) true (and-right (not (not (good lent q))) (not (not (waitingFormed new)) && true) passed)) in
         let s = and-left (stands (desk new) (desks (standing q))) (not upgrade) row in
         (to-T g, to-T f, to-T s, plain-modes lent q new g f s (not-true upgrade (and-right (stands (desk new) (desks (standing q))) (not upgrade) row)))
+
+-- ---- an ask that is no upgrade
+
+module _ (lent : ℕ) (q : State) (new : Waiting) (lie : lent ≤ length (q .places)) (other : AsksUpgrade new q → ⊥) (e : number lent q (asks new) ≡ 0) where
+  plain : upgrading (new .mode) (desk new) (standing q) ≡ false
+  plain = never-true (upgrading (new .mode) (desk new) (standing q)) other
+    where
+      never-true : (b : Bool) → (T b → ⊥) → b ≡ false
+      never-true true h = absurd (h tt)
+      never-true false h = refl
+
+  same : removed (desk new) (standing q) ≡ standing q
+  same = removed-absent (desk new) (standing q) (absent lent q new lie e plain)
+
+  long : length (standing q) ≡ q .count
+  long = length-take-le (q .count) (q .places) (omega (arith, accepted-good lent q (asks new) e .counted))
+
+pub newcomer-joins-end : NewcomerJoinsEnd
+newcomer-joins-end lent q new lie other e = joins-end lent q new lie e ∙ rw (same lent q new lie other e)
+
+pub newcomer-holds : NewcomerHolds
+newcomer-holds lent q new lie other e = asker-holds lent q new lie e ∙ rw (same lent q new lie other e, long lent q new lie other e)

@@ -9,7 +9,7 @@ use lib.Dec.{T, eqb}
 use lib.ListN.{length, drop, getD}
 use Rattle.stamps.specs.Stamp.{shared, exclusive, noPair}
 use Rattle.lists.specs.Table.{applies, noRow, earlier}
-use Rattle.lock_queue.specs.Queue.{State, noWaiting, standing, desk, noExclusive, holds}
+use Rattle.lock_queue.specs.Queue.{State, noWaiting, longer, standing, desk, noExclusive, holds}
 use Rattle.lock_queue.specs.Good.{good}
 use Rattle.lock_queue.specs.Requests.{removed, modeOf, Request, asks, leaves, queueRows, blankAnswer, number, after, answer}
 use Rattle.lock_queue.specs.declared.Waiting.{Waiting}
@@ -106,9 +106,6 @@ abbrev pub NoDeskZero : Type 0
 NoDeskZero = (lent : ℕ) (q : State) (start : ℕ) → T (good lent q) → start < 65536 → number lent q (leaves start) ≡ 15
 
 -- Places beyond the lent ones make no difference, and keep what they hold.
-abbrev pub longer : List Waiting → State → State
-longer more q = record { places = q .places ++ more; count = q .count; largest = q .largest }
-
 abbrev pub BeyondLent : Type 0
 BeyondLent =
     (lent : ℕ) (q : State) (r : Request) (more : List Waiting) → lent ≤ length (q .places) →

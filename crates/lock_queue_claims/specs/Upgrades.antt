@@ -3,13 +3,14 @@
 use Prim.Native.Nat.{ℕ, _≤_}
 use mathlib.Core.Path.{_≡_}
 use mathlib.Core.Logic.{_↔_, _⊎_}
+use mathlib.Core.List.{[], _∷_, _++_}
 use mathlib.Core.Bool.{cond}
-use lib.Dec.{T}
+use lib.Dec.{T, eqb}
 use lib.ListN.{length}
 use Rattle.stamps.specs.Stamp.{shared, exclusive}
-use Rattle.lock_queue.specs.Queue.{State, standing, desk, desks, stands}
+use Rattle.lock_queue.specs.Queue.{State, standing, desk, desks, stands, noExclusive}
 use Rattle.lock_queue.specs.Good.{waitingFormed, good}
-use Rattle.lock_queue.specs.Requests.{modeOf, upgrading, denied, asks, leaves, number, after}
+use Rattle.lock_queue.specs.Requests.{modeOf, upgrading, denied, asks, leaves, number, after, answer}
 use Rattle.lock_queue.specs.declared.Waiting.{Waiting}
 
 -- The entry asks for an upgrade of the one that its desk has in the queue.
@@ -41,3 +42,16 @@ UpgradeIsBoth =
     (number lent q (leaves (desk new)) ≡ 0)
     × (number lent (after lent q (leaves (desk new))) (asks new) ≡ 0)
     × (after lent q (asks new) ≡ after lent (after lent q (leaves (desk new))) (asks new))
+
+-- An accepted ask that is no upgrade joins behind all that stood: `JoinsEnd` of such an ask says no more and no less than it did before there were
+-- upgrades.
+abbrev pub NewcomerJoinsEnd : Type 0
+NewcomerJoinsEnd =
+    (lent : ℕ) (q : State) (new : Waiting) → lent ≤ length (q .places) → (AsksUpgrade new q → ⊥) → number lent q (asks new) ≡ 0 →
+    standing (after lent q (asks new)) ≡ standing q ++ (new ∷ [])
+
+-- It holds the lock: shared if no exclusive stood, exclusive if nobody stood (`AskerHolds` in the same way).
+abbrev pub NewcomerHolds : Type 0
+NewcomerHolds =
+    (lent : ℕ) (q : State) (new : Waiting) → lent ≤ length (q .places) → (AsksUpgrade new q → ⊥) → number lent q (asks new) ≡ 0 →
+    answer lent q (asks new) .holds ≡ cond (eqb (new .mode) exclusive) (eqb (q .count) 0) (noExclusive (standing q))

@@ -18,7 +18,8 @@ use Rattle.lock_queue.specs.declared.Waiting.{Waiting}
 use Rattle.lock_queue.specs.declared.Silence.{Silence}
 use Rattle.lock_queue.specs.Requests.{joined, without, Request, asks, leaves, lapses, denied, answered, number, after, answer}
 use Rattle.lock_queue.proofs.Judged.{accepted-after}
-use Rattle.lock_queue_claims.proofs.Claims.{each-number, refusal-leaves, onto-largest}
+use Rattle.lock_queue.proofs.After.{refusal-leaves, onto-largest}
+use Rattle.lock_queue_claims.proofs.Claims.{each-number}
 use Rattle.lock_queue_claims.specs.Course.{queueAfter}
 use Rattle.proposals.specs.declared.Known.{Known}
 use Rattle.proposals.specs.Propose.{learnt, nextT, ownAbove, lastT, pairFor, proposalRows, proposed}
