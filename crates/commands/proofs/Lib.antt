@@ -1,3 +1,4 @@
 pub mod Rules
 pub mod CommandBytes
 pub mod Parsing
+pub mod Languages

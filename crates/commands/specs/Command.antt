@@ -25,6 +25,10 @@ writes original c = eqb (c .act) 3
 writes (translation zero) c = eqb (c .act) 4
 writes (translation (suc t)) c = false
 
+-- The translation that a command names, by its number: acts 2 and 4 reach no other. A command names translation 0.
+abbrev pub language : Command → ℕ
+language c = 0
+
 -- The command writes a text.
 abbrev pub isWrite : Command → Bool
 isWrite c = writes original c || writes (translation 0) c

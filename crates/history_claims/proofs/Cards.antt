@@ -2,9 +2,11 @@
 use Prim.Native.Nat.{ℕ}
 use mathlib.Core.Path.{_≡_, refl}
 use mathlib.Core.List.{List, [], _∷_}
-use mathlib.Core.Bool.{true, false}
+use mathlib.Core.Bool.{Bool, true, false}
+use Rattle.commands.specs.Command.{original, translation, writes}
 use Rattle.commands.specs.Bytes.{fieldsOf, payload}
-use Rattle.image.specs.Image.{noCard}
+use Rattle.guard.specs.Judge.{raise}
+use Rattle.image.specs.Image.{view, noCard}
 use Rattle.model.specs.Serve.{stepped}
 use Rattle.history.specs.WorkedOut.{concerns, highest, timesWritten, textFrom, entryFrom}
 use Rattle.history.proofs.Raised.{entry-here, entry-other, text-here, text-other}
@@ -12,8 +14,13 @@ use Rattle.history_claims.specs.Claims.{cardFrom}
 
 module _ (kept : List (List ℕ)) (command : List ℕ) (k : ℕ) where
   pub card-here : concerns k command ≡ true → cardFrom (command ∷ kept) k ≡ stepped (cardFrom kept k) (fieldsOf command) (payload command)
-  unfolding stepped
-  card-here h = rw (entry-here kept command k h, text-here kept command k _ h, text-here kept command k _ h)
+  unfolding stepped raise
+  card-here h = go (writes (translation 0) (fieldsOf command)) refl
+    where
+      go : (b : Bool) → writes (translation 0) (fieldsOf command) ≡ b
+          → cardFrom (command ∷ kept) k ≡ stepped (cardFrom kept k) (fieldsOf command) (payload command)
+      go true w = rw (entry-here kept command k h, text-here kept command k original h, text-here kept command k (translation 0) h, w)
+      go false w = rw (entry-here kept command k h, text-here kept command k original h, text-here kept command k (translation 0) h, w)
 
   pub card-other : concerns k command ≡ false → cardFrom (command ∷ kept) k ≡ cardFrom kept k
   card-other h = rw (entry-other kept command k h, text-other kept command k _ h, text-other kept command k _ h)
@@ -21,3 +28,7 @@ module _ (kept : List (List ℕ)) (command : List ℕ) (k : ℕ) where
 pub card-none : (k : ℕ) → cardFrom [] k ≡ noCard
 unfolding entryFrom textFrom highest timesWritten
 card-none k = refl
+
+pub entry-none : (k : ℕ) → view 0 noCard ≡ entryFrom [] k
+unfolding entryFrom highest timesWritten
+entry-none k = refl

@@ -21,7 +21,7 @@ use Rattle.image.specs.Layout.{shapeOk}
 use Rattle.image.specs.Image.{Card, Cards, noCard, encode, decode, fresh}
 use Rattle.image.specs.Image.{freshCards}
 use Rattle.image_claims.proofs.Claims.{freshSound, goodEncodes}
-use Rattle.model.specs.Serve.{cardOf, serve}
+use Rattle.model.specs.Serve.{entryOf, serve}
 use Rattle.model.specs.Words.{Sent, Event, imageAfter}
 use Rattle.model.specs.Claims.{AllBytes}
 use Rattle.model.proofs.Demand.{bytes-reverse, same-log}
@@ -125,7 +125,7 @@ first-full n c shape sent b s h g =
           full-reply n c kept (s .command) (s .lent) number
           ∙ ap (λ (e : Entry). replied HISTORY-FULL e (fieldsOf (s .command)))
           (full-entry n c kept cs (t .cards) s number
-          ∙ ap (λ (cs : Cards). cardOf cs (fieldsOf (s .command)) .entry) (sym (cards-are n c shape sent b)));
+          ∙ ap (λ (cs : Cards). entryOf cs (fieldsOf (s .command))) (sym (cards-are n c shape sent b)));
     }
 
 -- ---- each number

@@ -5,31 +5,39 @@ use mathlib.Core.Logic.{_≢_, _⊎_, inl, inr}
 use mathlib.Core.List.{List, [], _∷_}
 use mathlib.Core.Bool.{true, false}
 use borrow.Author.Tests.{eqb-true, eqb-false, eq-eqb, ltb-true, not-true}
-use lib.Dec.{eqb, ltb}
+use lib.Dec.{eqb, ltb, lit<}
 use lib.ListN.{length, getD, set, length-set, length-replicate, getD-replicate}
 use lib.Seq.{getD-set-same, getD-set-other}
-use Rattle.lists.specs.Table.{first}
+use Rattle.lists.specs.Parts.{splice}
+use Rattle.lists.specs.Table.{first, settled}
 use Rattle.lists.proofs.Table.{last-given, last-idle}
 use Rattle.lists.proofs.Tests.{cases, or-fails}
+use Rattle.commands.specs.Command.{language}
 use Rattle.commands.specs.Bytes.{fieldsOf, payload, formed}
+use Rattle.commands.proofs.CommandBytes.{length-payload}
+use Rattle.guard.specs.Judge.{raise}
+use Rattle.guard.specs.declared.Entry.{Entry}
 use Rattle.guard.specs.Replies.{replied}
-use Rattle.image.specs.Image.{Card, Cards, noCard}
+use Rattle.image.specs.Image.{Card, Cards, view, noCard}
 use Rattle.image.specs.Image.{freshCards}
-use Rattle.model.specs.Serve.{cardOf, requestRows, stepped}
+use Rattle.model.specs.Serve.{cardOf, entryOf, requestRows, stepped, answerBy, replyBy}
 use Rattle.model.specs.Words.{Sent, Event}
 use Rattle.lists.specs.Search.{any, none}
+use Rattle.model.proofs.Stepped.{seen-named}
 use Rattle.model.proofs.Machine.{numberOn, eventBy, cardsBy, cardsFrom, eventsFrom, Passed, passed, count-kept}
 use Rattle.history.specs.WorkedOut.{entryFrom}
-use Rattle.history.specs.Engine.{overLimits, HISTORY-FULL, guardRows, engineRows, keptBy, deducedBy, deduced}
+use Rattle.history.specs.Engine.{overLimits, HISTORY-FULL, guardRows, engineRows, keptBy, readFrom, deducedBy, deduced}
 use Rattle.history_claims.specs.Claims.{cardFrom, keptAfter, engineEvent, engineEvents, gave22}
-use Rattle.history_claims.proofs.Cards.{card-here, card-other, card-none}
-use Rattle.history.proofs.Raised.{entry-here}
+use Rattle.history_claims.proofs.Cards.{card-here, card-other, card-none, entry-none}
+use Rattle.history.proofs.Raised.{entry-here, entry-other}
 
 -- The engine shows these cards.
 pub record Shows (n c : ℕ) (kept : List (List ℕ)) (cs : Cards) : Type 0 where
   pub count : length (cs .cards) ≡ n
   pub room : cs .room ≡ c
   pub each : (k : ℕ) → k < n → getD (cs .cards) k noCard ≡ cardFrom kept k
+  -- the lengths that the commands name are those of the texts that they brought
+  pub entries : (k : ℕ) → k < n → view 0 (getD (cs .cards) k noCard) ≡ entryFrom kept k
 
 pub shows-fresh : (n c : ℕ) → Shows n c [] (freshCards n c)
 unfolding freshCards
@@ -38,6 +46,7 @@ shows-fresh n c =
       count = length-replicate n noCard;
       room = refl;
       each = λ k h. getD-replicate n k noCard noCard h ∙ sym (card-none k);
+      entries = λ k h. ap (view 0) (getD-replicate n k noCard noCard h) ∙ entry-none k;
     }
 
 -- ---- one request
@@ -52,6 +61,9 @@ module _ (n c : ℕ) (kept : List (List ℕ)) (cs : Cards) (shows : Shows n c ke
   card-is : ltb place n ≡ true → cardOf cs (fieldsOf (s .command)) ≡ cardFrom kept place
   card-is h = shows .each place (ltb-true place n h)
 
+  entry-is : ltb place n ≡ true → entryOf cs (fieldsOf (s .command)) ≡ entryFrom kept place
+  entry-is h = shows .entries place (ltb-true place n h)
+
   -- The event's number is the table's.
   pub number-is : deduced n c kept (s .command) (s .lent) .answer .number ≡ number
   unfolding deduced deducedBy replied
@@ -65,7 +77,7 @@ module _ (n c : ℕ) (kept : List (List ℕ)) (cs : Cards) (shows : Shows n c ke
           → first (guardRows n c kept (s .command) (length (s .lent))) ≡ numberOn cs s
       go (inr f) p = rw f
       go (inl f) (inr p) = rw (f, shows .count, p)
-      go (inl f) (inl p) = rw (card-is p, shows .count, shows .room)
+      go (inl f) (inl p) = rw (sym (entry-is p), shows .count, shows .room)
 
   same-number : number ≢ HISTORY-FULL → number ≡ numberOn cs s
   same-number h =
@@ -77,10 +89,22 @@ module _ (n c : ℕ) (kept : List (List ℕ)) (cs : Cards) (shows : Shows n c ke
       sym guard-number
       ∙ last-given (guardRows n c kept (s .command) (length (s .lent))) (overLimits (s .command ∷ kept)) 21 tt refl .0 h .0
 
-  pub full-entry : number ≡ HISTORY-FULL → entryFrom kept place ≡ cardOf cs (fieldsOf (s .command)) .entry
+  pub full-entry : number ≡ HISTORY-FULL → entryFrom kept place ≡ entryOf cs (fieldsOf (s .command))
   full-entry h =
       let there = passed cs s (full-accepted h) .exists in
-      sym (ap (λ (card : Card). card .entry) (card-is (sym (ap (ltb place) (shows .count)) ∙ there)))
+      sym (entry-is (sym (ap (ltb place) (shows .count)) ∙ there))
+
+  -- The answer and the text read, where the card is there.
+  answer-is : (m : ℕ) → ltb place n ≡ true
+      → replied m (entryFrom (keptBy m kept (s .command)) place) (fieldsOf (s .command)) ≡ answerBy m cs (s .command)
+  answer-is zero p =
+      ap (λ (e : Entry). replied 0 e (fieldsOf (s .command)))
+      (entry-here kept (s .command) place (eq-eqb place place refl) ∙ ap (λ (e : Entry). raise e (fieldsOf (s .command))) (sym (entry-is p)))
+  answer-is (suc j) p = ap (λ (e : Entry). replied (suc j) e (fieldsOf (s .command))) (sym (entry-is p))
+
+  reply-is : (m : ℕ) → ltb place n ≡ true
+      → settled m (splice 0 (readFrom kept (fieldsOf (s .command))) (s .lent)) (s .lent) ≡ replyBy m cs (s .command) (s .lent)
+  reply-is m p = rw (card-is p)
 
   -- The event, by the number of the table of cards.
   event-by : (m : ℕ) → numberOn cs s ≡ m → engineEvent s (deducedBy m kept (s .command) (s .lent)) ≡ eventBy m cs s
@@ -91,8 +115,7 @@ module _ (n c : ℕ) (kept : List (List ℕ)) (cs : Cards) (shows : Shows n c ke
           → engineEvent s (deducedBy m kept (s .command) (s .lent)) ≡ eventBy m cs s
       go m e (inr f) p = let one : 1 ≡ m = sym (rw f) ∙ e in rw (← one)
       go m e (inl f) (inr p) = let two : 2 ≡ m = sym (rw (f, shows .count, p)) ∙ e in rw (← two)
-      go (suc j) e (inl f) (inl p) = rw (card-is p)
-      go zero e (inl f) (inl p) = rw (card-is p, entry-here kept (s .command) place (eq-eqb place place refl))
+      go m e (inl f) (inl p) = λ i. record { sent = s; answer = answer-is m p i; reply = reply-is m p i }
 
   pub same-event : number ≢ HISTORY-FULL → engineEvent s (deduced n c kept (s .command) (s .lent)) ≡ eventBy (numberOn cs s) cs s
   unfolding deduced
@@ -102,13 +125,38 @@ module _ (n c : ℕ) (kept : List (List ℕ)) (cs : Cards) (shows : Shows n c ke
   shows-by : (m : ℕ) → numberOn cs s ≡ m → Shows n c (keptBy m kept (s .command)) (cardsBy m cs s)
   shows-by (suc j) e = shows
   shows-by zero e =
-      record { count = count-kept 0 cs s ∙ shows .count; room = shows .room; each = each }
+      record { count = count-kept 0 cs s ∙ shows .count; room = shows .room; each = each; entries = entries }
     where
       known : Passed cs s
       known = passed cs s e
 
       after : Card
       after = stepped (cardOf cs (fieldsOf (s .command))) (fieldsOf (s .command)) (payload (s .command))
+
+      there : place < length (cs .cards)
+      there = ltb-true place (length (cs .cards)) (known .exists)
+
+      -- The card that the command names has the translation that it names.
+      has : language (fieldsOf (s .command)) < length (cardOf cs (fieldsOf (s .command)) .translated)
+      has = rw (shows .each place (rw (shows .count) at there)) (lit< tt)
+
+      raised : view 0 after ≡ entryFrom (s .command ∷ kept) place
+      raised =
+          seen-named (cardOf cs (fieldsOf (s .command))) (fieldsOf (s .command)) (payload (s .command)) has (length-payload (s .command) (known .wellFormed))
+          ∙ ap (λ (e : Entry). raise e (fieldsOf (s .command))) (shows .entries place (rw (shows .count) at there))
+          ∙ sym (entry-here kept (s .command) place (eq-eqb place place refl))
+
+      entries : (k : ℕ) → k < n → view 0 (getD (set (cs .cards) place after) k noCard) ≡ entryFrom (s .command ∷ kept) k
+      entries k h = go (cases (eqb place k))
+        where
+          go : (eqb place k ≡ true) ⊎ (eqb place k ≡ false) → view 0 (getD (set (cs .cards) place after) k noCard) ≡ entryFrom (s .command ∷ kept) k
+          go (inl q) =
+              subst (λ (j : ℕ). view 0 (getD (set (cs .cards) place after) j noCard) ≡ entryFrom (s .command ∷ kept) j) (eqb-true place k q)
+              (ap (view 0) (getD-set-same (cs .cards) place after noCard there) ∙ raised)
+          go (inr q) =
+              ap (view 0) (getD-set-other (cs .cards) place k after noCard (λ z. eqb-false place k q (sym z)))
+              ∙ shows .entries k h
+              ∙ sym (entry-other kept (s .command) k q)
 
       each : (k : ℕ) → k < n → getD (set (cs .cards) place after) k noCard ≡ cardFrom (s .command ∷ kept) k
       each k h = go (cases (eqb place k))
@@ -117,7 +165,7 @@ module _ (n c : ℕ) (kept : List (List ℕ)) (cs : Cards) (shows : Shows n c ke
           go (inl q) =
               let here : place ≡ k = eqb-true place k q in
               rw (← here)
-              (getD-set-same (cs .cards) place after noCard (ltb-true place (length (cs .cards)) (known .exists))
+              (getD-set-same (cs .cards) place after noCard there
               ∙ ap (λ (card : Card). stepped card (fieldsOf (s .command)) (payload (s .command))) (shows .each place (rw here h))
               ∙ sym (card-here kept (s .command) place (eq-eqb place place refl)))
           go (inr q) =

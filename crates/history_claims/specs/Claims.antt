@@ -15,7 +15,7 @@ use Rattle.commands.specs.Bytes.{fieldsOf}
 use Rattle.guard.specs.Replies.{replied}
 use Rattle.image.specs.Layout.{shapeOk}
 use Rattle.image.specs.Image.{fresh, Card, Cards, decode}
-use Rattle.model.specs.Serve.{cardOf, serve}
+use Rattle.model.specs.Serve.{entryOf, serve}
 use Rattle.model.specs.Words.{Sent, Event, imageAfter, logOf}
 use Rattle.model.specs.Claims.{SentBytes, AllBytes}
 use Rattle.history.specs.WorkedOut.{entryFrom, textFrom}
@@ -52,7 +52,13 @@ gave22 e = eqb (e .answer .number) HISTORY-FULL
 -- The cards as the engine works them out.
 abbrev pub cardFrom : List (List ℕ) → ℕ → Card
 cardFrom kept k =
-    record { entry = entryFrom kept k; original = textFrom original kept k; translation = textFrom (translation 0) kept k }
+    record {
+      pair = entryFrom kept k .pair;
+      mark = entryFrom kept k .mark;
+      edition = entryFrom kept k .edition;
+      original = textFrom original kept k;
+      translated = record { from = entryFrom kept k .from; text = textFrom (translation 0) kept k } ∷ [];
+    }
 
 unfoldable pub cardsShown : ℕ → ℕ → List (List ℕ) → Cards
 cardsShown n c kept = record { room = c; cards = table (cardFrom kept) n }
@@ -85,7 +91,7 @@ pub record FirstRefusal (n c : ℕ) (sent : List Sent) (s : Sent) : Type 0 where
   pub accepted-there : serve (imageAfter (fresh n c) (reverse sent)) (s .command) (s .lent) .answer .number ≡ 0
   pub replies-stored :
       deduced n c (keptAfter n c (reverse sent)) (s .command) (s .lent) .answer
-      ≡ replied HISTORY-FULL (cardOf (decode (imageAfter (fresh n c) (reverse sent))) (fieldsOf (s .command)) .entry) (fieldsOf (s .command))
+      ≡ replied HISTORY-FULL (entryOf (decode (imageAfter (fresh n c) (reverse sent))) (fieldsOf (s .command))) (fieldsOf (s .command))
 
 abbrev pub FirstFull : Type 0
 FirstFull =

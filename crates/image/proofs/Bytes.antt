@@ -14,7 +14,7 @@ use Rattle.lists.proofs.Tests.{all-out, all-fails-at}
 use Rattle.lists.specs.Le.{field}
 use Rattle.guard.specs.Entry.{entrySound}
 use Rattle.guard.specs.declared.Entry.{Entry}
-use Rattle.image.specs.Layout.{sizeOf, headerSize, bodyPlace, entryPlace}
+use Rattle.image.specs.Layout.{sides, sizeOf, headerSize, bodyPlace, entryPlace}
 use Rattle.image.proofs.Shape.{body-within}
 use Rattle.image.specs.Bytes.{countOf, roomOf, entryAt}
 use Rattle.image.specs.Image.{headerSound, tailZero, cardSound, sound}
@@ -62,7 +62,7 @@ header-size image e = eqb-true (length image) (sizeOf (countOf image) (roomOf im
 
 -- A body's place, by the numbers that were read.
 pub body-lies : {n c k side place : ℕ} (image : List ℕ) → place ≡ bodyPlace n c k side → n ≡ countOf image → c ≡ roomOf image →
-    length image ≡ sizeOf (countOf image) (roomOf image) → k < countOf image → side < 2 → place + c ≤ length image
+    length image ≡ sizeOf (countOf image) (roomOf image) → k < countOf image → side < sides → place + c ≤ length image
 body-lies {k = k} {side = side} image p q r size below h =
     rw (p, q, r, size) (body-within (countOf image) (roomOf image) k side below h)
 

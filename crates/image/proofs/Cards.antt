@@ -2,27 +2,26 @@
 use Prim.Native.Nat.{ℕ, zero, suc, _+_, _-_, _≤_, _<_}
 use native.Mathlib.Omega.{arith}
 use native.Mathlib.Nat.{add-zero}
-use mathlib.Core.Path.{_≡_, sym, ap, _∙_}
+use mathlib.Core.Path.{_≡_, sym, ap, subst, _∙_}
 use mathlib.Core.Logic.{_⊎_, inl, inr}
-use mathlib.Core.List.{List, _++_}
+use mathlib.Core.List.{List, [], _++_}
 use mathlib.Core.Bool.{true, false}
 use borrow.Author.Tests.{eq-eqb, eqb-true, eqb-false}
 use lib.Dec.{eqb, lit≤, lit<}
 use lib.ListN.{length, take, getD, set, replicate, length-set}
 use lib.Seq.{getD-set-same, getD-set-other}
-use Rattle.lists.specs.Parts.{part, spread, zeros, Bytes}
+use Rattle.lists.specs.Parts.{part, spread, table, zeros, Bytes}
 use Rattle.lists.specs.Le.{le, toLe, field}
 use Rattle.lists.specs.Table.{all, allFrom}
 use Rattle.lists.proofs.Bytes.{Bytes-append, Bytes-replicate, Bytes-take, zeros-replicate}
 use Rattle.lists.proofs.Every.{every-in}
 use Rattle.lists.proofs.Le.{Bytes-toLe}
-use Rattle.lists.proofs.Spread.{Bytes-spread, table-is}
+use Rattle.lists.proofs.Spread.{Bytes-spread, table-is, length-table, getD-table}
 use Rattle.lists.proofs.Tests.{cases, from-T}
-use Rattle.commands.specs.Command.{Language, original, translation}
 use Rattle.guard.specs.Entry.{entrySound}
 use Rattle.guard.specs.declared.Entry.{Entry}
-use Rattle.image.specs.Image.{Card, Cards, text, sideOf, withCard, noCard, bodies, encode, bodyAt, cardAt, decode, tailZero, cardSound, headerSound, sound}
-use Rattle.image.specs.Layout.{shapeOk, sizeOf, entrySize, entryPlace, bodyPlace}
+use Rattle.image.specs.Image.{Translation, Card, Cards, noTranslation, translationOf, view, sideText, withCard, noCard, cardEntry, bodies, encode, bodyAt, translationAt, cardAt, decode, tailZero, cardSound, headerSound, sound}
+use Rattle.image.specs.Layout.{shapeOk, sizeOf, entrySize, translations, sides, entryPlace, bodyPlace}
 use Rattle.image.specs.Bytes.{magic, version, headerNumbers, header, entryPair, entryMark, entryCounts, entryBytes, pad, countOf, roomOf, entryAt, readEntry}
 use Rattle.image.specs.Image.{GoodCard, GoodCards}
 use Rattle.image.proofs.Encode.{part-whole, length-entryBytes, length-encode, part-header, countOf-encode, roomOf-encode, part-entry, part-body}
@@ -59,6 +58,13 @@ Bytes-entry e =
 Bytes-pad : (room : ℕ) (t : List ℕ) → Bytes t → Bytes (pad room t)
 unfolding pad
 Bytes-pad room t b = Bytes-take room (t ++ replicate room 0) (Bytes-append t (replicate room 0) b (Bytes-replicate room (lit< tt)))
+
+Bytes-bodies : (room : ℕ) (card : Card) → ((side : ℕ) → Bytes (sideText side card)) → Bytes (bodies room card)
+unfolding bodies
+Bytes-bodies room card b =
+    let texts : ℕ → List ℕ = λ (side : ℕ). sideText side card in
+    Bytes-spread (pad room) (table texts sides) []
+    (λ i below. rw (getD-table texts sides i [] (rw (length-table texts sides) at below)) (Bytes-pad room (texts i) (b i)))
 
 -- ---- cards
 
@@ -111,36 +117,38 @@ module _ (cs : Cards) (good : GoodCards cs) where
     abbrev card : Card
     card = getD (cs .cards) k noCard
 
-    within : (lang : Language) → sideOf lang < 2 → length (text lang card) ≤ cs .room
-    within original h = rw (good .each k below .original) (lengths (cs .room) (card .entry) (from-T (entrySound (cs .room) (card .entry)) (good .each k below .rules)) .original)
-    within (translation zero) h = rw (good .each k below .translation) (lengths (cs .room) (card .entry) (from-T (entrySound (cs .room) (card .entry)) (good .each k below .rules)) .translation)
-    within (translation (suc l)) h = absurd (omega arith)
+    sound-view : (t : ℕ) → t < translations → entrySound (cs .room) (view t card) ≡ true
+    sound-view t h = from-T (entrySound (cs .room) (view t card)) (good .each k below .rules t h)
 
-    pub entryAt-encode : entryAt (encode cs) k ≡ card .entry
+    within : (side : ℕ) → side < sides → length (sideText side card) ≤ cs .room
+    within zero h = lengths (cs .room) (view 0 card) (sound-view 0 (lit< tt)) .original
+    within (suc t) h = lengths (cs .room) (view t card) (sound-view t (omega arith)) .translation
+
+    pub entryAt-encode : entryAt (encode cs) k ≡ view 0 card
     unfolding entryAt
     entryAt-encode =
         ap (λ (at : ℕ). readEntry (part at entrySize (encode cs))) (sym (add-zero (entryPlace k)))
-        ∙ ap readEntry (part-entry cs k 0 entrySize below (lit≤ tt) ∙ part-whole entrySize (entryBytes (card .entry)) (length-entryBytes (card .entry)))
-        ∙ read-entryBytes (card .entry) (good .each k below .fits)
+        ∙ ap readEntry (part-entry cs k 0 entrySize below (lit≤ tt) ∙ part-whole entrySize (cardEntry card) (length-entryBytes (view 0 card)))
+        ∙ read-entryBytes (view 0 card) (good .each k below .fits 0 (lit< tt))
 
-    -- The text of a language, and the zeros behind it.
-    pub text-encode : (lang : Language) → sideOf lang < 2 → bodyAt (encode cs) k (sideOf lang) (length (text lang card)) ≡ text lang card
+    -- The text of a side, and the zeros behind it.
+    pub text-encode : (side : ℕ) → side < sides → bodyAt (encode cs) k side (length (sideText side card)) ≡ sideText side card
     unfolding part
-    text-encode lang h =
-        let t = text lang card in
-        let place : bodyPlace (length (cs .cards)) (cs .room) k (sideOf lang) + 0 ≡ bodyPlace (length (cs .cards)) (cs .room) k (sideOf lang) = omega arith in
+    text-encode side h =
+        let t = sideText side card in
+        let place : bodyPlace (length (cs .cards)) (cs .room) k side + 0 ≡ bodyPlace (length (cs .cards)) (cs .room) k side = omega arith in
         rw (count-back, room-back, ← place)
-        (part-body cs k lang 0 (length t) below h (omega (arith, within lang h)) ∙ take-pad (cs .room) t (within lang h))
+        (part-body cs k side 0 (length t) below h (omega (arith, within side h)) ∙ take-pad (cs .room) t (within side h))
 
-    pub tail-encode : (lang : Language) → sideOf lang < 2 → tailZero (encode cs) k (sideOf lang) (length (text lang card)) ≡ true
+    pub tail-encode : (side : ℕ) → side < sides → tailZero (encode cs) k side (length (sideText side card)) ≡ true
     unfolding tailZero part
-    tail-encode lang h =
-        let t = text lang card in
+    tail-encode side h =
+        let t = sideText side card in
         let room = cs .room in
         rw (count-back, room-back)
         (ap zeros
-        (part-body cs k lang (length t) (room - length t) below h (omega (arith, within lang h))
-        ∙ ap (take (room - length t)) (drop-pad room t (within lang h))
+        (part-body cs k side (length t) (room - length t) below h (omega (arith, within side h))
+        ∙ ap (take (room - length t)) (drop-pad room t (within side h))
         ∙ take-replicate (room - length t) (room - length t) 0 (omega arith))
         ∙ zeros-replicate (room - length t))
 
@@ -148,28 +156,29 @@ module _ (cs : Cards) (good : GoodCards cs) where
     unfolding entryBytes toLe part le
     zero-encode = ap le (part-entry cs k 18 2 below (lit≤ tt))
 
+    -- The translations, one by one.
+    translation-encode : (t : ℕ) → t < translations → translationAt (encode cs) k ≡ translationOf t card
+    translation-encode zero h = rw (entryAt-encode, text-encode 1 (lit< tt))
+    translation-encode (suc t) h = absurd (omega arith)
+
+    translated-encode : table (λ (t : ℕ). translationAt (encode cs) k) translations ≡ card .translated
+    translated-encode =
+        ap (table (λ (t : ℕ). translationAt (encode cs) k)) (sym (good .each k below .count))
+        ∙ table-is (λ (t : ℕ). translationAt (encode cs) k) (card .translated) noTranslation
+        (λ t h. translation-encode t (subst (λ (n : ℕ). t < n) (good .each k below .count) h))
+
     pub cardAt-encode : cardAt (encode cs) k ≡ card
-    unfolding cardAt
-    cardAt-encode =
-        rw (
-          entryAt-encode,
-          ← (good .each k below .original),
-          ← (good .each k below .translation),
-          text-encode original (lit< tt),
-          text-encode (translation 0) (lit< tt),
-        )
+    unfolding cardAt table
+    cardAt-encode = rw (translated-encode, entryAt-encode, text-encode 0 (lit< tt))
 
     pub card-good : cardSound (encode cs) k ≡ true
     unfolding cardSound all allFrom
     card-good =
         let image = encode cs in
         let one : eqb (field (entryPlace k + 18) 2 image) 0 ≡ true = eq-eqb (field (entryPlace k + 18) 2 image) 0 zero-encode in
-        let two : entrySound (roomOf image) (entryAt image k) ≡ true =
-        rw (room-back, entryAt-encode) (from-T (entrySound (cs .room) (card .entry)) (good .each k below .rules)) in
-        let three : tailZero image k 0 (entryAt image k .original) ≡ true =
-        rw (entryAt-encode, ← (good .each k below .original)) (tail-encode original (lit< tt)) in
-        let four : tailZero image k 1 (entryAt image k .translation) ≡ true =
-        rw (entryAt-encode, ← (good .each k below .translation)) (tail-encode (translation 0) (lit< tt)) in
+        let two : entrySound (roomOf image) (entryAt image k) ≡ true = rw (room-back, entryAt-encode) (sound-view 0 (lit< tt)) in
+        let three : tailZero image k 0 (entryAt image k .original) ≡ true = rw entryAt-encode (tail-encode 0 (lit< tt)) in
+        let four : tailZero image k 1 (entryAt image k .translation) ≡ true = rw entryAt-encode (tail-encode 1 (lit< tt)) in
         rw (one, two, three, four)
 
   pub sound-encode : sound (encode cs) ≡ true
@@ -183,16 +192,12 @@ module _ (cs : Cards) (good : GoodCards cs) where
   -- ---- bytes
 
   pub Bytes-encode : Bytes (encode cs)
-  unfolding encode bodies
+  unfolding encode
   Bytes-encode =
       let room = cs .room in
       let cards = cs .cards in
-      let entries = spread (λ (card : Card). entryBytes (card .entry)) cards in
+      let entries = spread cardEntry cards in
       Bytes-append (header (length cards) room ++ entries) (spread (bodies room) cards)
       (Bytes-append (header (length cards) room) entries (Bytes-header (length cards) room)
-      (Bytes-spread (λ (card : Card). entryBytes (card .entry)) cards noCard (λ k below. Bytes-entry (getD cards k noCard .entry))))
-      (Bytes-spread (bodies room) cards noCard
-      (λ k below.
-      Bytes-append (pad room (getD cards k noCard .original)) (pad room (getD cards k noCard .translation))
-      (Bytes-pad room (getD cards k noCard .original) (good .each k below .bytes original))
-      (Bytes-pad room (getD cards k noCard .translation) (good .each k below .bytes (translation 0)))))
+      (Bytes-spread cardEntry cards noCard (λ k below. Bytes-entry (view 0 (getD cards k noCard)))))
+      (Bytes-spread (bodies room) cards noCard (λ k below. Bytes-bodies room (getD cards k noCard) (good .each k below .bytes)))

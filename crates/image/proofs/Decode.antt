@@ -2,7 +2,7 @@
 use Prim.Native.Nat.{ℕ, zero, suc, _+_, _*_, _≤_, _<_}
 use native.Mathlib.Omega.{arith}
 use native.Mathlib.Nat.{zero-add}
-use mathlib.Core.Path.{_≡_, refl, sym, ap, _∙_}
+use mathlib.Core.Path.{_≡_, refl, sym, ap, subst, _∙_}
 use mathlib.Core.List.{List, _++_}
 use mathlib.Core.Bool.{true}
 use borrow.Author.Tests.{eqb-true}
@@ -16,10 +16,10 @@ use Rattle.lists.proofs.Le.{le-injective, le-part-bound, Bytes-toLe}
 use Rattle.lists.proofs.Parts.{length-part, part-part, part-join}
 use Rattle.lists.proofs.Spread.{spread-parts, length-table, getD-table}
 use Rattle.lists.proofs.Tests.{and-left, and-right, all-out, from-T, to-T}
-use Rattle.commands.specs.Command.{Language, original, translation}
 use Rattle.guard.specs.Entry.{entrySound, FitsEntry}
-use Rattle.image.specs.Image.{Card, noCard, bodies, encode, bodyAt, text, cardAt, decode, tailZero, cardSound, headerSound, sound}
-use Rattle.image.specs.Layout.{shapeOk, sizeOf, mostBytes, headerSize, entrySize, entryPlace, bodyPlace}
+use Rattle.guard.specs.declared.Entry.{Entry}
+use Rattle.image.specs.Image.{Card, view, sideText, noCard, cardEntry, bodies, encode, bodyAt, cardAt, decode, tailZero, cardSound, headerSound, sound}
+use Rattle.image.specs.Layout.{shapeOk, sizeOf, mostBytes, headerSize, entrySize, translations, sides, entryPlace, bodyPlace}
 use Rattle.image.specs.Bytes.{magic, version, header, entryBytes, pad, countOf, roomOf, readEntry, entryAt}
 use Rattle.image.specs.Image.{GoodCard, GoodCards}
 use Rattle.image.proofs.Encode.{part-whole}
@@ -66,9 +66,58 @@ module _ (image : List ℕ) (holds : T (sound image)) where
   pub long : length image ≡ sizeOf (countOf image) (roomOf image)
   long = header-size image header-holds
 
-  pub entry-holds : (k : ℕ) → k < countOf image → entrySound (roomOf image) (entryAt image k) ≡ true
-  unfolding cardSound
-  entry-holds k below = all-out _ (card-holds k below) 1
+  -- One card: its entry, and each of its sides with the length that the entry says.
+  module _ (k : ℕ) (below : k < countOf image) where
+    pub entry-holds : entrySound (roomOf image) (entryAt image k) ≡ true
+    unfolding cardSound
+    entry-holds = all-out _ (card-holds k below) 1
+
+    abbrev sideLength : ℕ → ℕ
+    sideLength zero = entryAt image k .original
+    sideLength (suc t) = entryAt image k .translation
+
+    side-tail : (side : ℕ) → side < sides → tailZero image k side (sideLength side) ≡ true
+    unfolding cardSound
+    side-tail zero h = all-out _ (card-holds k below) 2
+    side-tail (suc zero) h = all-out _ (card-holds k below) 3
+    side-tail (suc (suc t)) h = absurd (omega arith)
+
+    pub side-fits : (side : ℕ) → side < sides → sideLength side ≤ roomOf image
+    side-fits zero h = lengths (roomOf image) (entryAt image k) entry-holds .original
+    side-fits (suc t) h = lengths (roomOf image) (entryAt image k) entry-holds .translation
+
+    pub entry-lies : entryPlace k + entrySize ≤ length image
+    entry-lies = rw long (entry-within (countOf image) (roomOf image) below)
+
+    pub body-lies : (side : ℕ) → side < sides → bodyPlace (countOf image) (roomOf image) k side + roomOf image ≤ length image
+    body-lies side h = rw long (body-within (countOf image) (roomOf image) k side below h)
+
+    side-text : (side : ℕ) → side < sides → sideText side (cardAt image k) ≡ bodyAt image k side (sideLength side)
+    unfolding cardAt
+    side-text zero h = refl
+    side-text (suc zero) h = refl
+    side-text (suc (suc t)) h = absurd (omega arith)
+
+    pub side-long : (side : ℕ) → side < sides → length (sideText side (cardAt image k)) ≡ sideLength side
+    side-long side h =
+        ap length (side-text side h)
+        ∙ length-part (bodyPlace (countOf image) (roomOf image) k side) (sideLength side) image (omega (arith, body-lies side h, side-fits side h))
+
+    -- The card's entry as seen in a translation is what its bytes say.
+    pub view-at : (t : ℕ) → t < translations → view t (cardAt image k) ≡ entryAt image k
+    unfolding cardAt
+    view-at zero h =
+        let originals : length (cardAt image k .original) ≡ entryAt image k .original = side-long 0 (omega arith) in
+        let translated : length (sideText 1 (cardAt image k)) ≡ entryAt image k .translation = side-long 1 (omega arith) in
+        λ i. record {
+          pair = entryAt image k .pair;
+          mark = entryAt image k .mark;
+          edition = entryAt image k .edition;
+          from = entryAt image k .from;
+          original = originals i;
+          translation = translated i;
+        }
+    view-at (suc t) h = absurd (omega arith)
 
 -- Where the parts of card k of a sound image lie, and that its texts fit their room.
 pub record Places (image : List ℕ) (k : ℕ) : Type 0 where
@@ -76,8 +125,7 @@ pub record Places (image : List ℕ) (k : ℕ) : Type 0 where
   pub header : headerSize ≤ length image
   pub small : length image ≤ mostBytes
   pub entry : entryPlace k + entrySize ≤ length image
-  pub originals : bodyPlace (countOf image) (roomOf image) k 0 + roomOf image ≤ length image
-  pub translations : bodyPlace (countOf image) (roomOf image) k 1 + roomOf image ≤ length image
+  pub bodies : (side : ℕ) → side < sides → bodyPlace (countOf image) (roomOf image) k side + roomOf image ≤ length image
   pub lengths : Lengths (roomOf image) (entryAt image k)
 
 pub places : (image : List ℕ) (k : ℕ) → T (sound image) → k < countOf image → Places image k
@@ -90,9 +138,8 @@ places image k holds below =
       shape = s;
       header = omega arith;
       small = rw size (s .size);
-      entry = rw size (entry-within n c below);
-      originals = rw size (body-within n c k 0 below (lit< tt));
-      translations = rw size (body-within n c k 1 below (lit< tt));
+      entry = entry-lies image holds k below;
+      bodies = body-lies image holds k below;
       lengths = lengths c (entryAt image k) (entry-holds image holds k below);
     }
 
@@ -121,59 +168,50 @@ entry-fits image k b =
 
 module _ (image : List ℕ) (b : Bytes image) (holds : T (sound image)) where
   module _ (k : ℕ) (below : k < countOf image) where
-    entry-back : entryBytes (entryAt image k) ≡ part (entryPlace k) entrySize image
+    entry-back : cardEntry (cardAt image k) ≡ part (entryPlace k) entrySize image
     unfolding cardSound entryAt
     entry-back =
-        let lies = places image k holds below in
-        let own : length (part (entryPlace k) entrySize image) ≡ entrySize = length-part (entryPlace k) entrySize image (lies .entry) in
+        let own : length (part (entryPlace k) entrySize image) ≡ entrySize = length-part (entryPlace k) entrySize image (entry-lies image holds k below) in
         let none : field 18 2 (part (entryPlace k) entrySize image) ≡ 0 =
         ap le (part-part (entryPlace k) entrySize 18 2 image (lit≤ tt)) ∙ eqb-true (field (entryPlace k + 18) 2 image) 0 (all-out _ (card-holds image holds k below) 0) in
-        entryBytes-read (part (entryPlace k) entrySize image) (Bytes-part (entryPlace k) entrySize image b) own none
+        ap entryBytes (view-at image holds k below 0 (lit< tt))
+        ∙ entryBytes-read (part (entryPlace k) entrySize image) (Bytes-part (entryPlace k) entrySize image b) own none
 
     -- A body of card k, at its place.
-    body-back : (side count : ℕ) → side < 2 → count ≤ roomOf image → tailZero image k side count ≡ true →
-        pad (roomOf image) (bodyAt image k side count) ≡ part (bodyPlace (countOf image) (roomOf image) k side) (roomOf image) image
+    body-back : (side : ℕ) → side < sides →
+        pad (roomOf image) (sideText side (cardAt image k)) ≡ part (bodyPlace (countOf image) (roomOf image) k side) (roomOf image) image
     unfolding tailZero
-    body-back side count h g z =
-        pad-read (bodyPlace (countOf image) (roomOf image) k side) count (roomOf image) image
-        (rw (long image holds) (body-within (countOf image) (roomOf image) k side below h)) g z
+    body-back side h =
+        ap (pad (roomOf image)) (side-text image holds k below side h)
+        ∙ pad-read (bodyPlace (countOf image) (roomOf image) k side) (sideLength image holds k below side) (roomOf image) image
+        (body-lies image holds k below side h) (side-fits image holds k below side h) (side-tail image holds k below side h)
 
     bodies-back : bodies (roomOf image) (cardAt image k)
-        ≡ part (headerSize + entrySize * countOf image + k * (2 * roomOf image)) (2 * roomOf image) image
-    unfolding bodies cardAt cardSound
+        ≡ part (headerSize + entrySize * countOf image + k * (sides * roomOf image)) (sides * roomOf image) image
+    unfolding bodies
     bodies-back =
-        let n = countOf image in
-        let c = roomOf image in
-        let e = entryAt image k in
-        let lies = places image k holds below in
-        let first : bodyPlace n c k 0 ≡ headerSize + entrySize * n + k * (2 * c) = omega arith in
-        let second : bodyPlace n c k 1 ≡ headerSize + entrySize * n + k * (2 * c) + c = omega arith in
-        let both : c + c ≡ 2 * c = omega arith in
-        rw (
-          body-back 0 (e .original) (lit< tt) (lies .lengths .original) (all-out _ (card-holds image holds k below) 2),
-          body-back 1 (e .translation) (lit< tt) (lies .lengths .translation) (all-out _ (card-holds image holds k below) 3),
-          first,
-          second,
-          ← part-join (headerSize + entrySize * n + k * (2 * c)) c c image,
-          both,
-        )
+        spread-parts (pad (roomOf image)) (λ (side : ℕ). sideText side (cardAt image k))
+        (headerSize + entrySize * countOf image + k * (sides * roomOf image)) (roomOf image) image sides
+        (λ side h. body-back side h ∙ ap (λ (at : ℕ). part at (roomOf image) image) (place side))
+      where
+        place : (side : ℕ) → bodyPlace (countOf image) (roomOf image) k side
+            ≡ headerSize + entrySize * countOf image + k * (sides * roomOf image) + side * roomOf image
+        place side = omega arith
 
     card-back : GoodCard (roomOf image) (cardAt image k)
     unfolding cardAt
     card-back =
-        let lies = places image k holds below in
         record {
-          fits = entry-fits image k b;
-          rules = to-T (entry-holds image holds k below);
-          original = length-part (bodyPlace (countOf image) (roomOf image) k 0) (entryAt image k .original) image (omega arith);
-          translation = length-part (bodyPlace (countOf image) (roomOf image) k 1) (entryAt image k .translation) image (omega arith);
+          count = refl;
+          fits = λ t h. subst FitsEntry (sym (view-at image holds k below t h)) (entry-fits image k b);
+          rules = λ t h. subst (λ (e : Entry). T (entrySound (roomOf image) e)) (sym (view-at image holds k below t h)) (to-T (entry-holds image holds k below));
           bytes = own;
         }
       where
-        own : (l : Language) → Bytes (text l (cardAt image k))
-        own original = Bytes-part (bodyPlace (countOf image) (roomOf image) k 0) (entryAt image k .original) image b
-        own (translation zero) = Bytes-part (bodyPlace (countOf image) (roomOf image) k 1) (entryAt image k .translation) image b
-        own (translation (suc t)) = Bytes-nil
+        own : (side : ℕ) → Bytes (sideText side (cardAt image k))
+        own zero = Bytes-part (bodyPlace (countOf image) (roomOf image) k 0) (entryAt image k .original) image b
+        own (suc zero) = Bytes-part (bodyPlace (countOf image) (roomOf image) k 1) (entryAt image k .translation) image b
+        own (suc (suc t)) = Bytes-nil
 
   -- ---- the whole
 
@@ -193,10 +231,9 @@ module _ (image : List ℕ) (b : Bytes image) (holds : T (sound image)) where
       joined one two (again 6 2 image b (omega arith)) (again 8 2 image b (omega arith)) five
       ∙ rw (← part-join 0 4 2 image, ← part-join 0 6 2 image, ← part-join 0 8 2 image, ← part-join 0 10 6 image)
 
-  entries-back : spread (λ (card : Card). entryBytes (card .entry)) (table (cardAt image) (countOf image)) ≡ part headerSize (countOf image * entrySize) image
-  unfolding cardAt
+  entries-back : spread cardEntry (table (cardAt image) (countOf image)) ≡ part headerSize (countOf image * entrySize) image
   entries-back =
-      spread-parts (λ (card : Card). entryBytes (card .entry)) (cardAt image) headerSize entrySize image (countOf image)
+      spread-parts cardEntry (cardAt image) headerSize entrySize image (countOf image)
       (λ k below. entry-back k below ∙ ap (λ (at : ℕ). part at entrySize image) (place k))
     where
       place : (k : ℕ) → entryPlace k ≡ headerSize + k * entrySize
@@ -208,21 +245,21 @@ module _ (image : List ℕ) (b : Bytes image) (holds : T (sound image)) where
       let n = countOf image in
       let c = roomOf image in
       let cards = table (cardAt image) n in
-      let size : headerSize + n * entrySize + n * (2 * c) ≡ length image = rw (long image holds) (omega arith) in
+      let size : headerSize + n * entrySize + n * (sides * c) ≡ length image = rw (long image holds) (omega arith) in
       let place : headerSize + entrySize * n ≡ headerSize + n * entrySize = omega arith in
       let front = headerSize + n * entrySize in
-      let whole : part 0 front image ++ part front (n * (2 * c)) image ≡ part 0 (front + n * (2 * c)) image =
-      sym (part-join 0 front (n * (2 * c)) image ∙ rw zero-add) in
+      let whole : part 0 front image ++ part front (n * (sides * c)) image ≡ part 0 (front + n * (sides * c)) image =
+      sym (part-join 0 front (n * (sides * c)) image ∙ rw zero-add) in
       rw (
         length-table (cardAt image) n,
         header-back,
         entries-back,
-        spread-parts (bodies c) (cardAt image) (headerSize + entrySize * n) (2 * c) image n (λ k below. bodies-back k below),
+        spread-parts (bodies c) (cardAt image) (headerSize + entrySize * n) (sides * c) image n (λ k below. bodies-back k below),
         place,
         ← part-join 0 headerSize (n * entrySize) image,
         whole,
       )
-      (part-whole (headerSize + n * entrySize + n * (2 * c)) image (sym size))
+      (part-whole (headerSize + n * entrySize + n * (sides * c)) image (sym size))
 
   pub decode-good : GoodCards (decode image)
   decode-good =

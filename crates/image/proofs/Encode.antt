@@ -1,21 +1,24 @@
 -- The bytes of cards: how long they are, what stands where, and what writing an entry or a text makes of them. Assumes nothing.
 use Prim.Native.Nat.{ℕ, zero, suc, _+_, _*_, _≤_, _<_}
 use native.Mathlib.Omega.{arith}
-use native.Mathlib.Nat.{zero-mul, mul-le-mul-right}
-use lib.Dec.{lit≤}
-use mathlib.Core.Path.{_≡_, refl, sym, ap, _∙_}
-use mathlib.Core.List.{List, _++_}
+use native.Mathlib.Nat.{mul-le-mul-right}
+use borrow.Author.Tests.{eqb-true, eqb-false}
+use lib.Dec.{eqb, lit≤}
+use mathlib.Core.Path.{_≡_, refl, sym, ap, subst, _∙_}
+use mathlib.Core.Logic.{_⊎_, inl, inr}
+use mathlib.Core.Bool.{true, false}
+use mathlib.Core.List.{List, [], _++_}
 use lib.ListN.{length, getD, set, length-append, length-take, length-replicate, length-set}
-use lib.Seq.{set-set, getD-set-same}
-use Rattle.lists.specs.Parts.{part, splice, spread}
+use lib.Seq.{getD-set-same, getD-set-other, ext-getD}
+use Rattle.lists.specs.Parts.{part, splice, spread, table}
 use Rattle.lists.specs.Le.{le, toLe}
 use Rattle.lists.proofs.Le.{le-toLe}
-use Rattle.lists.proofs.Parts.{part-part, part-append-left, part-append-right, splice-append-left, splice-append-right, splice-within, splice-part, splice-whole, part-all}
-use Rattle.lists.proofs.Spread.{length-spread, part-spread, splice-spread}
-use Rattle.commands.specs.Command.{Language, original, translation}
+use Rattle.lists.proofs.Parts.{part-part, part-append-left, part-append-right, splice-append-left, splice-append-right, splice-within, splice-part, part-all}
+use Rattle.lists.proofs.Spread.{length-spread, part-spread, splice-spread, length-table, getD-table, part-spread-table}
+use Rattle.lists.proofs.Tests.{cases}
 use Rattle.guard.specs.declared.Entry.{Entry}
-use Rattle.image.specs.Image.{Card, Cards, text, sideOf, withEntry, withText, withCard, noCard, bodies, encode}
-use Rattle.image.specs.Layout.{sizeOf, headerSize, entrySize, entryPlace, bodyPlace}
+use Rattle.image.specs.Image.{Card, Cards, view, sideText, withCard, noCard, cardEntry, bodies, encode}
+use Rattle.image.specs.Layout.{sizeOf, headerSize, entrySize, sides, entryPlace, bodyPlace}
 use Rattle.image.specs.Bytes.{header, entryBytes, pad, countOf, roomOf}
 
 -- ---- lists of equal pieces
@@ -66,19 +69,21 @@ pub length-pad : (room : ℕ) (t : List ℕ) → length (pad room t) ≡ room
 unfolding pad
 length-pad room t = simp (length-take, length-append, length-replicate) (omega arith)
 
-pub length-bodies : (room : ℕ) (card : Card) → length (bodies room card) ≡ 2 * room
+pub length-bodies : (room : ℕ) (card : Card) → length (bodies room card) ≡ sides * room
 unfolding bodies
-length-bodies room card = simp (length-append, length-pad) (omega arith)
+length-bodies room card =
+    length-spread (pad room) room (length-pad room) (table (λ (side : ℕ). sideText side card) sides)
+    ∙ ap (λ (n : ℕ). n * room) (length-table (λ (side : ℕ). sideText side card) sides)
 
 -- The bytes of the entries of a list of cards.
 abbrev entries : List Card → List ℕ
-entries cards = spread (λ (card : Card). entryBytes (card .entry)) cards
+entries cards = spread cardEntry cards
 
-entries-wide : (card : Card) → length (entryBytes (card .entry)) ≡ entrySize
-entries-wide card = length-entryBytes (card .entry)
+entries-wide : (card : Card) → length (cardEntry card) ≡ entrySize
+entries-wide card = length-entryBytes (view 0 card)
 
 length-entries : (cards : List Card) → length (entries cards) ≡ length cards * entrySize
-length-entries cards = length-spread (λ (card : Card). entryBytes (card .entry)) entrySize entries-wide cards
+length-entries cards = length-spread cardEntry entrySize entries-wide cards
 
 -- What stands before the bodies.
 length-front : (n c : ℕ) (cards : List Card) → length (header n c ++ entries cards) ≡ headerSize + entrySize * length cards
@@ -89,7 +94,7 @@ unfolding encode
 length-encode cs =
     length-append (header (length (cs .cards)) (cs .room) ++ entries (cs .cards)) (spread (bodies (cs .room)) (cs .cards))
     ∙ rw
-    (length-front (length (cs .cards)) (cs .room) (cs .cards), length-spread (bodies (cs .room)) (2 * cs .room) (length-bodies (cs .room)) (cs .cards))
+    (length-front (length (cs .cards)) (cs .room) (cs .cards), length-spread (bodies (cs .room)) (sides * cs .room) (length-bodies (cs .room)) (cs .cards))
     (omega arith)
 
 -- ---- what stands where
@@ -113,7 +118,7 @@ roomOf-encode cs h = ap le (part-header cs 8 2 (lit≤ tt)) ∙ le-toLe 2 (cs .r
 
 -- A part of the entry of card k, and a part of its bodies.
 pub part-entry : (cs : Cards) (k i n : ℕ) → k < length (cs .cards) → i + n ≤ entrySize →
-    part (entryPlace k + i) n (encode cs) ≡ part i n (entryBytes (getD (cs .cards) k noCard .entry))
+    part (entryPlace k + i) n (encode cs) ≡ part i n (cardEntry (getD (cs .cards) k noCard))
 unfolding encode
 part-entry cs k i n h g =
     let first = header (length (cs .cards)) (cs .room) in
@@ -123,120 +128,107 @@ part-entry cs k i n h g =
     (rw (length-front (length (cs .cards)) (cs .room) (cs .cards)) (omega arith))
     ∙ ap (λ (at : ℕ). part at n (first ++ entries (cs .cards))) place
     ∙ part-append-right headerSize (k * entrySize + i) n first (entries (cs .cards)) long
-    ∙ part-piece (λ (card : Card). entryBytes (card .entry)) entrySize entries-wide (cs .cards) k h i n noCard g
+    ∙ part-piece cardEntry entrySize entries-wide (cs .cards) k h i n noCard g
 
-side-most : {side : ℕ} → side < 2 → side ≤ 1
-side-most h = omega arith
-
-entry-kept : (lang : Language) (t : List ℕ) (card : Card) → withText lang t card .entry ≡ card .entry
-entry-kept original t card = refl
-entry-kept (translation zero) t card = refl
-entry-kept (translation (suc l)) t card = refl
-
--- The body of a language within a card's bodies, and another one written there.
-part-side : (room : ℕ) (lang : Language) (card : Card) → sideOf lang < 2 → part (sideOf lang * room) room (bodies room card) ≡ pad room (text lang card)
+-- The body of a side within a card's bodies.
+part-side : (room side : ℕ) (card : Card) → side < sides → part (side * room) room (bodies room card) ≡ pad room (sideText side card)
 unfolding bodies
-part-side room original card h =
-    rw zero-mul
-    (part-append-left 0 room (pad room (card .original)) (pad room (card .translation)) (rw length-pad (omega arith))
-    ∙ part-whole room (pad room (card .original)) (length-pad room (card .original)))
-part-side room (translation zero) card h =
-    let place : 1 * room ≡ room + 0 = omega arith in
-    rw place
-    (part-append-right room 0 room (pad room (card .original)) (pad room (card .translation)) (length-pad room (card .original))
-    ∙ part-whole room (pad room (card .translation)) (length-pad room (card .translation)))
-part-side room (translation (suc l)) card h = absurd (omega arith)
+part-side room side card h = part-spread-table (pad room) room (length-pad room) (λ (s : ℕ). sideText s card) sides side h
 
-splice-side : (room : ℕ) (lang : Language) (t : List ℕ) (card : Card) → sideOf lang < 2 →
-    bodies room (withText lang t card) ≡ splice (sideOf lang * room) (pad room t) (bodies room card)
-unfolding bodies
-splice-side room original t card h =
-    rw zero-mul
-    (sym
-    (splice-append-left 0 (pad room t) (pad room (card .original)) (pad room (card .translation)) (simp length-pad (omega arith))
-    ∙ ap (λ (u : List ℕ). u ++ pad room (card .translation))
-    (splice-whole (pad room t) (pad room (card .original)) (length-pad room t ∙ sym (length-pad room (card .original))))))
-splice-side room (translation zero) t card h =
-    let place : 1 * room ≡ room + 0 = omega arith in
-    rw place
-    (sym
-    (splice-append-right room 0 (pad room t) (pad room (card .original)) (pad room (card .translation)) (length-pad room (card .original))
-    ∙ ap (λ (u : List ℕ). pad room (card .original) ++ u)
-    (splice-whole (pad room t) (pad room (card .translation)) (length-pad room t ∙ sym (length-pad room (card .translation))))))
-splice-side room (translation (suc l)) t card h = absurd (omega arith)
-
-pub part-body : (cs : Cards) (k : ℕ) (lang : Language) (i n : ℕ) → k < length (cs .cards) → sideOf lang < 2 → i + n ≤ cs .room →
-    part (bodyPlace (length (cs .cards)) (cs .room) k (sideOf lang) + i) n (encode cs) ≡ part i n (pad (cs .room) (text lang (getD (cs .cards) k noCard)))
+pub part-body : (cs : Cards) (k side i n : ℕ) → k < length (cs .cards) → side < sides → i + n ≤ cs .room →
+    part (bodyPlace (length (cs .cards)) (cs .room) k side + i) n (encode cs) ≡ part i n (pad (cs .room) (sideText side (getD (cs .cards) k noCard)))
 unfolding encode
-part-body cs k lang i n h g m =
+part-body cs k side i n h g m =
     let room = cs .room in
     let cards = cs .cards in
     let card = getD cards k noCard in
     let front = header (length cards) room ++ entries cards in
-    let place : bodyPlace (length cards) room k (sideOf lang) + i ≡ headerSize + entrySize * length cards + (k * (2 * room) + (sideOf lang * room + i)) = omega arith in
-    let fits : sideOf lang * room + i + n ≤ 2 * room = omega (arith, mul-le-mul-right room (side-most g)) in
+    let place : bodyPlace (length cards) room k side + i ≡ headerSize + entrySize * length cards + (k * (sides * room) + (side * room + i)) = omega arith in
+    let fits : side * room + i + n ≤ sides * room = omega (arith, mul-le-mul-right room g) in
     ap (λ (at : ℕ). part at n (front ++ spread (bodies room) cards)) place
-    ∙ part-append-right (headerSize + entrySize * length cards) (k * (2 * room) + (sideOf lang * room + i)) n front (spread (bodies room) cards)
+    ∙ part-append-right (headerSize + entrySize * length cards) (k * (sides * room) + (side * room + i)) n front (spread (bodies room) cards)
     (length-front (length cards) room cards)
-    ∙ part-piece (bodies room) (2 * room) (length-bodies room) cards k h (sideOf lang * room + i) n noCard fits
-    ∙ sym (part-part (sideOf lang * room) room i n (bodies room card) m)
-    ∙ ap (part i n) (part-side room lang card g)
+    ∙ part-piece (bodies room) (sides * room) (length-bodies room) cards k h (side * room + i) n noCard fits
+    ∙ sym (part-part (side * room) room i n (bodies room card) m)
+    ∙ ap (part i n) (part-side room side card g)
 
--- ---- writing an entry or a text
+-- ---- another card: its entry, and one of its texts, written
 
--- Another entry at card k.
-pub put-entry : (cs : Cards) (k : ℕ) (e : Entry) → k < length (cs .cards) →
-    splice (entryPlace k) (entryBytes e) (encode cs) ≡ encode (withCard k (withEntry e (getD (cs .cards) k noCard)) cs)
-unfolding encode bodies
-put-entry cs k e h =
-    let room = cs .room in
-    let cards = cs .cards in
-    let first = header (length cards) room in
-    let card = withEntry e (getD cards k noCard) in
-    let place : entryPlace k ≡ headerSize + (k * entrySize) = omega arith in
-    let fits : entryPlace k + length (entryBytes e) ≤ length (first ++ entries cards) =
-    rw (length-front (length cards) room cards, length-entryBytes) (omega arith) in
-    splice-append-left (entryPlace k) (entryBytes e) (first ++ entries cards) (spread (bodies room) cards) fits
-    ∙ ap (λ (u : List ℕ). u ++ spread (bodies room) cards)
-    (ap (λ (at : ℕ). splice at (entryBytes e) (first ++ entries cards)) place
-    ∙ splice-append-right headerSize (k * entrySize) (entryBytes e) first (entries cards) (length-header (length cards) room)
-    ∙ ap (λ (u : List ℕ). first ++ u) (splice-spread (λ (card : Card). entryBytes (card .entry)) entrySize entries-wide cards k card h))
-    ∙ rw (length-set cards k card, same-piece (bodies room) (2 * room) (length-bodies room) cards k h card noCard refl)
+-- A table with one element changed.
+table-set : {A : Type 0} (g h : ℕ → A) (n i : ℕ) (a d : A) → i < n → h i ≡ a → ((j : ℕ) → (j ≡ i → ⊥) → h j ≡ g j) → table h n ≡ set (table g n) i a
+table-set g h n i a d below here others =
+    ext-getD d (table h n) (set (table g n) i a) (length-table h n ∙ sym (length-set (table g n) i a ∙ length-table g n))
+    (λ j small. each j (subst (λ (m : ℕ). j < m) (length-table h n) small) (cases (eqb j i)))
+  where
+    inside : i < length (table g n)
+    inside = subst (λ (m : ℕ). i < m) (sym (length-table g n)) below
 
--- Another text of card k in one language.
-pub put-text : (cs : Cards) (k : ℕ) (lang : Language) (t : List ℕ) → k < length (cs .cards) → sideOf lang < 2 →
-    splice (bodyPlace (length (cs .cards)) (cs .room) k (sideOf lang)) (pad (cs .room) t) (encode cs)
-    ≡ encode (withCard k (withText lang t (getD (cs .cards) k noCard)) cs)
-unfolding encode
-put-text cs k lang t h g =
-    let room = cs .room in
-    let cards = cs .cards in
-    let front = header (length cards) room ++ entries cards in
-    let old = getD cards k noCard in
-    let card = withText lang t old in
-    let place : bodyPlace (length cards) room k (sideOf lang) ≡ headerSize + entrySize * length cards + (k * (2 * room) + sideOf lang * room) = omega arith in
-    let fits : sideOf lang * room + length (pad room t) ≤ 2 * room =
-    rw length-pad (omega (arith, mul-le-mul-right room (side-most g))) in
-    ap (λ (at : ℕ). splice at (pad room t) (front ++ spread (bodies room) cards)) place
-    ∙ splice-append-right (headerSize + entrySize * length cards) (k * (2 * room) + sideOf lang * room) (pad room t) front (spread (bodies room) cards)
-    (length-front (length cards) room cards)
-    ∙ ap (λ (u : List ℕ). front ++ u)
-    (splice-piece (bodies room) (2 * room) (length-bodies room) cards k h (sideOf lang * room) (pad room t) card noCard fits (splice-side room lang t old g))
-    ∙ rw (
-      length-set cards k card,
-      same-piece (λ (card : Card). entryBytes (card .entry)) entrySize entries-wide cards k h card noCard (ap entryBytes (entry-kept lang t old)),
-    )
+    each : (j : ℕ) → j < n → (eqb j i ≡ true) ⊎ (eqb j i ≡ false) → getD (table h n) j d ≡ getD (set (table g n) i a) j d
+    each j small (inl e) =
+        let same : j ≡ i = eqb-true j i e in
+        getD-table h n j d small ∙ ap h same ∙ here ∙ sym (getD-set-same (table g n) i a d inside) ∙ ap (λ (m : ℕ). getD (set (table g n) i a) m d) (sym same)
+    each j small (inr e) =
+        let apart = eqb-false j i e in
+        getD-table h n j d small ∙ others j apart ∙ sym (getD-table g n j d small) ∙ sym (getD-set-other (table g n) i j a d apart)
 
-with-twice : (k : ℕ) (a b : Card) (cs : Cards) → withCard k b (withCard k a cs) ≡ withCard k b cs
-with-twice k a b cs = rw (set-set (cs .cards) k a b)
+-- The bodies of a card that has one text in place of another: that body written.
+pub side-written : (room side : ℕ) (t : List ℕ) (old card : Card) → side < sides → sideText side card ≡ t
+    → ((j : ℕ) → (j ≡ side → ⊥) → sideText j card ≡ sideText j old)
+    → bodies room card ≡ splice (side * room) (pad room t) (bodies room old)
+unfolding bodies
+side-written room side t old card h here others =
+    let texts : ℕ → List ℕ = λ (s : ℕ). sideText s old in
+    ap (spread (pad room)) (table-set texts (λ (s : ℕ). sideText s card) sides side t [] h here others)
+    ∙ sym (splice-spread (pad room) room (length-pad room) (table texts sides) side t (subst (λ (m : ℕ). side < m) (sym (length-table texts sides)) h))
 
--- Another text of card k, and then another entry.
-pub put-text-entry : (cs : Cards) (k : ℕ) (lang : Language) (e : Entry) (t : List ℕ) → k < length (cs .cards) → sideOf lang < 2 →
-    splice (entryPlace k) (entryBytes e) (splice (bodyPlace (length (cs .cards)) (cs .room) k (sideOf lang)) (pad (cs .room) t) (encode cs))
-    ≡ encode (withCard k (withEntry e (withText lang t (getD (cs .cards) k noCard))) cs)
-put-text-entry cs k lang e t h g =
-    let new = withText lang t (getD (cs .cards) k noCard) in
-    let there : getD (set (cs .cards) k new) k noCard ≡ new = getD-set-same (cs .cards) k new noCard h in
-    let count : length (set (cs .cards) k new) ≡ length (cs .cards) = length-set (cs .cards) k new in
-    let put = put-entry (withCard k new cs) k e (rw count h) in
-    rw (put-text cs k lang t h g) (rw (there, with-twice k new (withEntry e new) cs) at put)
+module _ (cs : Cards) (k : ℕ) (below : k < length (cs .cards)) (card : Card) where
+  abbrev room : ℕ
+  room = cs .room
+
+  abbrev first : List ℕ
+  first = header (length (cs .cards)) room
+
+  abbrev old : Card
+  old = getD (cs .cards) k noCard
+
+  -- The entry, before whatever follows the entries.
+  put-front : (rest : List ℕ) → splice (entryPlace k) (cardEntry card) (first ++ entries (cs .cards) ++ rest) ≡ first ++ entries (set (cs .cards) k card) ++ rest
+  put-front rest =
+      let place : entryPlace k ≡ headerSize + k * entrySize = omega arith in
+      let inside : (k + 1) * entrySize ≤ length (cs .cards) * entrySize = mul-le-mul-right entrySize (omega arith) in
+      let fits : entryPlace k + length (cardEntry card) ≤ length (first ++ entries (cs .cards)) =
+      rw (length-front (length (cs .cards)) room (cs .cards), entries-wide card) (omega arith) in
+      splice-append-left (entryPlace k) (cardEntry card) (first ++ entries (cs .cards)) rest fits
+      ∙ ap (λ (u : List ℕ). u ++ rest)
+      (ap (λ (at : ℕ). splice at (cardEntry card) (first ++ entries (cs .cards))) place
+      ∙ splice-append-right headerSize (k * entrySize) (cardEntry card) first (entries (cs .cards)) (length-header (length (cs .cards)) room)
+      ∙ ap (λ (u : List ℕ). first ++ u) (splice-spread cardEntry entrySize entries-wide (cs .cards) k card below))
+
+  whole : first ++ entries (set (cs .cards) k card) ++ spread (bodies room) (set (cs .cards) k card) ≡ encode (withCard k card cs)
+  unfolding encode
+  whole = rw (length-set (cs .cards) k card)
+
+  -- Another card with the same bodies: its entry written.
+  pub put-entry : bodies room card ≡ bodies room old → splice (entryPlace k) (cardEntry card) (encode cs) ≡ encode (withCard k card cs)
+  unfolding encode
+  put-entry same =
+      put-front (spread (bodies room) (cs .cards))
+      ∙ ap (λ (u : List ℕ). first ++ entries (set (cs .cards) k card) ++ u)
+      (sym (same-piece (bodies room) (sides * room) (length-bodies room) (cs .cards) k below card noCard same))
+      ∙ whole
+
+  -- Another card with one text changed: that text and the entry written.
+  pub put-text-entry : (side : ℕ) (t : List ℕ) → side < sides → bodies room card ≡ splice (side * room) (pad room t) (bodies room old)
+      → splice (entryPlace k) (cardEntry card) (splice (bodyPlace (length (cs .cards)) room k side) (pad room t) (encode cs)) ≡ encode (withCard k card cs)
+  unfolding encode
+  put-text-entry side t h changed =
+      let place : bodyPlace (length (cs .cards)) room k side ≡ headerSize + entrySize * length (cs .cards) + (k * (sides * room) + side * room) = omega arith in
+      let fits : side * room + length (pad room t) ≤ sides * room = rw length-pad (omega (arith, mul-le-mul-right room h)) in
+      ap (splice (entryPlace k) (cardEntry card))
+      (ap (λ (at : ℕ). splice at (pad room t) (first ++ entries (cs .cards) ++ spread (bodies room) (cs .cards))) place
+      ∙ splice-append-right (headerSize + entrySize * length (cs .cards)) (k * (sides * room) + side * room) (pad room t) (first ++ entries (cs .cards)) (spread (bodies room) (cs .cards))
+      (length-front (length (cs .cards)) room (cs .cards))
+      ∙ ap (λ (u : List ℕ). first ++ entries (cs .cards) ++ u)
+      (splice-piece (bodies room) (sides * room) (length-bodies room) (cs .cards) k below (side * room) (pad room t) card noCard fits changed))
+      ∙ put-front (spread (bodies room) (set (cs .cards) k card))
+      ∙ whole

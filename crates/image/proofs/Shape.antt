@@ -9,7 +9,7 @@ use borrow.Author.Tests.{le-leb, lt-leb, leb-true, eqb-true}
 use lib.Dec.{leb, eqb}
 use Rattle.lists.specs.Table.{all, allFrom}
 use Rattle.lists.proofs.Tests.{all-out, all-fails-at}
-use Rattle.image.specs.Layout.{sizeOf, shapeOk, entryPlace, entrySize, bodyPlace, mostCards, mostRoom, leastRoom, roomStep, mostBytes}
+use Rattle.image.specs.Layout.{sides, sizeOf, shapeOk, entryPlace, entrySize, bodyPlace, mostCards, mostRoom, leastRoom, roomStep, mostBytes}
 
 -- ---- the limits
 
@@ -65,5 +65,5 @@ product a b m h g = mul-le-mul h (omega arith)
 pub entry-within : (n c : ℕ) {k : ℕ} → k < n → entryPlace k + entrySize ≤ sizeOf n c
 entry-within n c h = omega arith
 
-pub body-within : (n c k side : ℕ) → k < n → side < 2 → bodyPlace n c k side + c ≤ sizeOf n c
-body-within n c k side h g = let fits : (2 * k + side + 1) * c ≤ 2 * n * c = mul-le-mul-right c (omega arith) in omega arith
+pub body-within : (n c k side : ℕ) → k < n → side < sides → bodyPlace n c k side + c ≤ sizeOf n c
+body-within n c k side h g = let fits : (sides * k + side + 1) * c ≤ sides * n * c = mul-le-mul-right c (omega arith) in omega arith

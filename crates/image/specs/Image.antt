@@ -10,85 +10,115 @@ use Rattle.lists.specs.Parts.{part, spread, table, every, zeros, Bytes}
 use Rattle.lists.specs.Le.{le, field}
 use Rattle.lists.specs.Table.{all}
 use Rattle.commands.specs.Command.{Language, original, translation}
-use Rattle.guard.specs.Entry.{entrySound, noEntry, FitsEntry}
+use Rattle.stamps.specs.Stamp.{noPair, noMark}
+use Rattle.stamps.specs.declared.Mark.{Mark}
+use Rattle.stamps.specs.declared.Pair.{Pair}
+use Rattle.guard.specs.Entry.{entrySound, FitsEntry}
 use Rattle.guard.specs.declared.Entry.{Entry}
 use Rattle.image.specs.declared.Dimensions.{Dimensions}
-use Rattle.image.specs.Layout.{sizeOf, shapeOk, entryPlace, bodyPlace, headerSize}
+use Rattle.image.specs.Layout.{translations, sides, sizeOf, shapeOk, entryPlace, bodyPlace, headerSize}
 use Rattle.image.specs.Bytes.{countOf, roomOf, entryAt, magic, version, header, entryBytes, pad}
 
--- One card: its entry and its two texts.
+-- A translation of a card: the edition that it was made from, and its text.
+pub record Translation : Type 0 where
+  pub from : ℕ
+  pub text : List ℕ
+
+-- One card: the pair, the mark and the edition of its original that the guard keeps, the original, and its translations by their numbers.
 pub record Card : Type 0 where
-  pub entry : Entry
+  pub pair : Pair
+  pub mark : Mark
+  pub edition : ℕ
   pub original : List ℕ
-  pub translation : List ℕ
+  pub translated : List Translation
 
 -- The cards of a store, and the room C that each text has.
 pub record Cards : Type 0 where
   pub room : ℕ
   pub cards : List Card
 
--- The text of a language.
-abbrev pub text : Language → Card → List ℕ
-text original card = card .original
-text (translation zero) card = card .translation
-text (translation (suc t)) card = []
+-- A translation never written, and translation t of a card; one that it does not have says the same.
+abbrev pub noTranslation : Translation
+noTranslation = record { from = 0; text = [] }
 
--- The side of a language's body: a card has side 0, the original's, and side 1, the translation's.
+abbrev pub translationOf : ℕ → Card → Translation
+translationOf t card = getD (card .translated) t noTranslation
+
+-- The card's entry as seen in translation t: what judges a command, and what the store keeps in bytes. Lengths are those of the texts.
+abbrev pub view : ℕ → Card → Entry
+view t card =
+    record {
+      pair = card .pair;
+      mark = card .mark;
+      edition = card .edition;
+      from = translationOf t card .from;
+      original = length (card .original);
+      translation = length (translationOf t card .text);
+    }
+
+-- The text of a side: side 0 is the original, side t + 1 is translation t.
+abbrev pub sideText : ℕ → Card → List ℕ
+sideText zero card = card .original
+sideText (suc t) card = translationOf t card .text
+
+-- The side of a language, and its text.
 abbrev pub sideOf : Language → ℕ
 sideOf original = 0
 sideOf (translation t) = suc t
 
--- The card with another entry, and with another text in one language.
-abbrev pub withEntry : Entry → Card → Card
-withEntry e card = record { entry = e; original = card .original; translation = card .translation }
-
-abbrev pub withText : Language → List ℕ → Card → Card
-withText original t card = record { entry = card .entry; original = t; translation = card .translation }
-withText (translation zero) t card = record { entry = card .entry; original = card .original; translation = t }
-withText (translation (suc l)) t card = card
+abbrev pub text : Language → Card → List ℕ
+text l card = sideText (sideOf l) card
 
 -- A card with nothing on it.
 abbrev pub noCard : Card
-noCard = record { entry = noEntry; original = []; translation = [] }
+noCard = record { pair = noPair; mark = noMark; edition = 0; original = []; translated = replicate translations noTranslation }
 
 -- The cards with another card at place k: every other card stays.
 abbrev pub withCard : ℕ → Card → Cards → Cards
 withCard k card cs = record { room = cs .room; cards = set (cs .cards) k card }
 
--- A card by the rules: a sound entry, and two texts of bytes, as long as it says.
+-- A card by the rules: as many translations as a card has, in each of them a sound entry, and texts of bytes.
 pub record GoodCard (room : ℕ) (card : Card) : Type 0 where
-  pub fits : FitsEntry (card .entry)
-  pub rules : T (entrySound room (card .entry))
-  pub original : length (card .original) ≡ card .entry .original
-  pub translation : length (card .translation) ≡ card .entry .translation
-  pub bytes : (l : Language) → Bytes (text l card)
+  pub count : length (card .translated) ≡ translations
+  pub fits : (t : ℕ) → t < translations → FitsEntry (view t card)
+  pub rules : (t : ℕ) → t < translations → T (entrySound room (view t card))
+  pub bytes : (side : ℕ) → Bytes (sideText side card)
 
 -- Cards by the rules: N and C within the limits, and each card.
 pub record GoodCards (cs : Cards) : Type 0 where
   pub shape : T (shapeOk (length (cs .cards)) (cs .room))
   pub each : (k : ℕ) → k < length (cs .cards) → GoodCard (cs .room) (getD (cs .cards) k noCard)
 
--- The two bodies of a card.
+-- The bytes of a card's entry, and its bodies side by side.
+abbrev pub cardEntry : Card → List ℕ
+cardEntry card = entryBytes (view 0 card)
+
 unfoldable pub bodies : ℕ → Card → List ℕ
-bodies room card = pad room (card .original) ++ pad room (card .translation)
+bodies room card = spread (pad room) (table (λ side. sideText side card) sides)
 
 -- The bytes of cards (rules 2.3 to 2.5): the header, the entries, then the bodies card by card.
 unfoldable pub encode : Cards → List ℕ
 encode cs =
     header (length (cs .cards)) (cs .room)
-    ++ spread (λ card. entryBytes (card .entry)) (cs .cards)
+    ++ spread cardEntry (cs .cards)
     ++ spread (bodies (cs .room)) (cs .cards)
 
 -- The length bytes of a side's body.
 abbrev pub bodyAt : List ℕ → ℕ → ℕ → ℕ → List ℕ
 bodyAt image k side count = part (bodyPlace (countOf image) (roomOf image) k side) count image
 
+-- Card k: what its entry says, and its texts. Its one translation is the entry's.
+abbrev pub translationAt : List ℕ → ℕ → Translation
+translationAt image k = record { from = entryAt image k .from; text = bodyAt image k 1 (entryAt image k .translation) }
+
 unfoldable pub cardAt : List ℕ → ℕ → Card
 cardAt image k =
     record {
-      entry = entryAt image k;
+      pair = entryAt image k .pair;
+      mark = entryAt image k .mark;
+      edition = entryAt image k .edition;
       original = bodyAt image k 0 (entryAt image k .original);
-      translation = bodyAt image k 1 (entryAt image k .translation);
+      translated = translationAt image k ∷ [];
     }
 
 -- The cards that an image holds.

@@ -1,6 +1,6 @@
 -- Sizes, limits and places in an image (rules 2.2, 2.4 and 2.5).
 -- Assumes nothing.
-use Prim.Native.Nat.{ℕ, _+_, _*_, _%_}
+use Prim.Native.Nat.{ℕ, suc, _+_, _*_, _%_}
 use mathlib.Core.List.{[], _∷_}
 use mathlib.Core.Bool.{Bool}
 use lib.Dec.{leb, eqb}
@@ -29,8 +29,15 @@ headerSize = 16
 abbrev pub entrySize : ℕ
 entrySize = 32
 
+-- How many translations a card has, and how many bodies: side 0 is the original's, side t + 1 that of translation t (rule 2.5).
+abbrev pub translations : ℕ
+translations = 1
+
+abbrev pub sides : ℕ
+sides = suc translations
+
 abbrev pub sizeOf : ℕ → ℕ → ℕ
-sizeOf n c = headerSize + entrySize * n + 2 * c * n
+sizeOf n c = headerSize + entrySize * n + sides * c * n
 
 unfoldable pub shapeOk : ℕ → ℕ → Bool
 shapeOk n c =
@@ -43,9 +50,9 @@ shapeOk n c =
     ∷ leb (sizeOf n c) mostBytes
     ∷ [])
 
--- Where an entry stands, and where the body of a card's text stands: side 0 is the original, side 1 the translation.
+-- Where an entry stands, and where the body of a card's side stands.
 abbrev pub entryPlace : ℕ → ℕ
 entryPlace k = headerSize + entrySize * k
 
 abbrev pub bodyPlace : ℕ → ℕ → ℕ → ℕ → ℕ
-bodyPlace n c k side = headerSize + entrySize * n + (2 * k + side) * c
+bodyPlace n c k side = headerSize + entrySize * n + (sides * k + side) * c

@@ -1,7 +1,7 @@
 -- The worked cases, by computation. Assumes nothing.
 use mathlib.Core.Path.{refl}
 use Rattle.lists.specs.Le.{le, toLe}
-use Rattle.lists.specs.Parts.{part, spread, every, zeros}
+use Rattle.lists.specs.Parts.{part, spread, table, every, zeros}
 use Rattle.lists.specs.Table.{all, allFrom}
 use Rattle.guard.specs.Entry.{entrySound}
 use Rattle.image_claims.specs.Cases.{Limits, Changes}
@@ -14,5 +14,5 @@ unfolding makes shapeOk all allFrom
 limits-hold = refl
 
 pub changes-hold : Changes
-unfolding sound headerSound cardSound tailZero entryAt readEntry encode bodies pad entryBytes header shapeOk entrySound all allFrom le toLe part spread every zeros
+unfolding sound headerSound cardSound tailZero entryAt readEntry encode bodies pad entryBytes header shapeOk entrySound all allFrom le toLe part spread table every zeros
 changes-hold = refl

@@ -1,21 +1,21 @@
 -- The claims on images and cards, proved. Assumes nothing.
-use Prim.Native.Nat.{ℕ, zero, suc, _+_, _*_, _-_}
+use Prim.Native.Nat.{ℕ, zero, suc, _+_, _*_, _-_, _<_}
 use native.Mathlib.Omega.{arith}
 use mathlib.Core.Path.{_≡_, refl, sym, ap, _∙_, subst}
-use mathlib.Core.List.{List, append-assoc}
+use mathlib.Core.List.{List, [], append-assoc}
 use lib.Dec.{T, lit<, leb·zero}
 use lib.ListN.{length, drop, getD, replicate, length-replicate, getD-replicate, replicate-append-replicate}
 use lib.Seq.{drop-at}
-use Rattle.lists.specs.Parts.{Bytes}
+use Rattle.lists.specs.Parts.{spread, table, Bytes}
 use Rattle.lists.specs.Le.{toLe}
-use Rattle.lists.proofs.Spread.{table-ext, spread-replicate}
+use Rattle.lists.proofs.Spread.{table-ext, table-is, spread-replicate}
 use Rattle.lists.proofs.Tests.{to-T}
 use Rattle.lists.specs.Table.{all, allFrom}
 use Rattle.lists.proofs.Bytes.{Bytes-nil, zeros-at, zeros-replicate}
-use Rattle.commands.specs.Command.{Language, original, translation}
-use Rattle.guard.specs.Entry.{entrySound}
-use Rattle.image.specs.Image.{Card, text, noCard, bodies, encode, cardAt, decode, sound, fresh}
-use Rattle.image.specs.Layout.{shapeOk, sizeOf, headerSize, entrySize}
+use Rattle.guard.specs.Entry.{entrySound, noEntry, FitsEntry}
+use Rattle.guard.specs.declared.Entry.{Entry}
+use Rattle.image.specs.Image.{Card, Translation, noTranslation, translationOf, view, sideText, noCard, cardEntry, bodies, encode, cardAt, decode, sound, fresh}
+use Rattle.image.specs.Layout.{shapeOk, sizeOf, headerSize, entrySize, translations, sides}
 use Rattle.image.specs.Bytes.{header, entryBytes, pad, countOf}
 use Rattle.image.specs.Image.{freshCards, GoodCard, GoodCards}
 use Rattle.image_claims.specs.Claims.{SoundReadsBack, GoodEncodes, OneImage, FreshSound}
@@ -38,53 +38,73 @@ oneImage x y bx by sx sy n c same =
 
 -- ---- a fresh image
 
+-- A card with nothing on it, seen in any translation.
+pub no-translation : (t : ℕ) → translationOf t noCard ≡ noTranslation
+no-translation t = go translations t
+  where
+    go : (n t : ℕ) → getD (replicate n noTranslation) t noTranslation ≡ noTranslation
+    go zero t = refl
+    go (suc n) zero = refl
+    go (suc n) (suc t) = go n t
+
+pub no-view : (t : ℕ) → view t noCard ≡ noEntry
+no-view t = rw (no-translation t)
+
+side-empty : (side : ℕ) → sideText side noCard ≡ []
+side-empty zero = refl
+side-empty (suc t) = ap (λ (u : Translation). u .text) (no-translation t)
+
 -- Pieces that are all zero.
-entry-zero : entryBytes (noCard .entry) ≡ replicate entrySize 0
+entry-zero : cardEntry noCard ≡ replicate entrySize 0
 unfolding entryBytes toLe
 entry-zero = refl
 
-bodies-zero : (c : ℕ) → bodies c noCard ≡ replicate (2 * c) 0
+bodies-zero : (c : ℕ) → bodies c noCard ≡ replicate (sides * c) 0
 unfolding bodies pad
 bodies-zero c =
-    let both : c + c ≡ 2 * c = omega arith in
-    rw (take-replicate {A = ℕ} c c 0 (omega arith), replicate-append-replicate {A = ℕ} c c 0, both)
+    let texts : ℕ → List ℕ = λ (side : ℕ). sideText side noCard in
+    let none : List (List ℕ) = replicate sides [] in
+    let empty : table texts sides ≡ none =
+    ap (table texts) (sym (length-replicate {A = List ℕ} sides []))
+    ∙ table-is texts none [] (λ i h. side-empty i ∙ sym (getD-replicate {A = List ℕ} sides i [] [] (subst (λ (n : ℕ). i < n) (length-replicate {A = List ℕ} sides []) h))) in
+    ap (spread (pad c)) empty ∙ spread-replicate (pad c) [] c 0 (take-replicate {A = ℕ} c c 0 (omega arith)) sides
 
 fresh-cards : (n c : ℕ) → encode (freshCards n c) ≡ fresh n c
 unfolding encode freshCards fresh
 fresh-cards n c =
-    let rest : n * entrySize + n * (2 * c) ≡ sizeOf n c - headerSize = omega arith in
+    let rest : n * entrySize + n * (sides * c) ≡ sizeOf n c - headerSize = omega arith in
     rw (
       length-replicate n noCard,
-      spread-replicate (λ (card : Card). entryBytes (card .entry)) noCard entrySize 0 entry-zero n,
-      spread-replicate (bodies c) noCard (2 * c) 0 (bodies-zero c) n,
-      append-assoc (header n c) (replicate (n * entrySize) 0) (replicate (n * (2 * c)) 0),
-      replicate-append-replicate {A = ℕ} (n * entrySize) (n * (2 * c)) 0,
+      spread-replicate cardEntry noCard entrySize 0 entry-zero n,
+      spread-replicate (bodies c) noCard (sides * c) 0 (bodies-zero c) n,
+      append-assoc (header n c) (replicate (n * entrySize) 0) (replicate (n * (sides * c)) 0),
+      replicate-append-replicate {A = ℕ} (n * entrySize) (n * (sides * c)) 0,
       rest,
     )
 
-no-card : (c : ℕ) → GoodCard c noCard
+pub fits-none : FitsEntry noEntry
+fits-none =
+    record {
+      pair = record { s = lit< tt; x = lit< tt };
+      mark = record { desk = lit< tt; transaction = lit< tt };
+      edition = lit< tt;
+      from = lit< tt;
+      original = lit< tt;
+      translation = lit< tt;
+    }
+
+sound-none : (c : ℕ) → T (entrySound c noEntry)
 unfolding entrySound all allFrom
+sound-none c = rw (leb·zero c) tt
+
+no-card : (c : ℕ) → GoodCard c noCard
 no-card c =
     record {
-      fits =
-          record {
-            pair = record { s = lit< tt; x = lit< tt };
-            mark = record { desk = lit< tt; transaction = lit< tt };
-            edition = lit< tt;
-            from = lit< tt;
-            original = lit< tt;
-            translation = lit< tt;
-          };
-      rules = rw (leb·zero c) tt;
-      original = refl;
-      translation = refl;
-      bytes = none;
+      count = length-replicate translations noTranslation;
+      fits = λ t h. subst FitsEntry (sym (no-view t)) fits-none;
+      rules = λ t h. subst (λ (e : Entry). T (entrySound c e)) (sym (no-view t)) (sound-none c);
+      bytes = λ side. subst Bytes (sym (side-empty side)) Bytes-nil;
     }
-  where
-    none : (l : Language) → Bytes (text l noCard)
-    none original = Bytes-nil
-    none (translation zero) = Bytes-nil
-    none (translation (suc t)) = Bytes-nil
 
 fresh-good : (n c : ℕ) → T (shapeOk n c) → GoodCards (freshCards n c)
 unfolding freshCards

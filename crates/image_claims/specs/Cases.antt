@@ -58,17 +58,11 @@ oneCard =
       room = 16;
       cards =
           record {
-            entry =
-                record {
-                  pair = record { s = 4295032832; x = 4295032832 };
-                  mark = record { desk = 1; transaction = 7 };
-                  edition = 2;
-                  from = 1;
-                  original = 3;
-                  translation = 2;
-                };
+            pair = record { s = 4295032832; x = 4295032832 };
+            mark = record { desk = 1; transaction = 7 };
+            edition = 2;
             original = 50 ∷ 48 ∷ 53 ∷ [];
-            translation = 52 ∷ 48 ∷ [];
+            translated = record { from = 1; text = 52 ∷ 48 ∷ [] } ∷ [];
           }
           ∷ [];
     }

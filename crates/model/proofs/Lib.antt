@@ -1,6 +1,7 @@
 pub mod Meaning
 pub mod Formed
 pub mod Isolation
+pub mod Stepped
 pub mod Machine
 pub mod Sentences
 pub mod Simulation

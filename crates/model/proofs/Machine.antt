@@ -2,32 +2,35 @@
 -- Assumes nothing.
 use Prim.Native.Nat.{ℕ, zero, suc, _+_, _≤_, _<_, max}
 use native.Mathlib.Omega.{arith}
-use mathlib.Core.Path.{_≡_, refl, sym, subst, _∙_}
+use mathlib.Core.Path.{_≡_, refl, sym, ap, subst, _∙_}
 use mathlib.Core.Logic.{_⊎_, inl, inr}
 use mathlib.Core.List.{List, [], _∷_}
 use mathlib.Core.Bool.{Bool, true, false, cond, _&&_, or-comm}
 use borrow.Author.Tests.{eqb-true, eqb-false, eq-eqb, ne-eqb, le-ltb, ltb-true, not-true, not-false}
-use lib.Dec.{eqb, ltb, eqb·suc-zero}
-use lib.ListN.{length, getD, set, length-set}
+use lib.Dec.{eqb, ltb, eqb·suc-zero, lit<}
+use lib.ListN.{length, getD, set, length-set, length-replicate}
 use lib.Seq.{getD-set-same, getD-set-other}
-use Rattle.lists.proofs.Tests.{cases, or-right, not-in, ltb-max}
-use Rattle.commands.specs.Command.{Language, original, translation, writes, update}
+use Rattle.lists.proofs.Tests.{cases, never-both, or-right, not-in, ltb-max}
+use Rattle.commands.specs.Command.{Language, original, translation, writes, language, update}
 use Rattle.commands.specs.Bytes.{fieldsOf, formed, payload}
 use Rattle.stamps.specs.Stamp.{noMark}
-use Rattle.guard.specs.Judge.{behind, textLength, judgeRows, raise, judged}
+use Rattle.guard.specs.Judge.{behind, judgeRows, raise, judged}
 use Rattle.guard.specs.Replies.{replied}
 use Rattle.lists.specs.Table.{first, settled, applies}
 use Rattle.commands.specs.declared.Command.{Command}
 use Rattle.stamps.specs.declared.Pair.{Pair}
 use Rattle.guard.proofs.Judge.{Accepted, accepted as passes}
 use Rattle.commands.proofs.Rules.{CommandRules}
+use Rattle.commands.proofs.Languages.{writes-named, one-write}
 use Rattle.lists.proofs.Table.{unapplied, none-applies}
-use Rattle.image.specs.Image.{Card, Cards, text, noCard}
-use Rattle.model.specs.Serve.{cardOf, requestRows, stepped, cardsAfter, answerBy, replyBy}
+use Rattle.image.specs.Layout.{translations}
+use Rattle.image.specs.Image.{Translation, Card, Cards, noTranslation, translationOf, text, noCard}
+use Rattle.image_claims.proofs.Claims.{no-translation}
+use Rattle.model.specs.Serve.{cardOf, entryOf, requestRows, stepped, cardsAfter, answerBy, replyBy}
 use Rattle.model.specs.Words.{Sent, Event, commandOf, accepted, outdated, lastText}
 use Rattle.lists.specs.Search.{any, last}
-use Rattle.commands.proofs.CommandBytes.{length-payload}
 use Rattle.model.proofs.Formed.{formed-well, formed-rules}
+use Rattle.model.proofs.Stepped.{count-step, text-step, from-step}
 
 -- ---- one request
 
@@ -58,7 +61,7 @@ eventsFrom start (s ∷ earlier) =
 pub record Passed (cs : Cards) (s : Sent) : Type 0 where
   pub wellFormed : formed (s .command) ≡ true
   pub exists : ltb (fieldsOf (s .command) .card) (length (cs .cards)) ≡ true
-  pub judged : Accepted (cardOf cs (fieldsOf (s .command)) .entry) (fieldsOf (s .command)) (cs .room) (length (s .lent))
+  pub judged : Accepted (entryOf cs (fieldsOf (s .command))) (fieldsOf (s .command)) (cs .room) (length (s .lent))
 
 pub passed : (cs : Cards) (s : Sent) → numberOn cs s ≡ 0 → Passed cs s
 unfolding judged
@@ -66,7 +69,7 @@ passed cs s e =
     record {
       wellFormed = is-formed;
       exists = there;
-      judged = passes (cardOf cs (fieldsOf (s .command)) .entry) (fieldsOf (s .command)) (cs .room) (length (s .lent)) (sym same ∙ e);
+      judged = passes (entryOf cs (fieldsOf (s .command))) (fieldsOf (s .command)) (cs .room) (length (s .lent)) (sym same ∙ e);
     }
   where
     unapplied-row : (n : ℕ) → applies n (requestRows cs (s .command) (length (s .lent))) ≡ false
@@ -80,25 +83,8 @@ passed cs s e =
     there = not-false (ltb (fieldsOf (s .command) .card) (length (cs .cards))) (unapplied-row 2)
 
     -- Past rows 1 and 2 the entry's own table decides.
-    same : numberOn cs s ≡ first (judgeRows (cardOf cs (fieldsOf (s .command)) .entry) (fieldsOf (s .command)) (cs .room) (length (s .lent)))
+    same : numberOn cs s ≡ first (judgeRows (entryOf cs (fieldsOf (s .command))) (fieldsOf (s .command)) (cs .room) (length (s .lent)))
     same = rw (is-formed, there, formed-well (s .command) is-formed)
-
--- ---- texts and their lengths
-
-length-cond : (b : Bool) (u v : List ℕ) {m n : ℕ} → length u ≡ m → length v ≡ n → length (cond b u v) ≡ cond b m n
-length-cond true u v e f = e
-length-cond false u v e f = f
-
--- Texts are as long as the entry says, also after a step whose payload is as long as the command says.
-abbrev pub Sized : Card → Type 0
-Sized card = (l : Language) → length (text l card) ≡ textLength l (card .entry)
-
-pub sized-step : (card : Card) (c : Command) (written : List ℕ) → length written ≡ c .length → Sized card → Sized (stepped card c written)
-unfolding stepped raise
-sized-step card c written e h original = length-cond (writes original c) written (card .original) e (h original)
-sized-step card c written e h (translation zero) =
-    length-cond (writes (translation 0) c) written (card .translation) e (h (translation zero))
-sized-step card c written e h (translation (suc t)) = refl
 
 -- ---- a card and the events before
 
@@ -106,16 +92,16 @@ sized-step card c written e h (translation (suc t)) = refl
 abbrev above : (Pair → ℕ) → ℕ → ℕ → Event → Bool
 above side k n e = accepted k e && ltb n (side (update (commandOf e)))
 
--- A stored card k, by the events before: which stamps its own are above, its mark, its texts and their lengths, and whether its translation is
--- behind. No maximum and no count is needed.
+-- A stored card k, by the events before: which stamps its own are above, its mark, its texts, and which of its translations are behind. No maximum
+-- and no count of writes is needed.
 pub record Tied (before : List Event) (k : ℕ) (card : Card) : Type 0 where
-  pub s : (n : ℕ) → ltb n (card .entry .pair .s) ≡ any (above (λ (p : Pair). p .s) k n) before
-  pub x : (n : ℕ) → ltb n (card .entry .pair .x) ≡ any (above (λ (p : Pair). p .x) k n) before
-  pub mark : card .entry .mark ≡ last (accepted k) (λ (e : Event). commandOf e .next) noMark before
+  pub s : (n : ℕ) → ltb n (card .pair .s) ≡ any (above (λ (p : Pair). p .s) k n) before
+  pub x : (n : ℕ) → ltb n (card .pair .x) ≡ any (above (λ (p : Pair). p .x) k n) before
+  pub mark : card .mark ≡ last (accepted k) (λ (e : Event). commandOf e .next) noMark before
+  pub count : length (card .translated) ≡ translations
   pub texts : (l : Language) → text l card ≡ lastText l before k
-  pub lengths : Sized card
-  pub behindness : behind (card .entry .edition) (card .entry .from) ≡ outdated 0 before k
-  pub source : card .entry .from ≤ card .entry .edition
+  pub behindness : (t : ℕ) → behind (card .edition) (translationOf t card .from) ≡ outdated t before k
+  pub source : (t : ℕ) → translationOf t card .from ≤ card .edition
 
 pub tied-fresh : (k : ℕ) → Tied [] k noCard
 tied-fresh k =
@@ -123,21 +109,15 @@ tied-fresh k =
       s = λ n. le-ltb n 0 (omega arith);
       x = λ n. le-ltb n 0 (omega arith);
       mark = refl;
+      count = length-replicate translations noTranslation;
       texts = no-text;
-      lengths = no-length;
-      behindness = refl;
-      source = omega arith;
+      behindness = λ t. rw (no-translation t);
+      source = λ t. rw (no-translation t) (omega arith);
     }
   where
     no-text : (l : Language) → text l noCard ≡ []
     no-text original = refl
-    no-text (translation zero) = refl
-    no-text (translation (suc t)) = refl
-
-    no-length : (l : Language) → length (text l noCard) ≡ textLength l (noCard .entry)
-    no-length original = refl
-    no-length (translation zero) = refl
-    no-length (translation (suc t)) = refl
+    no-text (translation t) = ap (λ (u : Translation). u .text) (no-translation t)
 
 -- An event that is no accepted command for card k leaves the card tied as it was.
 pub tied-other : (k : ℕ) (e : Event) (before : List Event) (card : Card) → accepted k e ≡ false → Tied before k card → Tied (e ∷ before) k card
@@ -146,23 +126,16 @@ tied-other k e before card h t =
       s = λ n. rw h (t .s n);
       x = λ n. rw h (t .x n);
       mark = rw h (t .mark);
+      count = t .count;
       texts = λ l. rw h (t .texts l);
-      lengths = t .lengths;
-      behindness = rw h (rw h (t .behindness));
+      behindness = λ l. rw h (rw h (t .behindness l));
       source = t .source;
     }
 
--- A write is of one language.
-one-language : (c : Command) → writes original c ≡ true → writes (translation 0) c ≡ true → ⊥
-one-language c e f =
-    let three = eqb-true (c .act) 3 e in
-    let four = eqb-true (c .act) 4 f in
-    omega arith
-
 -- An accepted command for card k: the card that it steps to is tied to the events with it.
 module _ (k : ℕ) (e : Event) (before : List Event) (card : Card) (h : accepted k e ≡ true) (r : CommandRules (commandOf e))
-    (long : length (payload (e .sent .command)) ≡ commandOf e .length)
-    (named : writes (translation 0) (commandOf e) ≡ true → commandOf e .edition ≡ card .entry .edition) (t : Tied before k card) where
+    (within : language (commandOf e) < translations)
+    (named : writes (translation (language (commandOf e))) (commandOf e) ≡ true → commandOf e .edition ≡ card .edition) (t : Tied before k card) where
   abbrev now : Card
   now = stepped card (commandOf e) (payload (e .sent .command))
 
@@ -172,47 +145,56 @@ module _ (k : ℕ) (e : Event) (before : List Event) (card : Card) (h : accepted
   raised side old n tie =
       ltb-max n old (side (update (commandOf e))) ∙ or-comm (ltb n old) (ltb n (side (update (commandOf e)))) ∙ rw (h, tie)
 
-  step-mark : now .entry .mark ≡ last (accepted k) (λ (d : Event). commandOf d .next) noMark (e ∷ before)
+  known : language (commandOf e) < length (card .translated)
+  known = subst (λ (n : ℕ). language (commandOf e) < n) (sym (t .count)) within
+
+  step-mark : now .mark ≡ last (accepted k) (λ (d : Event). commandOf d .next) noMark (e ∷ before)
   unfolding stepped raise
   step-mark = rw h
 
   step-texts : (l : Language) → text l now ≡ lastText l (e ∷ before) k
-  unfolding stepped
-  step-texts original = rw (h, t .texts original)
-  step-texts (translation zero) = rw (h, t .texts (translation zero))
-  step-texts (translation (suc j)) = rw h (t .texts (translation (suc j)))
+  step-texts l = text-step card (commandOf e) (payload (e .sent .command)) known l ∙ rw (h, t .texts l)
 
-  -- The edition and the edition translated from, after a write of the original, of the translation, and of neither.
-  step-editions : (behind (now .entry .edition) (now .entry .from) ≡ outdated 0 (e ∷ before) k) × (now .entry .from ≤ now .entry .edition)
+  -- The edition and the edition translated from, after a write of the original, of that translation, and of neither.
+  step-editions : (l : ℕ) → (behind (now .edition) (translationOf l now .from) ≡ outdated l (e ∷ before) k) × (translationOf l now .from ≤ now .edition)
   unfolding stepped raise
-  step-editions = go (cases (writes original (commandOf e))) (cases (writes (translation 0) (commandOf e)))
+  step-editions l =
+      rw (from-step card (commandOf e) (payload (e .sent .command)) known l)
+      (go (cases (writes original (commandOf e))) (cases (writes (translation l) (commandOf e))))
     where
+      old : ℕ
+      old = translationOf l card .from
+
+      after : ℕ
+      after = cond (writes (translation l) (commandOf e)) (commandOf e .edition) old
+
       go : (writes original (commandOf e) ≡ true) ⊎ (writes original (commandOf e) ≡ false)
-          → (writes (translation 0) (commandOf e) ≡ true) ⊎ (writes (translation 0) (commandOf e) ≡ false)
-          → (behind (now .entry .edition) (now .entry .from) ≡ outdated 0 (e ∷ before) k) × (now .entry .from ≤ now .entry .edition)
-      go (inl p) (inl q) = absurd (one-language (commandOf e) p q)
+          → (writes (translation l) (commandOf e) ≡ true) ⊎ (writes (translation l) (commandOf e) ≡ false)
+          → (behind (now .edition) after ≡ outdated l (e ∷ before) k) × (after ≤ now .edition)
+      go (inl p) (inl q) = absurd (never-both q (one-write (commandOf e) p l))
       go (inl p) (inr q) =
-          let source = t .source in
-          let newer : eqb (card .entry .from) (card .entry .edition + 1) ≡ false =
-          ne-eqb (card .entry .from) (card .entry .edition + 1) (λ z. omega arith) in
-          (rw (p, q, h) (or-right (eqb (card .entry .from) 0) (not-in newer)), rw (p, q) (omega arith))
+          let source = t .source l in
+          let newer : eqb old (card .edition + 1) ≡ false = ne-eqb old (card .edition + 1) (λ z. omega arith) in
+          (rw (p, q, h) (or-right (eqb old 0) (not-in newer)), rw (p, q) (omega arith))
       go (inr p) (inl q) =
-          let same = named q in
-          let some : eqb (commandOf e .edition) 0 ≡ false = not-true (eqb (commandOf e .edition) 0) (sym (r .edition) ∙ q) in
-          (rw (p, q, h) (rw (eq-eqb (commandOf e .edition) (card .entry .edition) same, some, h, q)), rw (p, q) (omega arith))
-      go (inr p) (inr q) = (rw (p, q, h) (rw (h, q) (t .behindness)), rw (p, q) (t .source))
+          let writing : writes (translation (language (commandOf e))) (commandOf e) ≡ true =
+          subst (λ (j : ℕ). writes (translation j) (commandOf e) ≡ true) (sym (writes-named (commandOf e) l q)) q in
+          let same = named writing in
+          let some : eqb (commandOf e .edition) 0 ≡ false = not-true (eqb (commandOf e .edition) 0) (sym (r .edition) ∙ writing) in
+          (rw (p, q, h) (rw (eq-eqb (commandOf e .edition) (card .edition) same, some, h, q)), rw (p, q) (omega arith))
+      go (inr p) (inr q) = (rw (p, q, h) (rw (h, q) (t .behindness l)), rw (p, q) (t .source l))
 
   pub tied-step : Tied (e ∷ before) k now
   unfolding stepped raise
   tied-step =
       record {
-        s = λ n. raised (λ (p : Pair). p .s) (card .entry .pair .s) n (t .s n);
-        x = λ n. raised (λ (p : Pair). p .x) (card .entry .pair .x) n (t .x n);
+        s = λ n. raised (λ (p : Pair). p .s) (card .pair .s) n (t .s n);
+        x = λ n. raised (λ (p : Pair). p .x) (card .pair .x) n (t .x n);
         mark = step-mark;
+        count = count-step card (commandOf e) (payload (e .sent .command)) ∙ t .count;
         texts = step-texts;
-        lengths = sized-step card (commandOf e) (payload (e .sent .command)) long (t .lengths);
-        behindness = step-editions .0;
-        source = step-editions .1;
+        behindness = λ l. step-editions l .0;
+        source = λ l. step-editions l .1;
       }
 
 -- ---- all cards and the events before
@@ -260,7 +242,7 @@ ties-more cs s before t zero e k b = go (cases (eqb (fieldsOf (s .command) .card
         (tied-step place (eventBy 0 cs s) before stored
         (accepted-at cs s place ∙ eq-eqb place place refl)
         (formed-rules (s .command) (known .wellFormed))
-        (length-payload (s .command) (known .wellFormed))
+        (lit< tt)
         (known .judged .named)
         (t place there)))
     go (inr h) =

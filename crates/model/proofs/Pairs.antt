@@ -21,7 +21,7 @@ use Rattle.image.specs.Layout.{shapeOk}
 use Rattle.image.specs.Image.{Card, Cards, noCard, fresh}
 use Rattle.image.specs.Image.{freshCards}
 use Rattle.image_claims.proofs.Claims.{freshSound}
-use Rattle.model.specs.Serve.{cardOf, stepped, serve, storeRows}
+use Rattle.model.specs.Serve.{cardOf, entryOf, stepped, serve, storeRows}
 use Rattle.model.specs.Words.{Sent, Event, history, commandOf, accepted, logOf}
 use Rattle.model.specs.Claims.{AllBytes}
 use Rattle.model.specs.Pairs.{largestPair, PairShown}
@@ -32,7 +32,7 @@ use Rattle.model.proofs.Simulation.{same-events}
 
 -- The stored pair of each card is the largest that was accepted for it.
 abbrev Pairs : Cards → List Event → Type 0
-Pairs cs before = (k : ℕ) → getD (cs .cards) k noCard .entry .pair ≡ largestPair k before
+Pairs cs before = (k : ℕ) → getD (cs .cards) k noCard .pair ≡ largestPair k before
 
 no-card : (n k : ℕ) → getD (replicate n noCard) k noCard ≡ noCard
 no-card n k = go (cases (ltb k n))
@@ -43,11 +43,11 @@ no-card n k = go (cases (ltb k n))
 
 pairs-fresh : (n c : ℕ) → Pairs (freshCards n c) []
 unfolding freshCards
-pairs-fresh n c k = ap (λ (card : Card). card .entry .pair) (no-card n k)
+pairs-fresh n c k = ap (λ (card : Card). card .pair) (no-card n k)
 
 -- An accepted command raises the pair of its card to the largest with its own.
 raised-pair : (cs : Cards) (s : Sent) (before : List Event) → Pairs cs before
-    → raise (cardOf cs (fieldsOf (s .command)) .entry) (fieldsOf (s .command)) .pair
+    → raise (entryOf cs (fieldsOf (s .command))) (fieldsOf (s .command)) .pair
     ≡ largestPair (fieldsOf (s .command) .card) (eventBy 0 cs s ∷ before)
 unfolding raise
 raised-pair cs s before p =
@@ -70,12 +70,12 @@ pairs-more cs s before p zero e k = go (cases (eqb (fieldsOf (s .command) .card)
     there = ltb-true place (length (cs .cards)) (passed cs s e .exists)
 
     go : (eqb place k ≡ true) ⊎ (eqb place k ≡ false)
-        → getD (set (cs .cards) place after) k noCard .entry .pair ≡ largestPair k (eventBy 0 cs s ∷ before)
+        → getD (set (cs .cards) place after) k noCard .pair ≡ largestPair k (eventBy 0 cs s ∷ before)
     go (inl h) =
-        subst (λ (j : ℕ). getD (set (cs .cards) place after) j noCard .entry .pair ≡ largestPair j (eventBy 0 cs s ∷ before)) (eqb-true place k h)
-        (ap (λ (card : Card). card .entry .pair) (getD-set-same (cs .cards) place after noCard there) ∙ raised-pair cs s before p)
+        subst (λ (j : ℕ). getD (set (cs .cards) place after) j noCard .pair ≡ largestPair j (eventBy 0 cs s ∷ before)) (eqb-true place k h)
+        (ap (λ (card : Card). card .pair) (getD-set-same (cs .cards) place after noCard there) ∙ raised-pair cs s before p)
     go (inr h) =
-        ap (λ (card : Card). card .entry .pair) (getD-set-other (cs .cards) place k after noCard (λ z. eqb-false place k h (sym z)))
+        ap (λ (card : Card). card .pair) (getD-set-other (cs .cards) place k after noCard (λ z. eqb-false place k h (sym z)))
         ∙ rw (accepted-at cs s k ∙ h) (p k)
 
 -- What an event of the log shows.

@@ -10,18 +10,18 @@ use lib.Dec.{ltb}
 use lib.ListN.{length, take, drop}
 use lib.Seq.{take-append-seam}
 use Rattle.lists.specs.Parts.{splice}
-use Rattle.lists.proofs.Tests.{to-T, from-T, never-both}
+use Rattle.lists.proofs.Tests.{to-T, from-T}
 use Rattle.stamps.specs.Stamp.{stale, markFits}
-use Rattle.commands.specs.Command.{Language, original, translation, reads, writes, verifier}
+use Rattle.commands.specs.Command.{Language, original, translation, reads, writes, language, verifier}
 use Rattle.commands.specs.Bytes.{fieldsOf}
-use Rattle.guard.specs.Judge.{behind, textLength, raise}
+use Rattle.guard.specs.Judge.{behind, raise}
 use Rattle.guard.specs.Replies.{readLength, replied}
 use Rattle.lists.specs.Table.{Row, applies}
 use Rattle.commands.specs.declared.Command.{Command}
-use Rattle.guard.specs.declared.Entry.{Entry}
+use Rattle.commands.proofs.Languages.{reads-named}
 use Rattle.lists.proofs.Table.{given}
-use Rattle.image.specs.Image.{Card, Cards, text}
-use Rattle.model.specs.Serve.{cardOf, requestRows, textRead}
+use Rattle.image.specs.Image.{Card, Cards, translationOf, view, text}
+use Rattle.model.specs.Serve.{cardOf, entryOf, requestRows, textRead}
 use Rattle.model.specs.Words.{Sent, Event, commandOf, Proper, late, rightMark, outdated, lastText}
 use Rattle.model.proofs.Formed.{formed-rules, no-payload}
 use Rattle.model.proofs.Machine.{numberOn, eventBy, passed, Tied, Ties}
@@ -43,23 +43,28 @@ pub record Told (n : ℕ) (e : Event) (before : List Event) : Type 0 where
 
 -- ---- reads
 
+-- A read of a translation is one of the translation that the command names.
+reads-own : (t : ℕ) (c : Command) → reads (translation t) c ≡ true → reads (translation (language c)) c ≡ true
+reads-own t c e = subst (λ (j : ℕ). reads (translation j) c ≡ true) (sym (reads-named c t e)) e
+
 -- A read is no write.
-read-only : (l : Language) (c : Command) → reads l c ≡ true → (writes original c ≡ false) × (writes (translation 0) c ≡ false)
+read-only : (l : Language) (c : Command) → reads l c ≡ true → (writes original c ≡ false) × (writes (translation (language c)) c ≡ false)
 read-only original c e = let act = eqb-true (c .act) 1 e in (rw act, rw act)
-read-only (translation zero) c e = let act = eqb-true (c .act) 2 e in (rw act, rw act)
-read-only (translation (suc t)) c e = absurd (never-both e refl)
+read-only (translation t) c e = let act = eqb-true (c .act) 2 (reads-own t c e) in (rw act, rw act)
 
 -- The text that is read, and its length, which the command leaves as it is.
 copy-text : (l : Language) (card : Card) (c : Command) → reads l c ≡ true → textRead card c ≡ text l card
 copy-text original card c e = rw e
-copy-text (translation zero) card c e = let act = eqb-true (c .act) 2 e in rw act
-copy-text (translation (suc t)) card c e = absurd (never-both e refl)
+copy-text (translation t) card c e =
+    let act = eqb-true (c .act) 2 (reads-own t c e) in
+    subst (λ (j : ℕ). textRead card c ≡ text (translation j) card) (reads-named c t e) (rw act)
 
-read-length : (l : Language) (e : Entry) (c : Command) → reads l c ≡ true → readLength (raise e c) c ≡ textLength l e
+read-length : (l : Language) (card : Card) (c : Command) → reads l c ≡ true → readLength (raise (view (language c) card) c) c ≡ length (text l card)
 unfolding raise
-read-length original e c h = let act = eqb-true (c .act) 1 h in rw act
-read-length (translation zero) e c h = let act = eqb-true (c .act) 2 h in rw act
-read-length (translation (suc t)) e c h = absurd (never-both h refl)
+read-length original card c h = let act = eqb-true (c .act) 1 h in rw act
+read-length (translation t) card c h =
+    let act = eqb-true (c .act) 2 (reads-own t c h) in
+    subst (λ (j : ℕ). readLength (raise (view (language c) card) c) c ≡ length (text (translation j) card)) (reads-named c t h) (rw act)
 
 take-splice : (v l : List ℕ) → take (length v) (splice 0 v l) ≡ v
 unfolding splice
@@ -88,7 +93,7 @@ module _ (cs : Cards) (s : Sent) (before : List Event) (ties : Ties cs before) w
   tied : Proper (length (cs .cards)) event → Tied before (c .card) stored
   tied p = ties (c .card) (ltb-true (c .card) (length (cs .cards)) (p .exists))
 
-  late-is : Proper (length (cs .cards)) event → stale (c .mode) (stored .entry .pair) (verifier c) ≡ late before c
+  late-is : Proper (length (cs .cards)) event → stale (c .mode) (stored .pair) (verifier c) ≡ late before c
   late-is p = rw (tied p .x (verifier c .x), tied p .s (verifier c .s))
 
   is-proper : numberOn cs s ≡ 0 → Proper (length (cs .cards)) event
@@ -102,19 +107,20 @@ module _ (cs : Cards) (s : Sent) (before : List Event) (ties : Ties cs before) w
 
   behind-when : (t : ℕ) → Proper (length (cs .cards)) event → reads (translation t) c ≡ true → late before c ≡ false → rightMark before c ≡ true
       → (numberOn cs s ≡ 6) ↔ (outdated t before (c .card) ≡ true)
-  behind-when (suc t) p r h m = absurd (never-both r refl)
-  behind-when zero p r h m = (
+  behind-when t p r h m = (
     λ e. sym row-is ∙ from-T (applies 6 rows) (given rows tt 5 .0 e .0),
     λ o. given rows tt 5 .1 (to-T (row-is ∙ o), rw (p .wellFormed, p .exists, late-is p ∙ h, mark-fits, fits) tt),
   )
     where
-      no-write : (writes original c ≡ false) × (writes (translation 0) c ≡ false)
-      no-write = read-only (translation 0) c r
+      no-write : (writes original c ≡ false) × (writes (translation (language c)) c ≡ false)
+      no-write = read-only (translation t) c r
 
-      row-is : applies 6 rows ≡ outdated 0 before (c .card)
-      row-is = rw (r, no-write .1, or-false (behind (stored .entry .edition) (stored .entry .from))) (tied p .behindness)
+      row-is : applies 6 rows ≡ outdated t before (c .card)
+      row-is =
+          subst (λ (j : ℕ). applies 6 rows ≡ outdated j before (c .card)) (reads-named c t r)
+          (rw (reads-own t c r, no-write .1, or-false (behind (stored .edition) (translationOf (language c) stored .from))) (tied p .behindness (language c)))
 
-      mark-fits : markFits (stored .entry .mark) (c .expected) ≡ true
+      mark-fits : markFits (stored .mark) (c .expected) ≡ true
       mark-fits = rw (tied p .mark) m
 
       fits : ltb (cs .room) (c .length) ≡ false
@@ -123,14 +129,14 @@ module _ (cs : Cards) (s : Sent) (before : List Event) (ties : Ties cs before) w
           le-ltb (cs .room) (c .length) (omega arith)
 
   -- An accepted read.
-  at-zero : eventBy 0 cs s .answer .length ≡ readLength (raise (stored .entry) c) c
+  at-zero : eventBy 0 cs s .answer .length ≡ readLength (raise (entryOf cs c) c) c
   unfolding replied
   at-zero = refl
 
   shown-length : (l : Language) → numberOn cs s ≡ 0 → reads l c ≡ true → event .answer .length ≡ length (text l stored)
   shown-length l e r =
       subst (λ (n : ℕ). eventBy n cs s .answer .length ≡ length (text l stored)) (sym e)
-      (at-zero ∙ read-length l (stored .entry) c r ∙ sym (tied (is-proper e) .lengths l))
+      (at-zero ∙ read-length l stored c r)
 
   shown-text : (l : Language) → numberOn cs s ≡ 0 → reads l c ≡ true → take (length (text l stored)) (event .reply) ≡ text l stored
   shown-text l e r =

@@ -1,77 +1,101 @@
 -- The store on bytes does what the store on cards does: from cards by the rules, the image after each request is the bytes of the cards after it,
 -- and the events are the same. Assumes nothing.
 use Prim.Native.Nat.{ℕ, zero, suc, _<_}
-use mathlib.Core.Path.{_≡_, refl, ap, _∙_}
+use mathlib.Core.Path.{_≡_, refl, sym, ap, subst, _∙_}
+use mathlib.Core.Logic.{_⊎_, inl, inr}
 use mathlib.Core.List.{List, [], _∷_}
 use mathlib.Core.Bool.{Bool, true, false, cond}
 use borrow.Author.Tests.{ltb-true}
+use lib.Dec.{T, lit<}
 use lib.ListN.{length}
 use Rattle.lists.specs.Parts.{Bytes}
-use Rattle.lists.proofs.Bytes.{Bytes-nil, Bytes-drop}
-use Rattle.lists.proofs.Tests.{from-T}
-use Rattle.commands.specs.Command.{Language, original, translation, writes}
-use Rattle.commands.specs.Bytes.{fieldsOf, payload, fixed}
+use Rattle.lists.proofs.Tests.{cases, from-T}
+use Rattle.commands.specs.Command.{Language, original, translation, writes, language}
+use Rattle.commands.specs.Bytes.{fieldsOf, payload}
 use Rattle.lists.specs.Table.{settled}
 use Rattle.commands.specs.declared.Command.{Command}
+use Rattle.commands.proofs.Languages.{writes-named}
+use Rattle.guard.specs.Entry.{entrySound, FitsEntry}
+use Rattle.guard.specs.Judge.{raise}
+use Rattle.guard.specs.declared.Entry.{Entry}
 use Rattle.guard.proofs.Raise.{raise-sound, raise-fits}
-use Rattle.image.specs.Image.{Card, Cards, text, encode, decode, sound}
+use Rattle.image.specs.Layout.{translations}
+use Rattle.image.specs.Image.{Card, Cards, view, sideText, text, encode, decode, sound}
 use Rattle.image.specs.Image.{GoodCard, GoodCards}
 use Rattle.image.proofs.Cards.{good-with}
 use Rattle.image_claims.proofs.Claims.{goodEncodes}
 use Rattle.model.specs.Serve.{cardOf, stepped, cardsAfter, serveBy, serve}
 use Rattle.model.specs.Words.{Sent, eventOf, imageAfter, history}
 use Rattle.model.specs.Claims.{SentBytes, AllBytes}
-use Rattle.commands.proofs.CommandBytes.{length-payload, fits-fields}
-use Rattle.model.proofs.Machine.{numberOn, eventBy, cardsBy, cardsFrom, eventsFrom, Passed, passed, Sized, sized-step}
+use Rattle.commands.proofs.CommandBytes.{length-payload, fits-fields, Bytes-payload}
+use Rattle.model.proofs.Machine.{numberOn, eventBy, cardsBy, cardsFrom, eventsFrom, Passed, passed}
+use Rattle.model.proofs.Stepped.{count-step, text-step, seen-named, seen-other, mixed, mixed-fits, mixed-sound, edition-kept}
 
 -- ---- cards stay by the rules
 
-sized : {room : ℕ} {card : Card} → GoodCard room card → Sized card
-sized g original = g .original
-sized g (translation zero) = g .translation
-sized g (translation (suc t)) = refl
-
-bytes-step : (card : Card) (c : Command) (written : List ℕ) → Bytes written → ((l : Language) → Bytes (text l card))
-    → (l : Language) → Bytes (text l (stepped card c written))
-unfolding stepped
-bytes-step card c written w h original = pick (writes original c)
-  where
-    pick : (b : Bool) → Bytes (cond b written (card .original))
-    pick true = w
-    pick false = h original
-bytes-step card c written w h (translation zero) = pick (writes (translation 0) c)
-  where
-    pick : (b : Bool) → Bytes (cond b written (card .translation))
-    pick true = w
-    pick false = h (translation zero)
-bytes-step card c written w h (translation (suc t)) = Bytes-nil
-
 module _ (cs : Cards) (s : Sent) (good : GoodCards cs) (bytes : SentBytes s) where
+  abbrev c : Command
+  c = fieldsOf (s .command)
+
   abbrev place : ℕ
-  place = fieldsOf (s .command) .card
+  place = c .card
+
+  abbrev stored : Card
+  stored = cardOf cs c
 
   abbrev after : Card
-  after = stepped (cardOf cs (fieldsOf (s .command))) (fieldsOf (s .command)) (payload (s .command))
+  after = stepped stored c (payload (s .command))
+
+  -- The entry that judges, raised.
+  abbrev lifted : Entry
+  lifted = raise (view (language c) stored) c
 
   module _ (known : Passed cs s) where
-    there : place < length (cs .cards)
-    there = ltb-true place (length (cs .cards)) (known .exists)
+    was : GoodCard (cs .room) stored
+    was = good .each place (ltb-true place (length (cs .cards)) (known .exists))
+
+    within : language c < translations
+    within = lit< tt
+
+    has : language c < length (stored .translated)
+    has = subst (λ (n : ℕ). language c < n) (sym (was .count)) within
+
+    long : length (payload (s .command)) ≡ c .length
+    long = length-payload (s .command) (known .wellFormed)
+
+    -- What holds of the raised entry, and of it with any translation as it was, holds of the card in every translation.
+    seen : (P : Entry → Type 0) → P lifted → ((t : ℕ) → t < translations → P (mixed (view t stored) lifted)) → (t : ℕ) → t < translations → P (view t after)
+    seen P new old t h = go (cases (writes (translation t) c))
+      where
+        go : (writes (translation t) c ≡ true) ⊎ (writes (translation t) c ≡ false) → P (view t after)
+        go (inl e) =
+            subst (λ (j : ℕ). P (view j after)) (writes-named c t e)
+            (subst P (sym (seen-named stored c (payload (s .command)) has long)) new)
+        go (inr e) = subst P (sym (seen-other stored c (payload (s .command)) has long t e)) (old t h)
+
+    picked : (l : Language) (b : Bool) → Bytes (text l stored) → Bytes (cond b (payload (s .command)) (text l stored))
+    picked l true h = Bytes-payload (s .command) (bytes .command)
+    picked l false h = h
+
+    text-bytes : (l : Language) → Bytes (text l stored) → Bytes (text l after)
+    text-bytes l h = subst Bytes (sym (text-step stored c (payload (s .command)) has l)) (picked l (writes l c) h)
+
+    side-bytes : (side : ℕ) → Bytes (sideText side after)
+    side-bytes zero = text-bytes original (was .bytes 0)
+    side-bytes (suc t) = text-bytes (translation t) (was .bytes (suc t))
 
     -- The card after an accepted command is by the rules.
     good-after : GoodCard (cs .room) after
-    unfolding stepped payload
     good-after =
-        let stored = good .each place there in
-        let long = sized-step (cardOf cs (fieldsOf (s .command))) (fieldsOf (s .command)) (payload (s .command)) (length-payload (s .command) (known .wellFormed)) (sized stored) in
+        let fit = raise-fits (known .judged) (was .fits (language c) within) (fits-fields (s .command) (bytes .command)) in
+        let rule = raise-sound (known .judged) (was .rules (language c) within) in
         record {
-          fits = raise-fits (known .judged) (stored .fits) (fits-fields (s .command) (bytes .command));
-          rules = raise-sound (known .judged) (stored .rules);
-          original = long original;
-          translation = long (translation 0);
-          bytes =
-              bytes-step (cardOf cs (fieldsOf (s .command))) (fieldsOf (s .command)) (payload (s .command))
-              (Bytes-drop fixed (s .command) (bytes .command))
-              (stored .bytes);
+          count = count-step stored c (payload (s .command)) ∙ was .count;
+          fits = seen FitsEntry fit (λ t h. mixed-fits (was .fits t h) fit);
+          rules =
+              seen (λ (e : Entry). T (entrySound (cs .room) e)) rule
+              (λ t h. mixed-sound (cs .room) (view t stored) lifted (was .rules t h) rule (edition-kept (view (language c) stored) c));
+          bytes = side-bytes;
         }
 
   pub good-more : (number : ℕ) → numberOn cs s ≡ number → GoodCards (cardsBy number cs s)

@@ -11,7 +11,7 @@ use Rattle.guard.specs.declared.Answer.{Answer}
 use Rattle.stamps.specs.declared.Pair.{Pair}
 use Rattle.stamps.specs.declared.Mark.{Mark}
 use Rattle.commands.specs.declared.Command.{Command}
-use Rattle.image.specs.Image.{encode, fresh}
+use Rattle.image.specs.Image.{noTranslation, encode, fresh}
 use Rattle.model.specs.Serve.{serve}
 use Rattle.model.specs.Words.{Sent, Event, history}
 
@@ -118,11 +118,7 @@ nearlyLast =
     (record {
       room = 16;
       cards =
-          record {
-            entry = record { pair = noPair; mark = noMark; edition = 65534; from = 0; original = 0; translation = 0 };
-            original = [];
-            translation = [];
-          }
+          record { pair = noPair; mark = noMark; edition = 65534; original = []; translated = noTranslation ∷ [] }
           ∷ [];
     })
 

@@ -3,22 +3,27 @@
 use Prim.Native.Nat.{ℕ}
 use mathlib.Core.List.{List, [], _∷_}
 use mathlib.Core.Bool.{Bool, cond, not}
-use lib.ListN.{length, getD}
+use lib.ListN.{length, getD, set}
 use lib.Dec.{ltb}
 use Rattle.lists.specs.Parts.{splice}
-use Rattle.commands.specs.Command.{original, translation, reads, writes}
+use Rattle.commands.specs.Command.{original, translation, reads, writes, language}
 use Rattle.commands.specs.Bytes.{fieldsOf, payload, formed}
 use Rattle.lists.specs.Table.{Row, row, first, settled}
 use Rattle.stamps.specs.Stamp.{MALFORMED}
 use Rattle.guard.specs.Judge.{NO-CARD, UNSOUND, entryRows, raise}
 use Rattle.guard.specs.Replies.{replied}
 use Rattle.guard.specs.declared.Answer.{Answer}
+use Rattle.guard.specs.declared.Entry.{Entry}
 use Rattle.commands.specs.declared.Command.{Command}
-use Rattle.image.specs.Image.{Card, Cards, text, withCard, noCard, encode, decode, sound}
+use Rattle.image.specs.Image.{Card, Cards, view, text, withCard, noCard, encode, decode, sound}
 
 -- The card that a command names; an empty one where there is none.
 abbrev pub cardOf : Cards → Command → Card
 cardOf cs c = getD (cs .cards) (c .card) noCard
+
+-- The entry that judges a command: its card's, as seen in the translation that the command names.
+abbrev pub entryOf : Cards → Command → Entry
+entryOf cs c = view (language c) (cardOf cs c)
 
 -- Rows 1 to 8 of the table, on a store's cards, a command's lent bytes and the length of the lent reply buffer.
 abbrev pub requestRows : Cards → List ℕ → ℕ → List Row
@@ -26,7 +31,7 @@ requestRows cs command lent =
     row (not (formed command)) MALFORMED
     ∷ row (not (ltb (fieldsOf command .card) (length (cs .cards)))) NO-CARD
     -- 3 to 8
-    ∷ entryRows (cardOf cs (fieldsOf command) .entry) (fieldsOf command) (cs .room) lent
+    ∷ entryRows (entryOf cs (fieldsOf command)) (fieldsOf command) (cs .room) lent
 
 -- The whole table.
 abbrev pub storeRows : List ℕ → List ℕ → ℕ → List Row
@@ -36,15 +41,23 @@ storeRows image command lent =
 
 -- The text that a command reads.
 abbrev pub textRead : Card → Command → List ℕ
-textRead card c = cond (reads original c) (text original card) (cond (reads (translation 0) c) (text (translation 0) card) [])
+textRead card c =
+    cond (reads original c) (text original card)
+    (cond (reads (translation (language c)) c) (text (translation (language c)) card) [])
 
--- The card after an accepted command: the raised entry, and the payload in place of the text that it writes.
+-- The card after an accepted command: the pair, the mark and the edition of the raised entry, and the payload in place of the text that it writes;
+-- a translation keeps the edition that the command names (rule 4.5).
 unfoldable pub stepped : Card → Command → List ℕ → Card
 stepped card c written =
     record {
-      entry = raise (card .entry) c;
+      pair = raise (view (language c) card) c .pair;
+      mark = raise (view (language c) card) c .mark;
+      edition = raise (view (language c) card) c .edition;
       original = cond (writes original c) written (card .original);
-      translation = cond (writes (translation 0) c) written (card .translation);
+      translated =
+          cond (writes (translation (language c)) c)
+          (set (card .translated) (language c) (record { from = c .edition; text = written }))
+          (card .translated);
     }
 
 -- The cards after an accepted command: its card alone changes.
@@ -63,7 +76,7 @@ pub record Outcome : Type 0 where
 abbrev pub answerBy : ℕ → Cards → List ℕ → Answer
 answerBy number cs command =
     replied number
-    (settled number (raise (cardOf cs (fieldsOf command) .entry) (fieldsOf command)) (cardOf cs (fieldsOf command) .entry))
+    (settled number (raise (entryOf cs (fieldsOf command)) (fieldsOf command)) (entryOf cs (fieldsOf command)))
     (fieldsOf command)
 
 abbrev pub replyBy : ℕ → Cards → List ℕ → List ℕ → List ℕ

@@ -7,26 +7,26 @@ use mathlib.Core.Logic.{_⊎_, inl, inr}
 use mathlib.Core.List.{List, [], _∷_}
 use mathlib.Core.Bool.{Bool, true, false, cond, not, _||_}
 use borrow.Author.Tests.{ne-eqb, ltb-true, not-true}
-use lib.Dec.{T, eqb, ltb}
+use lib.Dec.{T, eqb, ltb, lit<}
 use lib.ListN.{length, take, drop, replicate, length-replicate}
 use Rattle.lists.specs.Parts.{Bytes}
 use Rattle.lists.proofs.Bytes.{Bytes-nil, Bytes-take, Bytes-drop, Bytes-replicate, Bytes-splice}
 use Rattle.lists.proofs.Parts.{length-splice}
 use Rattle.lists.proofs.Table.{given, first-all}
 use Rattle.lists.proofs.Tests.{to-T, from-T, cases, or-none, or-cases, and-right, not-in}
-use Rattle.commands.specs.Command.{Language, original, translation, reads}
+use Rattle.commands.specs.Command.{Language, original, translation, reads, language}
 use Rattle.commands.specs.Bytes.{fieldsOf, formed}
 use Rattle.commands.specs.declared.Command.{Command}
 use Rattle.guard.specs.Judge.{overruns}
 use Rattle.guard.specs.Replies.{replied}
 use Rattle.guard.specs.declared.Answer.{Answer}
 use Rattle.image.specs.Bytes.{roomOf}
-use Rattle.image.specs.Image.{Cards, encode, decode, sound, fresh}
+use Rattle.image.specs.Image.{Cards, text, encode, decode, sound, fresh}
 use Rattle.image.specs.Image.{GoodCard, GoodCards, freshCards}
 use Rattle.image.proofs.Bytes.{Lengths, lengths}
 use Rattle.image_claims.proofs.Claims.{soundReadsBack, goodEncodes, freshSound}
 use Rattle.image.proofs.Decode.{room-decode}
-use Rattle.model.specs.Serve.{serve, cardOf, requestRows, textRead, replyBy}
+use Rattle.model.specs.Serve.{serve, cardOf, entryOf, requestRows, textRead, replyBy}
 use Rattle.model.specs.Words.{Sent, Event, logOf}
 use Rattle.lists.specs.Search.{any, none}
 use Rattle.model.specs.Claims.{AllBytes}
@@ -64,15 +64,15 @@ module _ (cs : Cards) (command reply : List ℕ) (fit : Fit cs reply) where
     stored : GoodCard (cs .room) (cardOf cs asked)
     stored = fit .good .each (asked .card) (ltb-true (asked .card) (length (cs .cards)) there)
 
-    within : Lengths (cs .room) (cardOf cs asked .entry)
-    within = lengths (cs .room) (cardOf cs asked .entry) (from-T _ (stored .rules))
+    within : Lengths (cs .room) (entryOf cs asked)
+    within = lengths (cs .room) (entryOf cs asked) (from-T _ (stored .rules (language asked) (lit< tt)))
 
-    never-over : (l : Language) → overruns l (cardOf cs asked .entry) asked (length reply) ≡ true → ⊥
+    never-over : (l : Language) → overruns l (entryOf cs asked) asked (length reply) ≡ true → ⊥
     never-over original o =
-        let h = ltb-true (length reply) (cardOf cs asked .entry .original) (and-right (reads original asked) (ltb (length reply) (cardOf cs asked .entry .original)) o) in
+        let h = ltb-true (length reply) (entryOf cs asked .original) (and-right (reads original asked) (ltb (length reply) (entryOf cs asked .original)) o) in
         omega (arith, h, within .original, fit .long)
     never-over (translation zero) o =
-        let h = ltb-true (length reply) (cardOf cs asked .entry .translation) (and-right (reads (translation zero) asked) (ltb (length reply) (cardOf cs asked .entry .translation)) o) in
+        let h = ltb-true (length reply) (entryOf cs asked .translation) (and-right (reads (translation zero) asked) (ltb (length reply) (entryOf cs asked .translation)) o) in
         omega (arith, h, within .translation, fit .long)
     never-over (translation (suc t)) o =
         let h = ltb-true (length reply) 0 (and-right (reads (translation (suc t)) asked) (ltb (length reply) 0) o) in
@@ -86,25 +86,25 @@ module _ (cs : Cards) (command reply : List ℕ) (fit : Fit cs reply) where
   not-8 : number ≡ 8 → ⊥
   not-8 e = go (cases (ltb (asked .card) (length (cs .cards))))
     where
-      short : (overruns original (cardOf cs asked .entry) asked (length reply) || overruns (translation 0) (cardOf cs asked .entry) asked (length reply)) ≡ true
+      short : (overruns original (entryOf cs asked) asked (length reply) || overruns (translation 0) (entryOf cs asked) asked (length reply)) ≡ true
       short = from-T _ (given (requestRows cs command (length reply)) tt 7 .0 e .0)
 
       over : ltb (asked .card) (length (cs .cards)) ≡ true
-          → (overruns original (cardOf cs asked .entry) asked (length reply) ≡ true) ⊎ (overruns (translation 0) (cardOf cs asked .entry) asked (length reply) ≡ true) → ⊥
+          → (overruns original (entryOf cs asked) asked (length reply) ≡ true) ⊎ (overruns (translation 0) (entryOf cs asked) asked (length reply) ≡ true) → ⊥
       over there (inl o) = never-over there original o
       over there (inr o) = never-over there (translation 0) o
 
       go : (ltb (asked .card) (length (cs .cards)) ≡ true) ⊎ (ltb (asked .card) (length (cs .cards)) ≡ false) → ⊥
       go (inl there) =
           over there
-          (or-cases (overruns original (cardOf cs asked .entry) asked (length reply)) (overruns (translation 0) (cardOf cs asked .entry) asked (length reply)) short)
+          (or-cases (overruns original (entryOf cs asked) asked (length reply)) (overruns (translation 0) (entryOf cs asked) asked (length reply)) short)
       go (inr h) = away (formed command) refl h e
 
   -- What holds of both texts of the card and of no text holds of the text read.
-  of-text : (P : List ℕ → Type 0) → P (cardOf cs asked .original) → P (cardOf cs asked .translation) → P [] → P (textRead (cardOf cs asked) asked)
-  of-text P o t n = go (reads original asked) (reads (translation 0) asked)
+  of-text : (P : List ℕ → Type 0) → P (text original (cardOf cs asked)) → P (text (translation (language asked)) (cardOf cs asked)) → P [] → P (textRead (cardOf cs asked) asked)
+  of-text P o t n = go (reads original asked) (reads (translation (language asked)) asked)
     where
-      go : (a b : Bool) → P (cond a (cardOf cs asked .original) (cond b (cardOf cs asked .translation) []))
+      go : (a b : Bool) → P (cond a (text original (cardOf cs asked)) (cond b (text (translation (language asked)) (cardOf cs asked)) []))
       go true b = o
       go false true = t
       go false false = n
@@ -114,11 +114,11 @@ module _ (cs : Cards) (command reply : List ℕ) (fit : Fit cs reply) where
     fit-by zero e =
         let there = passed cs sent e .exists in
         let card = stored there in
-        let text-bytes = of-text Bytes (card .bytes original) (card .bytes (translation 0)) Bytes-nil in
+        let text-bytes = of-text Bytes (card .bytes 0) (card .bytes (suc (language asked))) Bytes-nil in
         let short : 0 + length (textRead (cardOf cs asked) asked) ≤ length reply =
         of-text (λ (t : List ℕ). 0 + length t ≤ length reply)
-        (omega (arith, card .original, within there .original, fit .long))
-        (omega (arith, card .translation, within there .translation, fit .long))
+        (omega (arith, within there .original, fit .long))
+        (omega (arith, within there .translation, fit .long))
         (omega arith) in
         record {
           good = good-more cs sent (fit .good) (record { command = bytes; lent = fit .bytes }) zero e;

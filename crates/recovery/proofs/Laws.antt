@@ -7,7 +7,7 @@ use mathlib.Core.List.{List, [], _∷_}
 use mathlib.Core.Bool.{Bool, true, false, not, _&&_, _||_}
 use borrow.Author.Tests.{eq-eqb, ne-eqb, le-ltb}
 use lib.ListN.{length, List·getD-eq-default}
-use lib.Dec.{leb, eqb}
+use lib.Dec.{leb, eqb, lit<}
 use Rattle.lists.specs.Parts.{Bytes, part, zeros, table}
 use Rattle.lists.specs.Le.{le, field}
 use Rattle.lists.proofs.Tests.{to-T, or-left, or-right}
@@ -19,9 +19,9 @@ use Rattle.commands.proofs.CommandBytes.{fields-command, payload-command, forme
 use Rattle.guard.specs.Replies.{refused}
 use Rattle.guard.specs.Entry.{noEntry}
 use Rattle.image.specs.Layout.{entryPlace}
-use Rattle.image.specs.Image.{Card, sound, noCard, cardAt, decode}
+use Rattle.image.specs.Image.{view, sound, noCard, decode}
 use Rattle.image.specs.Bytes.{countOf as cardsOf, entryAt}
-use Rattle.image.proofs.Decode.{count-decode, card-decode, places}
+use Rattle.image.proofs.Decode.{count-decode, card-decode, view-at, places}
 use Rattle.model.specs.Serve.{serve}
 use Rattle.model.proofs.Sound.{stays-sound}
 use Rattle.store.specs.Carried.{carried}
@@ -102,11 +102,10 @@ module _ (log : List ℕ) (j : ℕ) (g : goodLog log ≡ true) (h : j < recordCo
 -- ---- entries
 
 pub entry-none : (image : List ℕ) (k : ℕ) → cardsOf image ≤ k → noEntry ≡ entryFor image k
-entry-none image k h = sym (ap (λ (c : Card). c .entry) (List·getD-eq-default (decode image .cards) noCard {n = k} (rw count-decode h)))
+entry-none image k h = sym (ap (view 0) (List·getD-eq-default (decode image .cards) noCard {n = k} (rw count-decode h)))
 
-pub entry-some : (image : List ℕ) (k : ℕ) → k < cardsOf image → entryAt image k ≡ entryFor image k
-unfolding cardAt
-entry-some image k h = sym (ap (λ (c : Card). c .entry) (card-decode image k h))
+pub entry-some : (image : List ℕ) (k : ℕ) → sound image ≡ true → k < cardsOf image → entryAt image k ≡ entryFor image k
+entry-some image k e h = sym (ap (view 0) (card-decode image k h) ∙ view-at image (to-T e) k h 0 (lit< tt))
 
 pub entry-inside : (image : List ℕ) (k : ℕ) → sound image ≡ true → k < cardsOf image → entryPlace k + 32 ≤ length image
 entry-inside image k e h = places image k (to-T e) h .entry

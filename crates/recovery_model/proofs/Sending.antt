@@ -12,12 +12,13 @@ use Rattle.lists.specs.Parts.{Bytes}
 use Rattle.lists.proofs.Bytes.{Bytes-nil, Bytes-drop, Bytes-part}
 use Rattle.lists.proofs.Le.{le-part-bound}
 use Rattle.lists.proofs.Tests.{cases}
-use Rattle.guard.specs.Entry.{noEntry, FitsEntry}
+use Rattle.guard.specs.Entry.{FitsEntry}
 use Rattle.commands.specs.Command.{FitsCommand}
 use Rattle.commands.proofs.CommandBytes.{Bytes-command}
-use Rattle.image.specs.Image.{fresh, Cards, noCard, encode, decode}
-use Rattle.image.specs.Image.{GoodCards, freshCards}
-use Rattle.image_claims.proofs.Claims.{goodEncodes, freshSound}
+use Rattle.image.specs.Layout.{translations}
+use Rattle.image.specs.Image.{fresh, Card, Cards, view, noCard, encode, decode}
+use Rattle.image.specs.Image.{GoodCard, GoodCards, freshCards}
+use Rattle.image_claims.proofs.Claims.{goodEncodes, freshSound, fits-none}
 use Rattle.model.specs.Serve.{serve}
 use Rattle.model.specs.Words.{Sent, imageAfter}
 use Rattle.model.specs.Claims.{SentBytes, AllBytes}
@@ -33,23 +34,28 @@ use Rattle.recovery_model.proofs.Steps.{R, S, Idle, Sends, next, stands
 
 -- ---- a write fits its fields
 
-fits-none : FitsEntry noEntry
-fits-none =
-    record {
-      pair = record { s = lit< tt; x = lit< tt };
-      mark = record { desk = lit< tt; transaction = lit< tt };
-      edition = lit< tt;
-      from = lit< tt;
-      original = lit< tt;
-      translation = lit< tt;
-    }
+-- Where there is no such card, an empty one stands for it: it has as many translations, and an entry that fits.
+module _ (cs : Cards) (g : GoodCards cs) (k : ℕ) where
+  abbrev found : Card
+  found = getD (cs .cards) k noCard
 
-pub entry-fits : (cs : Cards) → GoodCards cs → (k : ℕ) → FitsEntry (getD (cs .cards) k noCard .entry)
-entry-fits cs g k = go (cases (ltb k (length (cs .cards))))
-  where
-    go : (ltb k (length (cs .cards)) ≡ true) ⊎ (ltb k (length (cs .cards)) ≡ false) → FitsEntry (getD (cs .cards) k noCard .entry)
-    go (inl e) = g .each k (ltb-true k (length (cs .cards)) e) .fits
-    go (inr e) = rw (List·getD-eq-default (cs .cards) noCard {n = k} (ltb-false k (length (cs .cards)) e)) fits-none
+  there : (ltb k (length (cs .cards)) ≡ true) ⊎ (ltb k (length (cs .cards)) ≡ false) → GoodCard (cs .room) found ⊎ (found ≡ noCard)
+  there (inl e) = inl (g .each k (ltb-true k (length (cs .cards)) e))
+  there (inr e) = inr (List·getD-eq-default (cs .cards) noCard {n = k} (ltb-false k (length (cs .cards)) e))
+
+  pub entry-fits : FitsEntry (view 0 found)
+  entry-fits = go (there (cases (ltb k (length (cs .cards)))))
+    where
+      go : GoodCard (cs .room) found ⊎ (found ≡ noCard) → FitsEntry (view 0 found)
+      go (inl good) = good .fits 0 (lit< tt)
+      go (inr none) = subst (λ (card : Card). FitsEntry (view 0 card)) (sym none) fits-none
+
+  pub counted : length (found .translated) ≡ translations
+  counted = go (there (cases (ltb k (length (cs .cards)))))
+    where
+      go : GoodCard (cs .room) found ⊎ (found ≡ noCard) → length (found .translated) ≡ translations
+      go (inl good) = good .count
+      go (inr none) = subst (λ (card : Card). length (card .translated) ≡ translations) (sym none) refl
 
 pub fits-write : (pairs : Pairs) (image : List ℕ) (r : LogRecord) → FitsPairs pairs → FitsEntry (entryFor image (recordCard r)) → Bytes (r .body) → length (r .body) < 65536
     → FitsCommand (writeOf pairs image r)
@@ -106,7 +112,7 @@ module _ (pairs : Pairs) (rs : List LogRecord) (cs : Cards) (gc : GoodCards cs) 
     pub fits-here : i < length rs → FitsCommand (writeOf pairs (R pairs rs (encode cs) i .image) (recordIn rs i))
     fits-here h =
         fits-write pairs (R pairs rs (encode cs) i .image) (recordIn rs i) fp
-        (subst (λ (d : Cards). FitsEntry (getD (d .cards) (recordCard (recordIn rs i)) noCard .entry)) (sym decode-is) (entry-fits (C i) cards-good (recordCard (recordIn rs i))))
+        (subst (λ (d : Cards). FitsEntry (view 0 (getD (d .cards) (recordCard (recordIn rs i)) noCard))) (sym decode-is) (entry-fits (C i) cards-good (recordCard (recordIn rs i))))
         (fit i h .0)
         (fit i h .1)
 

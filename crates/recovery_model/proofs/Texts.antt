@@ -8,16 +8,17 @@ use mathlib.Core.Bool.{Bool, true, false, cond, not, _&&_}
 use borrow.Author.Tests.{eqb-true, eqb-false, ltb-true}
 use lib.ListN.{length, getD, set}
 use lib.Seq.{getD-set-same, getD-set-other}
-use lib.Dec.{eqb}
+use lib.Dec.{eqb, lit<}
 use Rattle.lists.specs.Parts.{Bytes}
 use Rattle.lists.proofs.Tests.{to-T}
-use Rattle.commands.specs.Command.{Language, original, translation}
+use Rattle.commands.specs.Command.{Language, original, translation, writes}
 use Rattle.commands.specs.declared.Command.{Command}
 use Rattle.commands.specs.Bytes.{fieldsOf, payload}
 use Rattle.commands.proofs.CommandBytes.{fields-command, payload-command}
 use Rattle.guard.specs.Replies.{replied}
 use Rattle.stamps.specs.declared.Pair.{Pair}
 use Rattle.guard.specs.declared.Entry.{Entry}
+use Rattle.image.specs.Layout.{translations}
 use Rattle.image.specs.Image.{Card, Cards, text, noCard, encode, decode, sound}
 use Rattle.image.specs.Image.{GoodCards}
 use Rattle.image_claims.proofs.Claims.{soundReadsBack}
@@ -26,6 +27,7 @@ use Rattle.model.specs.Words.{Sent, Event}
 use Rattle.model.specs.Claims.{AllBytes}
 use Rattle.model.proofs.Machine.{numberOn, cardsBy, cardsFrom, passed}
 use Rattle.model.proofs.Simulation.{same-event}
+use Rattle.model.proofs.Stepped.{text-step}
 use Rattle.redo_log.specs.Log.{LogRecord, recordCard, recordSide, recordText, goodLog, records}
 use Rattle.redo_log.specs.Append.{appended}
 use Rattle.redo_log_claims.specs.Claims.{cutAfter}
@@ -33,7 +35,7 @@ use Rattle.redo_log_claims.proofs.Claims.{appends, histories, good-before}
 use Rattle.recovery_model.specs.Recovery.{Pairs, FitsPairs, Recovery, recordIn, recoveryPair, entryFor, writeOf, writeBy, recoverySent, recoveryStep, recovering, recovered}
 use Rattle.recovery_model.specs.Claims.{textIn, sideIs, rewrites, rewritten, textOf, CutAnywhere, CutRecovers, Twice}
 use Rattle.recovery_model.proofs.Steps.{R, S, Idle, Sends, next}
-use Rattle.recovery_model.proofs.Sending.{FitsRecords, fits-log, C, cards-good, image-is, decode-is, fits-here, all-bytes}
+use Rattle.recovery_model.proofs.Sending.{FitsRecords, counted, fits-log, C, cards-good, image-is, decode-is, fits-here, all-bytes}
 
 -- ---- one text of one card, by the records
 
@@ -61,19 +63,22 @@ again-same rs l k i a = go (settles rs l k i)
 -- ---- one write
 
 -- The text of a card that an accepted write leaves.
-step-text : (card : Card) (pair : Pair) (e : Entry) (r : LogRecord) (l : Language) → text l (stepped card (writeBy pair e r) (recordText r)) ≡ cond (sideIs l (recordSide r)) (recordText r) (text l card)
-unfolding stepped
-step-text card pair e r original = go (eqb (recordSide r) 1)
+step-text : (card : Card) (pair : Pair) (e : Entry) (r : LogRecord) (l : Language) → length (card .translated) ≡ translations
+    → text l (stepped card (writeBy pair e r) (recordText r)) ≡ cond (sideIs l (recordSide r)) (recordText r) (text l card)
+step-text card pair e r l many = text-step card (writeBy pair e r) (recordText r) (rw many (lit< tt)) l ∙ ap (λ (t : Bool). cond t (recordText r) (text l card)) (side l)
   where
-    go : (t : Bool) → cond (eqb (cond t 3 4) 3) (recordText r) (card .original) ≡ cond t (recordText r) (card .original)
-    go true = refl
-    go false = refl
-step-text card pair e r (translation zero) = go (eqb (recordSide r) 1)
-  where
-    go : (t : Bool) → cond (eqb (cond t 3 4) 4) (recordText r) (card .translation) ≡ cond (not t) (recordText r) (card .translation)
-    go true = refl
-    go false = refl
-step-text card pair e r (translation (suc t)) = refl
+    by-side : (t : Bool) → eqb (cond t 3 4) 3 ≡ t
+    by-side true = refl
+    by-side false = refl
+
+    by-other : (t : Bool) → eqb (cond t 3 4) 4 ≡ not t
+    by-other true = refl
+    by-other false = refl
+
+    side : (l : Language) → writes l (writeBy pair e r) ≡ sideIs l (recordSide r)
+    side original = by-side (eqb (recordSide r) 1)
+    side (translation zero) = by-other (eqb (recordSide r) 1)
+    side (translation (suc t)) = refl
 
 -- The cards after an accepted write.
 module _ (cs : Cards) (s : Sent) (c : Command) (written : List ℕ) (fields : fieldsOf (s .command) ≡ c) (pay : payload (s .command) ≡ written) (z : numberOn cs s ≡ 0) where
@@ -159,7 +164,7 @@ module _ (pairs : Pairs) (rs : List LogRecord) (cs : Cards) (gc : GoodCards cs) 
         go (inr s) =
             ap (λ (m : Cards). text l (getD (m .cards) k noCard)) (cards-next s)
             ∙ text-after (at i) (S pairs rs (encode cs) i) (writeOf pairs (R pairs rs (encode cs) i .image) r) (recordText r) fields-here payload-here (number-here s) l k
-            ∙ ap (λ (m : List ℕ). cond (eqb (recordCard r) k) m old) (step-text (getD (at i .cards) k noCard) (recoveryPair pairs (recordCard r)) (entryFor (R pairs rs (encode cs) i .image) (recordCard r)) r l)
+            ∙ ap (λ (m : List ℕ). cond (eqb (recordCard r) k) m old) (step-text (getD (at i .cards) k noCard) (recoveryPair pairs (recordCard r)) (entryFor (R pairs rs (encode cs) i .image) (recordCard r)) r l (counted (at i) (cards-good pairs rs cs gc fp fit i bytes-so-far) k))
             ∙ mixed (eqb (recordCard r) k) (sideIs l (recordSide r))
             ∙ sym (ap (λ (d : Bool). cond (d && (eqb (recordCard r) k && sideIs l (recordSide r))) (recordText r) old) (s .is-due))
 

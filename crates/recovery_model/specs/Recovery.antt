@@ -11,7 +11,7 @@ use Rattle.stamps.specs.declared.Pair.{Pair}
 use Rattle.commands.specs.declared.Command.{Command}
 use Rattle.commands.specs.Bytes.{commandBytes}
 use Rattle.guard.specs.declared.Entry.{Entry}
-use Rattle.image.specs.Image.{noCard, decode}
+use Rattle.image.specs.Image.{view, noCard, decode}
 use Rattle.redo_log.specs.Log.{LogRecord, noRecord, updateKind, commitKind, syncedKind, recordCard, recordSide, recordText, recordTransaction, lastBegun, goodLog, records}
 use Rattle.model.specs.Serve.{serve}
 use Rattle.lists.specs.Search.{any}
@@ -51,9 +51,9 @@ pub record Pairs : Type 0 where
 abbrev pub recoveryPair : Pairs → ℕ → Pair
 recoveryPair pairs k = record { s = getD (pairs .s) k 0; x = getD (pairs .x) k 0 }
 
--- The entry of a card as stored; zeros for a card that is not there.
+-- The entry of a card as stored, as seen in translation 0; zeros for a card that is not there.
 abbrev pub entryFor : List ℕ → ℕ → Entry
-entryFor image k = getD (decode image .cards) k noCard .entry
+entryFor image k = view 0 (getD (decode image .cards) k noCard)
 
 -- An exclusive write under the pair: it expects the stored mark and leaves it, and a translation names the stored edition.
 abbrev pub writeBy : Pair → Entry → LogRecord → Command

@@ -1,17 +1,17 @@
 -- What one request comes to, by the tests in the order of the table: the laws that the code of a step cites. Assumes nothing.
 use Prim.Native.Nat.{ℕ, _-_, _<_, _≤_}
 use native.Mathlib.Omega.{arith}
-use mathlib.Core.Path.{_≡_, refl, ap, _∙_}
+use mathlib.Core.Path.{_≡_, refl, sym, ap, _∙_}
 use mathlib.Core.List.{List}
 use mathlib.Core.Logic.{_⊎_, inl, inr}
 use mathlib.Core.Bool.{Bool, true, false}
 use borrow.Author.Tests.{lt-ltb, ltb-true, ltb-false}
 use lib.ListN.{length, take, drop, length-drop}
 use lib.Seq.{take-all}
-use lib.Dec.{ltb}
+use lib.Dec.{ltb, lit<}
 use Rattle.lists.specs.Parts.{splice}
-use Rattle.lists.proofs.Tests.{cases, never-both}
-use Rattle.commands.specs.Command.{Language, original, translation, reads}
+use Rattle.lists.proofs.Tests.{cases, to-T, never-both}
+use Rattle.commands.specs.Command.{Language, original, translation, reads, language}
 use Rattle.commands.specs.Bytes.{fieldsOf, payload, formed, fixed}
 use Rattle.lists.specs.Table.{first}
 use Rattle.guard.specs.Judge.{judgeRows, overruns, raise, judged}
@@ -23,11 +23,11 @@ use Rattle.guard.specs.declared.Judged.{Judged}
 use Rattle.commands.proofs.CommandBytes.{formed-short}
 use Rattle.guard.proofs.Judge.{Accepted, accepted, accepted-raises}
 use Rattle.lists.proofs.Table.{settled-old}
-use Rattle.image.specs.Image.{Card, withCard, cardAt, encode, decode, sound}
+use Rattle.image.specs.Image.{Card, view, withCard, cardAt, encode, decode, sound}
 use Rattle.image.specs.Bytes.{entryAt, countOf, roomOf}
-use Rattle.image.proofs.Decode.{count-decode, card-decode}
+use Rattle.image.proofs.Decode.{count-decode, card-decode, view-at}
 use Rattle.store.specs.Carried.{judgedAt, carried}
-use Rattle.model.specs.Serve.{Outcome, cardOf, textRead, stepped, storeRows, serveBy, serve}
+use Rattle.model.specs.Serve.{Outcome, cardOf, entryOf, textRead, stepped, storeRows, serveBy, serve}
 use Rattle.model.proofs.Formed.{formed-well}
 
 -- What a refusal with this answer leaves: image and reply buffer as they were.
@@ -86,7 +86,7 @@ module _ (image command : List ℕ) (lent : ℕ) where
       sound image ≡ true → formed command ≡ true
       → ltb (fieldsOf command .card) (countOf image) ≡ true
       → first (storeRows image command lent)
-      ≡ first (judgeRows (cardOf (decode image) (fieldsOf command) .entry) (fieldsOf command) (decode image .room) lent)
+      ≡ first (judgeRows (entryOf (decode image) (fieldsOf command)) (fieldsOf command) (decode image .room) lent)
   first-judged e f g = rw (e, f, count-decode image, g, formed-well command f)
 
 -- ---- what a request leaves, by the tests
@@ -119,8 +119,8 @@ module _ (image command reply : List ℕ) where
   by-judged :
       (card : Card) → cardOf (decode image) (fieldsOf command) ≡ card
       → cardAt image (fieldsOf command .card) ≡ card
-      → entryAt image (fieldsOf command .card) ≡ card .entry
-      → serveBy (first (judgeRows (card .entry) (fieldsOf command) (roomOf image) (length reply))) image command reply
+      → entryAt image (fieldsOf command .card) ≡ view (language (fieldsOf command)) card
+      → serveBy (first (judgeRows (view (language (fieldsOf command)) card) (fieldsOf command) (roomOf image) (length reply))) image command reply
       ≡ carried image (fieldsOf command) (payload command) reply
   unfolding serveBy judged carried
   by-judged card h g f = rw (h, g, f)
@@ -128,15 +128,17 @@ module _ (image command reply : List ℕ) where
   pub serve-carried :
       sound image ≡ true → formed command ≡ true → fieldsOf command .card < countOf image
       → serve image command reply ≡ carried image (fieldsOf command) (payload command) reply
-  unfolding decode cardAt
+  unfolding decode
   serve-carried e f g =
+      let c = fieldsOf command in
+      let card = cardAt image (c .card) in
       serve-by
-      (first (judgeRows (cardAt image (fieldsOf command .card) .entry) (fieldsOf command) (roomOf image) (length reply)))
-      (first-judged image command (length reply) e f (lt-ltb (fieldsOf command .card) (countOf image) g)
+      (first (judgeRows (view (language c) card) c (roomOf image) (length reply)))
+      (first-judged image command (length reply) e f (lt-ltb (c .card) (countOf image) g)
       ∙ ap
-      (λ (card : Card). first (judgeRows (card .entry) (fieldsOf command) (roomOf image) (length reply)))
-      (card-decode image (fieldsOf command .card) g))
-      ∙ by-judged (cardAt image (fieldsOf command .card)) (card-decode image (fieldsOf command .card) g) refl refl
+      (λ (d : Card). first (judgeRows (view (language c) d) c (roomOf image) (length reply)))
+      (card-decode image (c .card) g))
+      ∙ by-judged card (card-decode image (c .card) g) refl (sym (view-at image (to-T e) (c .card) g (language c) (lit< tt)))
 
   -- The same for a command and a payload that were found in the lent bytes.
   pub serve-found : {c : Command} {text : List ℕ} →
@@ -174,8 +176,8 @@ module _ (image : List ℕ) (c : Command) (text reply : List ℕ) {j : Judged} (
     known = accepted (entryAt image (c .card)) c (roomOf image) (length reply) zero-number
 
     -- Its payload fits the room, its text the lent buffer, and its entry is the raised one.
-    pub payload-fits : length text ≡ c .length → length text ≤ roomOf image
-    payload-fits e = rw e (known .length)
+    pub payload-fits : c .length ≤ roomOf image
+    payload-fits = known .length
 
     pub lent-fits : {e : Entry} → e ≡ entryAt image (c .card) → readLength e c ≤ length reply
     lent-fits e = rw e (read-fits (entryAt image (c .card)) c (length reply) (known .lends))

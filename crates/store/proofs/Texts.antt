@@ -15,10 +15,10 @@ use Rattle.guard.specs.Replies.{readLength}
 use Rattle.commands.specs.declared.Command.{Command}
 use Rattle.guard.specs.declared.Entry.{Entry}
 use Rattle.image.specs.Image.{Card, text, sideOf, sound, cardAt}
-use Rattle.image.specs.Layout.{headerSize, bodyPlace}
+use Rattle.image.specs.Layout.{headerSize, sides, bodyPlace}
 use Rattle.image.specs.Bytes.{countOf, roomOf, entryAt, pad}
 use Rattle.image.proofs.Bytes.{Lengths}
-use Rattle.image.proofs.Decode.{Places, places, long}
+use Rattle.image.proofs.Decode.{places, long}
 use Rattle.store.specs.Carried.{bodyWritten, textWritten}
 use Rattle.model.specs.Serve.{textRead}
 
@@ -47,21 +47,15 @@ length-most original room e h = h .original
 length-most (translation zero) room e h = h .translation
 length-most (translation (suc t)) room e h = omega arith
 
-body-in : (l : Language) {image : List ℕ} {k : ℕ} → sideOf l < 2 → Places image k →
-    bodyPlace (countOf image) (roomOf image) k (sideOf l) + roomOf image ≤ length image
-body-in original g p = p .originals
-body-in (translation zero) g p = p .translations
-body-in (translation (suc t)) g p = absurd (omega arith)
-
 -- A sound image has a whole header.
 pub header-in : (image : List ℕ) → sound image ≡ true → headerSize ≤ length image
 header-in image s = omega (arith, long image (to-T s))
 
-module _ (image : List ℕ) (s : sound image ≡ true) (c : Command) (h : c .card < countOf image) (l : Language) (g : sideOf l < 2) {at : ℕ}
+module _ (image : List ℕ) (s : sound image ≡ true) (c : Command) (h : c .card < countOf image) (l : Language) (g : sideOf l < sides) {at : ℕ}
     (place : at ≡ bodyPlace (countOf image) (roomOf image) (c .card) (sideOf l)) where
   -- So many bytes of a language's body lie within the image.
   pub body-within : {count : ℕ} → count ≤ roomOf image → at + count ≤ length image
-  body-within most = omega (arith, body-in l g (places image (c .card) (to-T s) h))
+  body-within most = omega (arith, places image (c .card) (to-T s) h .bodies (sideOf l) g)
 
   module _ {e : Entry} (p : e ≡ entryAt image (c .card)) (r : reads l c ≡ true) where
     -- The text that a command reads lies within the image, and fits into a reply buffer as long as it.

@@ -1,10 +1,10 @@
 -- The bytes of a sound image while an accepted command is carried out.
 -- Assumes nothing.
-use Prim.Native.Nat.{ℕ}
+use Prim.Native.Nat.{ℕ, suc}
 use mathlib.Core.List.{List}
 use mathlib.Core.Bool.{cond}
 use Rattle.lists.specs.Parts.{splice}
-use Rattle.commands.specs.Command.{original, translation, writes}
+use Rattle.commands.specs.Command.{original, translation, writes, language}
 use Rattle.commands.specs.declared.Command.{Command}
 use Rattle.image.specs.Layout.{bodyPlace}
 use Rattle.image.specs.Bytes.{countOf, roomOf, pad, entryAt}
@@ -16,7 +16,7 @@ use Rattle.guard.specs.declared.Judged.{Judged}
 use Rattle.image.specs.Image.{cardAt, withCard, encode, decode}
 use Rattle.model.specs.Serve.{Outcome, textRead, stepped}
 
--- An image with a text in a body of card k, and zeros behind it (rule 4.5): side 0 is the original, side 1 the translation.
+-- An image with a text in a body of card k, and zeros behind it (rule 4.5).
 abbrev pub bodyWritten : List ℕ → ℕ → ℕ → List ℕ → List ℕ
 bodyWritten image k side text = splice (bodyPlace (countOf image) (roomOf image) k side) (pad (roomOf image) text) image
 
@@ -26,7 +26,7 @@ textWritten image c text =
     cond
     (writes original c)
     (bodyWritten image (c .card) 0 text)
-    (cond (writes (translation 0) c) (bodyWritten image (c .card) 1 text) image)
+    (cond (writes (translation (language c)) c) (bodyWritten image (c .card) (suc (language c)) text) image)
 
 -- ---- One well-formed command for a card that exists, on a sound image, in the terms of the step's own functions: the judging entry, and what is
 -- left. A request as a whole is `serve`.

@@ -70,7 +70,7 @@ pub fn write(image: &mut [u8], c: Command, text: &[u8])
 
 // Carries out an accepted command on the image: its payload in place of the text that it writes, and the raised entry.
 pub fn keep(image: &mut [u8], c: Command, e: Entry, text: &[u8])
-    requires { ⌜ (sound (now image) ≡ true) × (c .card < countOf (now image)) × (length (now text) ≤ roomOf (now image)) × (e ≡ raise (entryAt (now image) (c .card)) c) ⌝ }
+    requires { ⌜ (sound (now image) ≡ true) × (c .card < countOf (now image)) × (length (now text) ≡ c .length) × (c .length ≤ roomOf (now image)) × (e ≡ raise (entryAt (now image) (c .card)) c) ⌝ }
     ensures { λ _. ⌜ now (image .exit)
         ≡ encode (withCard (c .card) (stepped (cardAt (now (image .entry)) (c .card)) c (now (text .entry))) (decode (now (image .entry)))) ⌝ }
 {

@@ -19,7 +19,7 @@ entry-at-requires : tie.Need-entry-at-requires
 entry-at-requires c κs = entry-inside (c .before .before .before .args .image .now) (c .before .before .before .args .k) (c .before .before .before .pre) (omega (arith, c .before .count .ensures))
 
 returns-2 : tie.Need-returns-2
-returns-2 c = c .entry-at .ensures ∙ entry-some (c .before .before .before .before .args .image .now) (c .before .before .before .before .args .k) (omega (arith, c .before .before .count .ensures))
+returns-2 c = c .entry-at .ensures ∙ entry-some (c .before .before .before .before .args .image .now) (c .before .before .before .before .args .k) (c .before .before .before .before .pre) (omega (arith, c .before .before .count .ensures))
 
 pub entry-for-spec : {M : Type 1} → statement M
 entry-for-spec = tie.close (tie.spec count-requires returns entry-at-requires returns-2)

@@ -57,7 +57,8 @@ keep-requires c κs =
     let zero = c .before .before .before .before .before .before .if1 .left in (
       start .pre .0,
       start .pre .1,
-      payload-fits (start .args .image .now) (start .args .c) (start .args .text .now) (start .args .reply .now) judged zero (start .pre .2),
+      start .pre .2,
+      payload-fits (start .args .image .now) (start .args .c) (start .args .text .now) (start .args .reply .now) judged zero,
       raises (start .args .image .now) (start .args .c) (start .args .text .now) (start .args .reply .now) judged zero,
     )
 

@@ -1,0 +1,137 @@
+-- A card after an accepted command: its texts, its translations, and its entry as seen in each of them. Assumes nothing.
+use Prim.Native.Nat.{ℕ, zero, suc, _+_, _≤_, _<_}
+use native.Mathlib.Omega.{arith}
+use mathlib.Core.Path.{_≡_, refl, sym, ap, subst, _∙_}
+use mathlib.Core.Logic.{_⊎_, inl, inr}
+use mathlib.Core.List.{List}
+use mathlib.Core.Bool.{Bool, true, false, cond}
+use borrow.Author.Tests.{eqb-true, eqb-false, le-leb, leb-true}
+use lib.Dec.{T, eqb, leb}
+use lib.ListN.{length, getD, set, length-set}
+use lib.Seq.{getD-set-same, getD-set-other}
+use Rattle.lists.specs.Table.{all, allFrom}
+use Rattle.lists.proofs.Tests.{cases, from-T, to-T, all-out}
+use Rattle.commands.specs.Command.{Language, original, translation, writes, language}
+use Rattle.commands.specs.declared.Command.{Command}
+use Rattle.commands.proofs.Languages.{writes-other}
+use Rattle.guard.specs.Entry.{entryChecks, entrySound, FitsEntry}
+use Rattle.guard.specs.Judge.{raise}
+use Rattle.guard.specs.declared.Entry.{Entry}
+use Rattle.image.specs.Image.{Card, Translation, noTranslation, translationOf, view, text}
+use Rattle.model.specs.Serve.{stepped}
+
+-- What is made of the one that a test picks.
+made-of : {A B : Type 0} (g : A → B) (b : Bool) (u v : A) → g (cond b u v) ≡ cond b (g u) (g v)
+made-of g true u v = refl
+made-of g false u v = refl
+
+module _ (card : Card) (c : Command) (written : List ℕ) where
+  abbrev now : Card
+  now = stepped card c written
+
+  -- The translation that a write of a translation leaves.
+  abbrev new : Translation
+  new = record { from = c .edition; text = written }
+
+  pub count-step : length (now .translated) ≡ length (card .translated)
+  unfolding stepped
+  count-step = go (writes (translation (language c)) c)
+    where
+      go : (b : Bool) → length (cond b (set (card .translated) (language c) new) (card .translated)) ≡ length (card .translated)
+      go true = length-set (card .translated) (language c) new
+      go false = refl
+
+  -- From here on the card has the translation that the command names.
+  module _ (known : language c < length (card .translated)) where
+    -- Translation t: the new one where the command writes it, else as it was.
+    pub translation-step : (t : ℕ) → translationOf t now ≡ cond (writes (translation t) c) new (translationOf t card)
+    unfolding stepped
+    translation-step t = go (cases (writes (translation (language c)) c)) (cases (eqb (language c) t))
+      where
+        go : (writes (translation (language c)) c ≡ true) ⊎ (writes (translation (language c)) c ≡ false) → (eqb (language c) t ≡ true) ⊎ (eqb (language c) t ≡ false)
+            → getD (cond (writes (translation (language c)) c) (set (card .translated) (language c) new) (card .translated)) t noTranslation
+            ≡ cond (writes (translation t) c) new (translationOf t card)
+        go (inl p) (inl q) =
+            subst
+            (λ (j : ℕ). getD (cond (writes (translation (language c)) c) (set (card .translated) (language c) new) (card .translated)) j noTranslation
+            ≡ cond (writes (translation j) c) new (translationOf j card))
+            (eqb-true (language c) t q)
+            (rw p (getD-set-same (card .translated) (language c) new noTranslation known))
+        go (inl p) (inr q) =
+            let apart = eqb-false (language c) t q in
+            rw (p, writes-other c t apart) (getD-set-other (card .translated) (language c) t new noTranslation (λ z. apart (sym z)))
+        go (inr p) (inl q) =
+            subst
+            (λ (j : ℕ). getD (cond (writes (translation (language c)) c) (set (card .translated) (language c) new) (card .translated)) j noTranslation
+            ≡ cond (writes (translation j) c) new (translationOf j card))
+            (eqb-true (language c) t q)
+            (rw p)
+        go (inr p) (inr q) = rw (p, writes-other c t (eqb-false (language c) t q))
+
+    pub text-step : (l : Language) → text l now ≡ cond (writes l c) written (text l card)
+    unfolding stepped
+    text-step original = refl
+    text-step (translation t) =
+        ap (λ (u : Translation). u .text) (translation-step t)
+        ∙ made-of (λ (u : Translation). u .text) (writes (translation t) c) new (translationOf t card)
+
+    pub from-step : (t : ℕ) → translationOf t now .from ≡ cond (writes (translation t) c) (c .edition) (translationOf t card .from)
+    from-step t =
+        ap (λ (u : Translation). u .from) (translation-step t)
+        ∙ made-of (λ (u : Translation). u .from) (writes (translation t) c) new (translationOf t card)
+
+    -- From here on the payload is as long as the command says.
+    module _ (long : length written ≡ c .length) where
+      abbrev lifted : Entry
+      lifted = raise (view (language c) card) c
+
+      length-step : (l : Language) → length (text l now) ≡ cond (writes l c) (c .length) (length (text l card))
+      length-step l = ap length (text-step l) ∙ made-of length (writes l c) written (text l card) ∙ rw long
+
+      -- As seen in the translation that the command names, the entry is the raised one.
+      pub seen-named : view (language c) now ≡ lifted
+      unfolding stepped raise
+      seen-named =
+          let from : translationOf (language c) now .from ≡ lifted .from = from-step (language c) in
+          let originals : length (now .original) ≡ lifted .original = length-step original in
+          let size : length (translationOf (language c) now .text) ≡ lifted .translation = length-step (translation (language c)) in
+          λ i. record { pair = lifted .pair; mark = lifted .mark; edition = lifted .edition; from = from i; original = originals i; translation = size i }
+
+-- An entry with the translated-from and the length of the translation of another.
+abbrev pub mixed : Entry → Entry → Entry
+mixed old new =
+    record { pair = new .pair; mark = new .mark; edition = new .edition; from = old .from; original = new .original; translation = old .translation }
+
+-- As seen in a translation that the command does not write, the entry is the raised one with that translation as it was.
+pub seen-other : (card : Card) (c : Command) (written : List ℕ) → language c < length (card .translated) → length written ≡ c .length
+    → (t : ℕ) → writes (translation t) c ≡ false → view t (stepped card c written) ≡ mixed (view t card) (raise (view (language c) card) c)
+unfolding stepped raise
+seen-other card c written known long t other =
+    let from : translationOf t (stepped card c written) .from ≡ translationOf t card .from = from-step card c written known t ∙ rw other in
+    let originals : length (stepped card c written .original) ≡ raise (view (language c) card) c .original = length-step card c written known long original in
+    let size : length (translationOf t (stepped card c written) .text) ≡ length (translationOf t card .text) =
+    length-step card c written known long (translation t) ∙ rw other in
+    let lifted = raise (view (language c) card) c in
+    λ i. record { pair = lifted .pair; mark = lifted .mark; edition = lifted .edition; from = from i; original = originals i; translation = size i }
+
+-- Such an entry keeps the rules, and the widths of its fields, if both do and the edition did not fall.
+pub mixed-fits : {old new : Entry} → FitsEntry old → FitsEntry new → FitsEntry (mixed old new)
+mixed-fits a b =
+    record { pair = b .pair; mark = b .mark; edition = b .edition; from = a .from; original = b .original; translation = a .translation }
+
+pub mixed-sound : (room : ℕ) (old new : Entry) → T (entrySound room old) → T (entrySound room new) → old .edition ≤ new .edition → T (entrySound room (mixed old new))
+unfolding entrySound all allFrom
+mixed-sound room old new a b h =
+    let was = all-out (entryChecks room old) (from-T (all (entryChecks room old)) a) in
+    let is = all-out (entryChecks room new) (from-T (all (entryChecks room new)) b) in
+    let from : leb (old .from) (new .edition) ≡ true = le-leb (old .from) (new .edition) (omega (arith, leb-true (old .from) (old .edition) (was 5))) in
+    let holds : all (entryChecks room (mixed old new)) ≡ true = rw (is 0, is 1, is 2, is 3, was 4, from, is 6, was 7) in
+    to-T holds
+
+pub edition-kept : (e : Entry) (c : Command) → e .edition ≤ raise e c .edition
+unfolding raise
+edition-kept e c = go (writes original c)
+  where
+    go : (b : Bool) → e .edition ≤ cond b (e .edition + 1) (e .edition)
+    go true = omega arith
+    go false = omega arith
