@@ -8,7 +8,7 @@ use Rattle.lists.specs.Table.{all}
 
 -- The limits of N, C and the whole (rule 2.2).
 abbrev pub mostCards : ℕ
-mostCards = 64
+mostCards = 128
 
 abbrev pub leastRoom : ℕ
 leastRoom = 16
@@ -20,7 +20,7 @@ abbrev pub roomStep : ℕ
 roomStep = 16
 
 abbrev pub mostBytes : ℕ
-mostBytes = 32768
+mostBytes = 65536
 
 -- The sizes of a header and of an entry (rules 2.3 and 2.4).
 abbrev pub headerSize : ℕ

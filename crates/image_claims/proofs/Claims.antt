@@ -1,5 +1,5 @@
 -- The claims on images and cards, proved. Assumes nothing.
-use Prim.Native.Nat.{ℕ, zero, suc, _+_, _*_, _-_, _<_}
+use Prim.Native.Nat.{ℕ, zero, suc, _+_, _*_, _-_, _/_, _<_}
 use native.Mathlib.Omega.{arith}
 use mathlib.Core.Path.{_≡_, refl, sym, ap, _∙_, subst}
 use mathlib.Core.List.{List, [], append-assoc}
@@ -9,7 +9,7 @@ use lib.Seq.{drop-at}
 use Rattle.lists.specs.Parts.{spread, table, Bytes}
 use Rattle.lists.specs.Le.{toLe}
 use Rattle.lists.proofs.Spread.{table-ext, table-is, spread-replicate}
-use Rattle.lists.proofs.Tests.{to-T}
+use Rattle.lists.proofs.Tests.{to-T, from-T}
 use Rattle.lists.specs.Table.{all, allFrom}
 use Rattle.lists.proofs.Bytes.{Bytes-nil, zeros-at, zeros-replicate}
 use Rattle.guard.specs.Entry.{entrySound, noEntry, FitsEntry}
@@ -18,7 +18,8 @@ use Rattle.image.specs.Image.{Card, Translation, noTranslation, translationOf, 
 use Rattle.image.specs.Layout.{shapeOk, sizeOf, headerSize, entrySize, translations, sides}
 use Rattle.image.specs.Bytes.{header, entryBytes, pad, countOf}
 use Rattle.image.specs.Image.{freshCards, GoodCard, GoodCards}
-use Rattle.image_claims.specs.Claims.{SoundReadsBack, GoodEncodes, OneImage, FreshSound}
+use Rattle.image_claims.specs.Claims.{SoundReadsBack, GoodEncodes, OneImage, FreshSound, LargestImage}
+use Rattle.image.proofs.Shape.{shape}
 use Rattle.image.proofs.Cards.{Bytes-encode, sound-encode, decode-encode}
 use Rattle.image.proofs.Encode.{length-header, length-encode}
 use Rattle.image.proofs.Written.{take-replicate}
@@ -134,3 +135,17 @@ freshSound n c ok =
       zero-after = fresh-zero n c;
       long = ap length (sym (fresh-cards n c)) ∙ fresh-long n c;
     }
+
+-- ---- lengths
+
+-- A room of so many sixteens takes as many times 32 bytes of each card.
+thirty-twos : (n m : ℕ) → sizeOf n (16 * m) ≡ 16 + 32 * (n + m * n)
+thirty-twos n m = omega arith
+
+pub largest-image : LargestImage
+largest-image n c ok =
+    let w = shape n c (from-T (shapeOk n c) ok) in
+    let sixteens : c ≡ 16 * (c / 16) = let step = w .steps in omega arith in
+    let long : sizeOf n c ≡ 16 + 32 * (n + c / 16 * n) = ap (sizeOf n) sixteens ∙ thirty-twos n (c / 16) in
+    let within = w .size in
+    record { past-32 = omega (arith, long); most = omega (arith, long, within) }

@@ -20,14 +20,14 @@ asked n c lent number = record { n = n; c = c; lent = lent; number = number }
 
 abbrev pub limits : List MakeCase
 limits =
-    -- trial m: at room 1,024 fifteen cards fit, sixteen do not
-    asked 15 1024 31216 0
-    ∷ asked 16 1024 33296 14
+    -- trial m: at room 1,024 thirty-one cards fit, thirty-two do not
+    asked 31 1024 64496 0
+    ∷ asked 32 1024 66576 14
     -- the limits of N
     ∷ asked 0 16 16 14
     ∷ asked 1 16 80 0
-    ∷ asked 64 16 4112 0
-    ∷ asked 65 16 4176 14
+    ∷ asked 128 16 8208 0
+    ∷ asked 129 16 8272 14
     -- the limits of C
     ∷ asked 1 0 48 14
     ∷ asked 1 15 78 14
@@ -39,13 +39,18 @@ limits =
     ∷ asked 1 24 96 14
     ∷ asked 1 31 110 14
     ∷ asked 1 32 112 0
-    -- the largest whole within the limit, and the next
-    ∷ asked 31 512 32752 0
-    ∷ asked 32 496 32784 14
+    -- the largest whole within the limit, and the next: no N and C give 65,536 bytes
+    ∷ asked 89 352 65520 0
+    ∷ asked 32 1008 65552 14
+    ∷ asked 64 496 65552 14
+    ∷ asked 128 240 65552 14
+    -- the most cards, with the most room that they can have
+    ∷ asked 128 224 61456 0
     -- the lent length
     ∷ asked 1 16 79 14
     ∷ asked 1 16 81 14
     ∷ asked 1 16 0 14
+    ∷ asked 89 352 65536 14
     ∷ []
 
 abbrev pub Limits : Type 0

@@ -1,6 +1,6 @@
 -- What holds of images and cards, as claims; the theorems stand in proofs/.
 -- Assumes nothing.
-use Prim.Native.Nat.{ℕ, _<_}
+use Prim.Native.Nat.{ℕ, _%_, _<_, _≤_}
 use mathlib.Core.Path.{_≡_}
 use mathlib.Core.List.{List}
 use lib.ListN.{length, drop, getD, replicate}
@@ -46,3 +46,12 @@ pub record Fresh (n c : ℕ) : Type 0 where
 
 abbrev pub FreshSound : Type 0
 FreshSound = (n c : ℕ) → T (shapeOk n c) → Fresh n c
+
+-- Rule 2.2: every image has 16 bytes more than some multiple of 32, so that the limit itself is the length of none. The largest has 65,520 bytes
+-- (Cases).
+pub record ImageLength (n c : ℕ) : Type 0 where
+  pub past-32 : sizeOf n c % 32 ≡ 16
+  pub most : sizeOf n c ≤ 65520
+
+abbrev pub LargestImage : Type 0
+LargestImage = (n c : ℕ) → T (shapeOk n c) → ImageLength n c

@@ -241,7 +241,7 @@ fn list(run: &mut Run, random: &mut Random, cards: u16, room: u16, length: u64) 
 /// bytes, any N and C, and a few requests.
 fn anywhere(run: &mut Run, random: &mut Random) -> Compared<()> {
     let image = generate::sound_image(random);
-    let cards = random.pick(&[0, 1, 2, 3, 64, 65, u16::MAX]);
+    let cards = random.pick(&[0, 1, 2, 3, 128, 129, u16::MAX]);
     let room = random.pick(&[0, 15, 16, 48, 1_025, u16::MAX]);
     let mut lent = Lent::new(random, cards, room);
     let mut stream = generate::stream(random, &image);
@@ -333,6 +333,11 @@ pub fn any(run: &mut Run, random: &mut Random) -> Compared<()> {
     if random.one_in(10) {
         let (cards, room) = random.pick(&[(1, 1_024), (2, 1_024), (4, 512)]);
         list(run, random, cards, room, 500)?;
+    }
+    if random.one_in(5) {
+        let (cards, room) = random.pick(&generate::LARGE);
+        list(run, random, cards as u16, room as u16, length)?;
+        run.seen_at(Kind::LargeLists, 1);
     }
     if random.one_in(20) {
         at_both(run, random)?;

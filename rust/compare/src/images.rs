@@ -1,5 +1,6 @@
 //! Images: damaged ones, and the making of fresh ones.
 
+use second::generate::{BEYOND, LARGE};
 use second::random::Random;
 use second::{generate, Layout};
 
@@ -94,21 +95,43 @@ fn one(run: &mut Run, random: &mut Random, mut image: Vec<u8>, command: &[u8]) -
     Ok(sound)
 }
 
-/// Commands on images of the largest shapes.
+/// Commands on images at the limits, of every third shape from any on.
 pub fn large(run: &mut Run, random: &mut Random) -> Compared<()> {
-    let shapes = [(64, 224), (15, 1_024), (31, 496), (64, 16), (1, 1_024)];
-    let (cards, room) = random.pick(&shapes);
-    let mut image = generate::sound_image_of(random, cards, room);
-    for _ in 0..6 {
-        let command = generate::fitting_command(random, &image);
-        let mut reply = reply_near(random, &image, &command);
-        answer(run, &mut image, &command, &mut reply)?;
-        run.seen(Kind::Largest);
+    for shape in (random.index(3)..LARGE.len()).step_by(3) {
+        let (cards, room) = LARGE[shape];
+        let mut image = generate::sound_image_of(random, cards, room);
+        for _ in 0..6 {
+            let command = generate::fitting_command(random, &image);
+            let mut reply = reply_near(random, &image, &command);
+            answer(run, &mut image, &command, &mut reply)?;
+            run.seen_at(Kind::Largest, shape);
+        }
+        let at = random.index(image.len());
+        image[at] ^= 1 << random.below(8);
+        soundness(run, &image)?;
     }
-    let at = random.index(image.len());
-    image[at] ^= 1 << random.below(8);
-    soundness(run, &image)?;
     Ok(())
+}
+
+/// Images beyond the limits that break no other rule: each has the length that
+/// its header says, and zeros behind the header.
+pub fn beyond(run: &mut Run, random: &mut Random) -> Compared<()> {
+    for (shape, (cards, room)) in BEYOND.into_iter().enumerate() {
+        let mut image = vec![0; size(cards, room)];
+        image[..6].copy_from_slice(&[0x52, 0x43, 0x31, 0, 1, 0]);
+        image[6..8].copy_from_slice(&(cards as u16).to_le_bytes());
+        image[8..10].copy_from_slice(&(room as u16).to_le_bytes());
+        let command = generate::fitting_command(random, &image);
+        if !one(run, random, image, &command)? {
+            run.seen_at(Kind::Beyond, shape);
+        }
+    }
+    Ok(())
+}
+
+/// The length that N and C give, within the limits or beyond them.
+fn size(cards: u64, room: u64) -> usize {
+    (16 + 32 * cards + 2 * room * cards) as usize
 }
 
 /// Makes a fresh image by both, and leaves it as both left it.
@@ -127,15 +150,33 @@ pub fn make(run: &mut Run, image: &mut [u8], cards: u64, room: u64) -> Compared<
 
 /// Making fresh images of any numbers in any number of bytes.
 pub fn making(run: &mut Run, random: &mut Random) -> Compared<()> {
-    let (step, past) = ([16, 32, 224, 1_008, 1_024], [0, 15, 17, 240, 1_040]);
+    let (step, past) = ([16, 32, 224, 352, 1_008, 1_024], [0, 15, 17, 240, 1_040]);
     for _ in 0..40 {
         let any = random.number();
-        let cards = random.pick(&[0, 1, 2, 15, 16, 63, 64, 65, 1 << 16, (1 << 32) + 1, any]);
+        let cards = random.pick(&[0, 1, 2, 31, 32, 127, 128, 129, 1 << 16, (1 << 32) + 1, any]);
         let (right, wrong) = (random.pick(&step), random.pick(&past));
         let room = random.pick(&[right, right, wrong, (1 << 16) + 16, any]);
         let right = Layout::new(cards, room).map_or(80, Layout::size);
         let length = random.pick(&[0, 16, right, right, right, right + 1, right - 1]);
         make(run, &mut random.bytes(length), cards, room)?;
+    }
+    making_at_limits(run, random)
+}
+
+/// Making fresh images at the limits and beyond them, each in as many bytes
+/// as it would have.
+fn making_at_limits(run: &mut Run, random: &mut Random) -> Compared<()> {
+    let limits = [
+        (LARGE, Kind::MadeLargest, 0),
+        (BEYOND, Kind::MadeBeyond, 14),
+    ];
+    for (shapes, kind, number) in limits {
+        for (shape, (cards, room)) in shapes.into_iter().enumerate() {
+            let mut lent = vec![random.byte(); size(cards, room)];
+            if make(run, &mut lent, cards, room)? == number {
+                run.seen_at(kind, shape);
+            }
+        }
     }
     Ok(())
 }

@@ -27,7 +27,11 @@ enum Sender {
 pub fn any(run: &mut Run, random: &mut Random) -> Compared<()> {
     let senders = [Sender::Strict, Sender::Loose, Sender::Anyone];
     for (at, sender) in senders.into_iter().enumerate() {
-        let (cards, room) = random.pick(&[(1, 16), (1, 16), (2, 16), (2, 32), (3, 48)]);
+        let large = random.one_in(20);
+        let (cards, room) = match large {
+            true => random.pick(&generate::LARGE),
+            false => random.pick(&[(1, 16), (1, 16), (2, 16), (2, 32), (3, 48)]),
+        };
         let mut image = vec![0xee; fresh(cards, room).len()];
         images::make(run, &mut image, cards, room)?;
         let mut desks = Desks::new(sender == Sender::Strict);
@@ -45,6 +49,9 @@ pub fn any(run: &mut Run, random: &mut Random) -> Compared<()> {
         }
         sentences(run, cards as u16, &events)?;
         run.seen_at(Kind::Lists, at);
+        if large {
+            run.seen_at(Kind::LargeLists, 0);
+        }
     }
     Ok(())
 }

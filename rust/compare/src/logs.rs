@@ -496,7 +496,11 @@ fn any_bytes(run: &mut Run, random: &mut Random) -> Compared<()> {
 /// recovery is the one after its writes, sent one by one, and demand 3 holds
 /// of all of them in one list.
 fn mixed(run: &mut Run, random: &mut Random) -> Compared<()> {
-    let (cards, room) = random.pick(&[(1, 16), (2, 16)]);
+    let large = random.one_in(5);
+    let (cards, room) = match large {
+        true => random.pick(&generate::LARGE),
+        false => random.pick(&[(1, 16), (2, 16)]),
+    };
     let mut image = vec![0xee; fresh(cards, room).len()];
     images::make(run, &mut image, cards, room)?;
     let mut desks = Desks::new(true);
@@ -515,6 +519,9 @@ fn mixed(run: &mut Run, random: &mut Random) -> Compared<()> {
         }
         let pairs = pairs_for(random, &image);
         recovery_by_requests(run, &log, &mut image, &pairs, &mut events)?;
+    }
+    if large {
+        run.seen_at(Kind::LargeLists, 2);
     }
     sentences(run, cards as u16, &events)
 }

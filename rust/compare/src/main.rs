@@ -87,6 +87,7 @@ fn round(run: &mut Run, random: &mut Random) -> Compared<()> {
     answers::replies(run, random)?;
     answers::malformed(run, random)?;
     images::large(run, random)?;
+    images::beyond(run, random)?;
     images::damaged(run, random)?;
     images::making(run, random)?;
     lists::any(run, random)?;

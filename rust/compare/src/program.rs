@@ -8,6 +8,7 @@ use second::generate;
 use second::program::INPUT_LIMIT;
 use second::random::Random;
 use second::short::fresh;
+use second::Layout;
 
 use crate::coverage::{Kind, Run};
 use crate::run::{bytes, same, Compared};
@@ -61,6 +62,13 @@ impl Program {
         if let Some(past @ 0..2) = input.len().checked_sub(INPUT_LIMIT) {
             run.seen_at(Kind::InputLengths, past);
         }
+        let front = Layout::of_header(input).map(|layout| (layout.cards(), layout.room()));
+        let large = FRONTS
+            .iter()
+            .position(|&(cards, room)| front == Some((cards as usize, room as usize)));
+        if let (Some(at), 2 | 3) = (large, kind) {
+            run.seen_at(Kind::LargeFronts, at);
+        }
         Ok(proved)
     }
 }
@@ -71,8 +79,12 @@ impl Drop for Program {
     }
 }
 
-/// The edges of an input's length.
-const EDGES: u64 = 12;
+/// The edges of an input's length, and of what an image leaves of it.
+const EDGES: u64 = 12 + 2 * FRONTS.len() as u64;
+
+/// N and C of images that leave room for twenty commands in an input, for two,
+/// and for none.
+const FRONTS: [(u64, u64); 4] = [(31, 1_024), (73, 432), (62, 512), (89, 352)];
 
 /// An input of any sort, its length at an edge or not.
 fn input(random: &mut Random, edge: u64) -> Vec<u8> {
@@ -85,11 +97,18 @@ fn input(random: &mut Random, edge: u64) -> Vec<u8> {
         1 => input.truncate(15),
         2 | 3 => input.truncate(16),
         4 | 5 => input.truncate(input.len().saturating_sub(1)),
-        6 => return filled(random, INPUT_LIMIT),
-        7 => return filled(random, INPUT_LIMIT + 1),
-        8 => return filled(random, INPUT_LIMIT - 1),
+        6..=8 => {
+            let image = generate::sound_image(random);
+            return filled(random, image, INPUT_LIMIT + 7 - edge as usize);
+        }
         9 => return random.bytes(INPUT_LIMIT + 1),
         10 | 11 => {}
+        12..EDGES => {
+            let (cards, room) = FRONTS[(edge - 12) as usize % FRONTS.len()];
+            let image = generate::sound_image_of(random, cards, room);
+            let past = (edge - 12) as usize / FRONTS.len();
+            return filled(random, image, INPUT_LIMIT + past);
+        }
         _ => {
             let image = input.clone();
             for _ in 0..random.below(4) {
@@ -104,9 +123,8 @@ fn input(random: &mut Random, edge: u64) -> Vec<u8> {
     input
 }
 
-/// A sound image with commands up to so many bytes, cut there.
-fn filled(random: &mut Random, length: usize) -> Vec<u8> {
-    let image = generate::sound_image(random);
+/// An image with commands up to so many bytes, cut there.
+fn filled(random: &mut Random, image: Vec<u8>, length: usize) -> Vec<u8> {
     let mut input = image.clone();
     while input.len() < length {
         input.extend(generate::command(random, &image));

@@ -80,6 +80,34 @@ fn text(random: &mut Random, room: usize) -> Vec<u8> {
     random.bytes(length)
 }
 
+/// N and C at the limits and next to them: of the most cards, of the most
+/// room, and of images up to 65,520 bytes, the largest.
+pub const LARGE: [(u64, u64); 9] = [
+    (127, 16),
+    (128, 16),
+    (127, 240),
+    (128, 224),
+    (1, 1_024),
+    (30, 1_024),
+    (31, 1_024),
+    (62, 512),
+    (89, 352),
+];
+
+/// N and C just beyond one of the limits: of the cards, of the room, and of
+/// the bytes, from 65,552 on.
+pub const BEYOND: [(u64, u64); 9] = [
+    (0, 16),
+    (129, 16),
+    (1, 0),
+    (1, 24),
+    (1, 1_040),
+    (32, 1_024),
+    (32, 1_008),
+    (64, 496),
+    (128, 240),
+];
+
 /// A sound image of a few cards.
 pub fn sound_image(random: &mut Random) -> Vec<u8> {
     let cards = random.pick(&[1, 1, 2, 3]);
@@ -168,7 +196,7 @@ pub fn any_command(random: &mut Random) -> Vec<u8> {
     let mut fields = CommandFields {
         act: random.between(0, 6) as u8,
         mode: random.between(0, 3) as u8,
-        card: random.pick(&[0, 0, 1, 2, 64, u16::MAX]),
+        card: random.pick(&[0, 0, 1, 2, 127, 128, u16::MAX]),
         pair: Pair::new(any_stamp(random), any_stamp(random)),
         zeros: [0; 16],
         expected: any_mark(random),

@@ -12,11 +12,11 @@ use crate::number::{ACCEPTED, NOT_MADE};
 /// The bytes of the header.
 pub const HEADER_BYTES: usize = 16;
 /// The most bytes an image has.
-pub const IMAGE_LIMIT: usize = 32_768;
+pub const IMAGE_LIMIT: usize = 65_536;
 
 const MAGIC: [u8; 4] = [0x52, 0x43, 0x31, 0x00];
 const VERSION: u16 = 1;
-const CARDS_LIMIT: usize = 64;
+const CARDS_LIMIT: usize = 128;
 const ROOM_LIMIT: usize = 1_024;
 const ROOM_STEP: usize = 16;
 
@@ -68,7 +68,7 @@ impl Layout {
     }
 
     /// The length of the whole image, 16 + 32N + 2CN.
-    // At most 16 + 32 * 64 + 2 * 1,024 * 64.
+    // At most 16 + 32 * 128 + 2 * 1,024 * 128.
     #[allow(clippy::arithmetic_side_effects)]
     pub fn size(self) -> usize {
         HEADER_BYTES + ENTRY_BYTES * self.cards + 2 * self.room * self.cards

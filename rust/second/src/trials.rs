@@ -49,11 +49,12 @@ pub struct Store {
 }
 
 /// The stores in which each trial is run.
-pub const STORES: [Store; 4] = [
+pub const STORES: [Store; 5] = [
     store(1, 16, 0),
     store(3, 48, 1),
-    store(15, 1_024, 14),
-    store(64, 224, 63),
+    store(31, 1_024, 30),
+    store(89, 352, 88),
+    store(128, 224, 127),
 ];
 
 const fn store(cards: u64, room: u64, card: u16) -> Store {
@@ -336,7 +337,7 @@ pub fn case_p_input() -> Vec<u8> {
 }
 
 /// Trial m: N, C, the lent bytes, and the number.
-const MAKING: [(u64, u64, usize, u8); 2] = [(15, 1_024, 31_216, 0), (16, 1_024, 33_296, 14)];
+const MAKING: [(u64, u64, usize, u8); 2] = [(31, 1_024, 64_496, 0), (32, 1_024, 66_576, 14)];
 
 /// A turn, and its number, whether the desk holds the lock, and how many
 /// entries were looked at.

@@ -164,7 +164,7 @@ fn row_1_a_malformed_command() {
 
 #[test]
 fn row_2_a_card_that_does_not_exist() {
-    for (cards, room) in [(1, 16), (2, 16), (63, 16), (64, 16), (15, 1_024)] {
+    for (cards, room) in [(1, 16), (2, 16), (127, 16), (128, 16), (31, 1_024)] {
         let image = fresh(cards, room);
         let verify = command(VERIFY, SHARED, a());
         for card in [0, cards as u16 - 1] {

@@ -77,7 +77,7 @@ fn writes_must_be_exclusive() {
 
 #[test]
 fn any_card_is_well_formed() {
-    for card in [0, 1, 63, 64, u16::MAX] {
+    for card in [0, 1, 127, 128, u16::MAX] {
         all_stay(|fields| fields.card = card);
     }
 }

@@ -4,14 +4,15 @@
 mod common;
 
 use common::*;
+use second::generate::BEYOND;
 use second::{is_sound, make_fresh, Entry, Layout, Mark, Pair};
 
 /// Whether N and C keep the rules, written out once more.
 fn allowed(cards: u128, room: u128) -> bool {
-    (1..=64).contains(&cards)
+    (1..=128).contains(&cards)
         && (16..=1_024).contains(&room)
         && room.is_multiple_of(16)
-        && 16 + 32 * cards + 2 * room * cards <= 32_768
+        && 16 + 32 * cards + 2 * room * cards <= 65_536
 }
 
 /// Asks for a fresh image in a buffer of this length, filled with 0xee, and
@@ -35,7 +36,17 @@ fn size(cards: u64, room: u64) -> usize {
 
 #[test]
 fn the_number_of_cards() {
-    for (cards, expected) in [(0, 14), (1, 0), (2, 0), (63, 0), (64, 0), (65, 14)] {
+    for (cards, expected) in [
+        (0, 14),
+        (1, 0),
+        (2, 0),
+        (64, 0),
+        (65, 0),
+        (127, 0),
+        (128, 0),
+        (129, 14),
+        (256, 14),
+    ] {
         assert_eq!(made(cards, 16, size(cards, 16)), expected);
     }
 }
@@ -65,15 +76,17 @@ fn the_room() {
 #[test]
 fn the_size_limit() {
     for (cards, room, bytes, expected) in [
-        (15, 1_024, 31_216, 0),
-        (16, 1_024, 33_296, 14),
-        (31, 512, 32_752, 0),
-        (33, 480, 32_752, 0),
-        (64, 240, 32_784, 14),
-        (32, 496, 32_784, 14),
-        (16, 1_008, 32_784, 14),
-        (64, 224, 30_736, 0),
-        (63, 240, 32_272, 0),
+        (16, 1_024, 33_296, 0),
+        (31, 1_024, 64_496, 0),
+        (32, 1_024, 66_576, 14),
+        (62, 512, 65_488, 0),
+        (66, 480, 65_488, 0),
+        (89, 352, 65_520, 0),
+        (128, 240, 65_552, 14),
+        (64, 496, 65_552, 14),
+        (32, 1_008, 65_552, 14),
+        (128, 224, 61_456, 0),
+        (127, 240, 65_040, 0),
     ] {
         assert_eq!(size(cards, room), bytes);
         assert_eq!(
@@ -86,7 +99,7 @@ fn the_size_limit() {
 
 #[test]
 fn the_lent_length() {
-    for (cards, room) in [(1, 16), (64, 16), (15, 1_024), (31, 512)] {
+    for (cards, room) in [(1, 16), (128, 16), (31, 1_024), (89, 352)] {
         let right = size(cards, room);
         assert_eq!(made(cards, room, right), 0);
         for wrong in [
@@ -120,12 +133,14 @@ fn numbers_that_do_not_fit() {
 
 #[test]
 fn every_number_of_cards_and_room_near_the_limits() {
-    for cards in 0..=66 {
+    let mut largest = 0;
+    for cards in 0..=260 {
         for room in 0..=1_056 {
             let found = Layout::new(cards, room);
             assert_eq!(found.is_some(), allowed(cards.into(), room.into()));
             if let Some(layout) = found {
                 assert_eq!(layout.size(), size(cards, room));
+                largest = largest.max(layout.size());
                 assert_eq!(
                     (layout.cards(), layout.room()),
                     (cards as usize, room as usize)
@@ -133,11 +148,12 @@ fn every_number_of_cards_and_room_near_the_limits() {
             }
         }
     }
+    assert_eq!(largest, 65_520);
 }
 
 #[test]
 fn a_header_that_breaks_the_rules_is_not_sound_at_any_length() {
-    for (cards, room) in [(0, 16), (65, 16), (1, 0), (1, 24), (1, 1_040), (16, 1_024)] {
+    for (cards, room) in BEYOND {
         let mut image = vec![0; size(cards, room)];
         image[..6].copy_from_slice(&[0x52, 0x43, 0x31, 0, 1, 0]);
         image[6..8].copy_from_slice(&(cards as u16).to_le_bytes());
@@ -342,12 +358,12 @@ fn body_bytes_past_the_length_are_zero() {
 
 #[test]
 fn an_unsound_card_among_sound_ones() {
-    for card in 0..64 {
-        let mut image = fresh(64, 16);
+    for card in 0..128 {
+        let mut image = fresh(128, 16);
         image[16 + 32 * card + 18] = 1;
         assert!(!is_sound(&image));
-        let mut image = fresh(64, 16);
-        image[16 + 32 * 64 + 32 * card + 31] = 1;
+        let mut image = fresh(128, 16);
+        image[16 + 32 * 128 + 32 * card + 31] = 1;
         assert!(!is_sound(&image));
     }
 }

@@ -40,10 +40,10 @@ fn short_inputs() {
 
 #[test]
 fn one_byte_short_or_long_of_a_large_image() {
-    let image = fresh(31, 512);
+    let image = fresh(89, 352);
     assert_eq!(output(&image[..image.len() - 1]), BAD_STORE);
-    assert_eq!(output(&image), "cards 31\nend\n");
-    assert_eq!(output(&input(&image, &[b"x"])), "cards 31\ncut 1\n");
+    assert_eq!(output(&image), "cards 89\nend\n");
+    assert_eq!(output(&input(&image, &[b"x"])), "cards 89\ncut 1\n");
 }
 
 #[test]
@@ -52,7 +52,7 @@ fn an_unsound_image() {
         (0, 0),
         (4, 2),
         (6, 0),
-        (6, 65),
+        (6, 129),
         (8, 24),
         (15, 1),
         (16, 1),
@@ -67,10 +67,40 @@ fn an_unsound_image() {
 
 #[test]
 fn a_header_that_asks_for_more_than_the_limit() {
-    let mut image = fresh(15, 1_024);
-    image[6] = 16;
-    image.resize(33_296, 0);
-    assert_eq!(output(&image), BAD_STORE);
+    // 65,536 bytes of an image of 66,576, and the next above the limit.
+    for (cards, room, more) in [(31, 1_024, 32), (63, 496, 64), (127, 240, 128)] {
+        let mut image = fresh(cards, room);
+        image[6] = more;
+        image.resize(65_536, 0);
+        assert_eq!(output(&image), BAD_STORE);
+        image.push(0);
+        assert_eq!(output(&image), TOO_LONG);
+    }
+}
+
+/// The whole input has 65,536 bytes, the image among them.
+#[test]
+fn the_image_leaves_less_for_the_stream() {
+    let verify = command(VERIFY, SHARED, a());
+    for (cards, room, left) in [
+        (31, 1_024, 1_040),
+        (73, 432, 112),
+        (62, 512, 48),
+        (89, 352, 16),
+    ] {
+        let image = fresh(cards, room);
+        assert_eq!(image.len() + left, 65_536);
+        let stream = verify.repeat(left.div_ceil(52));
+        let text = both(&input(&image, &[&stream[..left]]));
+        let mut lines = vec![format!("cards {cards}")];
+        lines.extend((1..=left / 52).map(|count| format!("{count} 0 4295032832 0 0 0 0 0 0")));
+        lines.push(match left % 52 {
+            0 => "end".to_owned(),
+            cut => format!("cut {cut}"),
+        });
+        assert_eq!(text.lines().collect::<Vec<_>>(), lines);
+        assert_eq!(both(&input(&image, &[&stream[..left], b"x"])), TOO_LONG);
+    }
 }
 
 #[test]

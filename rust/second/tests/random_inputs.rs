@@ -144,11 +144,11 @@ fn making_a_fresh_image_of_anything() {
     let mut numbers = Numbers::default();
     for _ in 0..100_000 {
         let any = random.number();
-        let cards = random.pick(&[0, 1, 1, 2, 3, 64, 65, any]);
+        let cards = random.pick(&[0, 1, 1, 2, 3, 128, 129, any]);
         let room = random.pick(&[0, 15, 16, 16, 32, 48, 1_040, any]);
         let right = Layout::new(cards, room).map_or(80, Layout::size);
         let length = random.pick(&[0, 16, right, right, right, right + 1, right - 1]);
-        let mut image = random.bytes(length.min(400));
+        let mut image = random.bytes(length.min(9_000));
         let before = image.clone();
         let number = make_fresh(&mut image, cards, room);
         numbers.count(number);

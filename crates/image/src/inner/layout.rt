@@ -3,7 +3,7 @@ ghost use mathlib.Core.Path.{_≡_};
 ghost use Rattle.image.specs.Layout.{sizeOf, shapeOk, entryPlace, bodyPlace};
 
 // The limits: N is 1 to MOST_CARDS, C is LEAST_ROOM to MOST_ROOM in steps of ROOM_STEP, the whole is at most MOST_BYTES.
-pub const MOST_CARDS: usize = 64;
+pub const MOST_CARDS: usize = 128;
 
 pub const LEAST_ROOM: usize = 16;
 
@@ -11,7 +11,7 @@ pub const MOST_ROOM: usize = 1024;
 
 pub const ROOM_STEP: usize = 16;
 
-pub const MOST_BYTES: usize = 32768;
+pub const MOST_BYTES: usize = 65536;
 
 // The sizes of the header and of an entry.
 pub const HEADER: usize = 16;
