@@ -103,7 +103,7 @@ sized-step card c written e h (translation (suc t)) = refl
 -- ---- a card and the events before
 
 -- An accepted command for card k whose pair has, on one side, a stamp above n.
-abbrev above : (Pair → ℕ) → ℕ → ℕ → Event → Bool
+abbrev pub above : (Pair → ℕ) → ℕ → ℕ → Event → Bool
 above side k n e = accepted k e && ltb n (side (update (commandOf e)))
 
 -- A stored card k, by the events before: which stamps its own are above, its mark, its texts and their lengths, and whether its translation is
