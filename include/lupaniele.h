@@ -12,7 +12,7 @@ uint8_t lupaniele_make(uint8_t *image, size_t image_length, uint64_t cards, uint
 /* Whether the bytes are a sound image. */
 bool lupaniele_sound(const uint8_t *image, size_t image_length);
 
-/* One request: the number, 0 to 9. fields: s, x, commit desk, transaction, edition, translated-from, length.
+/* One request: the number, 0 to 9 or 17. fields: s, x, commit desk, transaction, edition, translated-from, length.
    The text of an accepted read stands in the first `length` bytes of reply. */
 uint8_t lupaniele_answer(uint8_t *image, size_t image_length, const uint8_t *command, size_t command_length,
                          uint8_t *reply, size_t reply_length, uint64_t fields[7]);
@@ -56,7 +56,7 @@ uint64_t lupaniele_end(const uint8_t *stream, size_t stream_length);
    else 0. */
 uint8_t lupaniele_agree(const uint8_t *first, size_t first_length, const uint8_t *second, size_t second_length,
                         uint64_t *place);
-/* One request to the history engine, for `cards` cards with this room (rules 14.1 to 14.9): the number, 0 to 8 or 22. history: the
+/* One request to the history engine, for `cards` cards with this room (rules 14.1 to 14.9): the number, 0 to 8, 17 or 22. history: the
    accepted commands end to end in its first *used bytes, at first none; any bytes and any *used do. fields and reply: as for
    lupaniele_answer. A refusal leaves history, *used and reply as they were. */
 uint8_t lupaniele_history_answer(uint8_t history[43168], uint64_t *used, uint16_t cards, uint16_t room,

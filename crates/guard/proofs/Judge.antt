@@ -1,5 +1,5 @@
 -- Laws of an entry that judges a command. Assumes nothing.
-use Prim.Native.Nat.{ℕ, zero, suc, _≤_}
+use Prim.Native.Nat.{ℕ, zero, suc, _+_, _≤_}
 use native.Mathlib.Omega.{arith}
 use mathlib.Core.Path.{_≡_, refl}
 use mathlib.Core.Logic.{_↔_, _⊎_}
@@ -7,7 +7,7 @@ use mathlib.Core.Bool.{Bool, true, false, not, _&&_}
 use borrow.Author.Tests.{ltb-false, eqb-true, eqb-false, not-false}
 use lib.Dec.{T, eqb}
 use Rattle.lists.proofs.Tests.{never-both, or-fails}
-use Rattle.stamps.specs.Stamp.{shared, exclusive, stale, markFits}
+use Rattle.stamps.specs.Stamp.{shared, exclusive, stale, mostAhead, stampT, tooFar, markFits}
 use Rattle.commands.specs.Command.{Language, original, translation, reads, writes, verifier, update, wellFormed}
 use Rattle.lists.specs.Table.{first, noRow, applies, earlier, once, settled}
 use Rattle.guard.specs.Judge.{behind, lastEdition, overruns, entryRows, judgeRows, raise, judged}
@@ -16,7 +16,7 @@ use Rattle.guard.specs.declared.Entry.{Entry}
 use Rattle.guard.specs.declared.Judged.{Judged}
 use Rattle.lists.proofs.Table.{given, unapplied, none-applies, settled-new, settled-old}
 use Rattle.commands.proofs.Rules.{command-rules}
-use Rattle.stamps.proofs.Stamp.{larger-old, stale-more}
+use Rattle.stamps.proofs.Stamp.{larger-old, stale-more, near-raises}
 
 second-fails : (a b : Bool) → (a && b) ≡ false → a ≡ true → b ≡ false
 second-fails true b h e = h
@@ -26,6 +26,7 @@ second-fails false b h e = absurd (never-both e refl)
 pub record Accepted (e : Entry) (c : Command) (room lent : ℕ) : Type 0 where
   pub formed : wellFormed c ≡ true
   pub fresh : stale (c .mode) (e .pair) (verifier c) ≡ false
+  pub near : tooFar (e .pair) (update c) ≡ false
   pub mark : markFits (e .mark) (c .expected) ≡ true
   pub length : c .length ≤ room
   pub current : reads (translation 0) c ≡ true → behind (e .edition) (e .from) ≡ false
@@ -67,6 +68,7 @@ module _ (e : Entry) (c : Command) (room lent : ℕ) where
       record {
         formed = not-false (wellFormed c) (row-fails 1);
         fresh = row-fails 3;
+        near = row-fails 17;
         mark = not-false (markFits (e .mark) (c .expected)) (row-fails 4);
         length = ltb-false room (c .length) (row-fails 5);
         current = λ w. second-fails (reads (translation 0) c) (behind (e .edition) (e .from)) (row-6 .0) w;
@@ -103,7 +105,7 @@ module _ (e : Entry) (c : Command) (room lent : ℕ) where
   pub accepted-mode : Accepted e c room lent → (c .mode ≡ shared) ⊎ (c .mode ≡ exclusive)
   accepted-mode a = command-rules c (a .formed) .session .mode
 
-  -- Rows 3 to 8 decide on a well-formed command.
+  -- The rows from 3 on decide on a well-formed command.
   pub rows-formed : wellFormed c ≡ true → first (judgeRows e c room lent) ≡ first (entryRows e c room lent)
   rows-formed h = rw h
 
@@ -111,6 +113,12 @@ module _ (e : Entry) (c : Command) (room lent : ℕ) where
 pub raise-more : (e : Entry) (c : Command) → (e .pair .s ≤ raise e c .pair .s) × (e .pair .x ≤ raise e c .pair .x)
 unfolding raise
 raise-more e c = larger-old (e .pair) (update c)
+
+-- An accepted command raises no T by more than the most.
+pub raise-near : {e : Entry} {c : Command} {room lent : ℕ} → Accepted e c room lent
+    → (stampT (raise e c .pair .s) ≤ stampT (e .pair .s) + mostAhead) × (stampT (raise e c .pair .x) ≤ stampT (e .pair .x) + mostAhead)
+unfolding raise
+raise-near {e} {c} a = near-raises (e .pair) (update c) (a .near)
 
 -- What was stale stays stale when the entry is raised.
 pub stale-raised : (e : Entry) (c d : Command) → T (stale (d .mode) (e .pair) (verifier d)) → T (stale (d .mode) (raise e c .pair) (verifier d))

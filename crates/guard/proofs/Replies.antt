@@ -16,6 +16,6 @@ pub replied-blank : (n : ℕ) (e : Entry) (c : Command) → blankReply n ≡ tru
 unfolding replied
 replied-blank n e c b = rw (b, settled-old {n = n} (readLength e c) 0 (λ z. never-both (subst (λ (k : ℕ). blankReply k ≡ true) z b) refl))
 
--- No number of rows 3 to 8 has zero reply fields.
+-- No number of the rows from 3 on has zero reply fields.
 pub entry-shown : (e : Entry) (c : Command) (room lent : ℕ) → blankReply (first (entryRows e c room lent)) ≡ false
 entry-shown e c room lent = not-true (blankReply (first (entryRows e c room lent))) (from-T (not (blankReply (first (entryRows e c room lent)))) (first-all (λ n. not (blankReply n)) (entryRows e c room lent) tt tt))

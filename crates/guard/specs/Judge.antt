@@ -1,10 +1,10 @@
--- How an entry judges a command: the table's rows and the raised entry (rules 4.1 to 4.6).
+-- How an entry judges a command: the table's rows and the raised entry (rules 4.1 to 4.6 and 4.9).
 -- Assumes nothing.
 use Prim.Native.Nat.{ℕ, zero, suc, _+_}
 use mathlib.Core.List.{List, [], _∷_}
 use mathlib.Core.Bool.{Bool, cond, not, _&&_, _||_}
 use lib.Dec.{ltb, eqb}
-use Rattle.stamps.specs.Stamp.{MALFORMED, stale, largerOfEach, markFits}
+use Rattle.stamps.specs.Stamp.{MALFORMED, stale, tooFar, largerOfEach, markFits}
 use Rattle.commands.specs.Command.{Language, original, translation, reads, writes, verifier, update, wellFormed}
 use Rattle.lists.specs.Table.{Row, row, first, settled}
 use Rattle.commands.specs.declared.Command.{Command}
@@ -40,6 +40,10 @@ REPLY-SHORT = 8
 abbrev pub UNSOUND : ℕ
 UNSOUND = 9
 
+-- 17: a stamp from too far ahead.
+abbrev pub TOO-FAR : ℕ
+TOO-FAR = 17
+
 -- ---- The rows.
 
 -- Rule 4.6.
@@ -73,10 +77,11 @@ editionsSpent e c = writes original c && eqb (e .edition) lastEdition
 abbrev pub replyShort : Entry → Command → ℕ → Bool
 replyShort e c lent = overruns original e c lent || overruns (translation 0) e c lent
 
--- Rows 3 to 8 of the table, for the card's entry, a command, the room C and the length of the lent reply buffer.
+-- The table's rows from 3 on (3, 17, then 4 to 8), for the card's entry, a command, the room C and the length of the lent reply buffer.
 abbrev pub entryRows : Entry → Command → ℕ → ℕ → List Row
 entryRows e c room lent =
     row (stale (c .mode) (e .pair) (verifier c)) STALE
+    ∷ row (tooFar (e .pair) (update c)) TOO-FAR
     ∷ row (not (markFits (e .mark) (c .expected))) MARK-DIFFERS
     ∷ row (ltb room (c .length)) PAYLOAD-LONG
     ∷ row (wrongEdition e c) EDITION-WRONG
@@ -84,7 +89,7 @@ entryRows e c room lent =
     ∷ row (replyShort e c lent) REPLY-SHORT
     ∷ []
 
--- The rows of an entry that judges a command, whoever made it: row 1, command malformed, on its numbers, then rows 3 to 8.
+-- The rows of an entry that judges a command, whoever made it: row 1, command malformed, on its numbers, then those rows.
 abbrev pub judgeRows : Entry → Command → ℕ → ℕ → List Row
 judgeRows e c room lent = row (not (wellFormed c)) MALFORMED ∷ entryRows e c room lent
 

@@ -10,11 +10,13 @@ use crate::MARK_DIFFERS;
 use crate::PAYLOAD_LONG;
 use crate::REPLY_SHORT;
 use crate::STALE;
+use crate::TOO_FAR;
 use crate::behind;
 use commands::Command;
 use stamps::MALFORMED;
 use stamps::mark_fits;
 use stamps::stale;
+use stamps::too_far;
 
 // The edition that no write can raise.
 const LAST_EDITION: u16 = 65535;
@@ -52,6 +54,9 @@ impl Entry {
         }
         if stale(c.mode, self.pair, c.pair) {
             return STALE;
+        }
+        if too_far(self.pair, c.pair) {
+            return TOO_FAR;
         }
         if !mark_fits(self.mark, c.expected) {
             return MARK_DIFFERS;

@@ -31,6 +31,8 @@ pub const REPLY_SHORT: u8 = 8;
 
 pub const UNSOUND: u8 = 9;
 
+pub const TOO_FAR: u8 = 17;
+
 // ---- The guard of one card: an entry that judges a command.
 
 // Whether a translation is behind: its translated-from is 0 or is not the edition.

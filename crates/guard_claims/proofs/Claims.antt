@@ -1,11 +1,12 @@
 -- The claims on judging and on commands in bytes. Assumes nothing.
-use Prim.Native.Nat.{ℕ, zero, suc, _≤_}
+use Prim.Native.Nat.{ℕ, zero, suc, _+_, _≤_}
 use native.Mathlib.Omega.{arith}
 use mathlib.Core.Path.{_≡_, refl, sym, subst}
 use mathlib.Core.Bool.{true, false}
 use mathlib.Core.Logic.{_⊎_, inl, inr}
 use lib.Dec.{T, T-not}
 use Rattle.lists.proofs.Tests.{to-T, from-T, from-false, cases}
+use Rattle.stamps.specs.Stamp.{stampT, mostAhead}
 use Rattle.commands.specs.Command.{wellFormed}
 use Rattle.commands.specs.Bytes.{formed}
 use Rattle.guard.specs.Entry.{entrySound, FitsEntry}
@@ -14,7 +15,7 @@ use Rattle.guard_claims.specs.Claims.{Judges, StaleStays, Parsing, Parse
 use Rattle.commands.specs.declared.Command.{Command}
 use Rattle.guard.specs.declared.Entry.{Entry}
 use Rattle.stamps.proofs.Stamp.{stale-more}
-use Rattle.guard.proofs.Judge.{Accepted, exactly, accepted-exactly, accepted, refusal-leaves, accepted-raises, accepted-mode, raise-more}
+use Rattle.guard.proofs.Judge.{Accepted, exactly, accepted-exactly, accepted, refusal-leaves, accepted-raises, accepted-mode, raise-more, raise-near}
 use Rattle.guard.proofs.Raise.{raise-sound, raise-fits}
 use Rattle.commands.proofs.CommandBytes.{parsed-formed, parsed-malformed, payload-command, parsed-command, command-fields}
 
@@ -36,9 +37,14 @@ judges e c room lent =
       formed = λ h. to-T (accepted e c room lent h .formed);
       mode = λ h. accepted-mode e c room lent (accepted e c room lent h);
       fresh = λ h. accepted e c room lent h .fresh;
+      near = λ h. accepted e c room lent h .near;
       sound = λ s. judged-keeps (λ d. T (entrySound room d)) e c room lent s (λ a. raise-sound a s);
       fits = λ f g. judged-keeps FitsEntry e c room lent f (λ a. raise-fits a f g);
       grows = judged-keeps (λ d. (e .pair .s ≤ d .pair .s) × (e .pair .x ≤ d .pair .x)) e c room lent (omega arith) (λ a. raise-more e c);
+      bounded =
+          judged-keeps
+          (λ d. (stampT (d .pair .s) ≤ stampT (e .pair .s) + mostAhead) × (stampT (d .pair .x) ≤ stampT (e .pair .x) + mostAhead))
+          e c room lent (omega arith) (λ a. raise-near a);
     }
 
 pub stale-stays : StaleStays

@@ -1,6 +1,6 @@
 -- What is claimed of an entry that judges a command, and of commands in bytes. Proved in proofs/Claims.antt.
 -- Assumes nothing.
-use Prim.Native.Nat.{ℕ, suc, _≤_}
+use Prim.Native.Nat.{ℕ, suc, _+_, _≤_}
 use mathlib.Core.Path.{_≡_}
 use mathlib.Core.Logic.{_↔_, _⊎_}
 use mathlib.Core.List.{List, [], _∷_}
@@ -8,8 +8,8 @@ use mathlib.Core.Bool.{false, not}
 use lib.Dec.{T}
 use lib.ListN.{length}
 use Rattle.lists.specs.Parts.{Bytes}
-use Rattle.stamps.specs.Stamp.{shared, exclusive, stale}
-use Rattle.commands.specs.Command.{verifier, wellFormed, FitsCommand}
+use Rattle.stamps.specs.Stamp.{shared, exclusive, stale, stampT, mostAhead, tooFar}
+use Rattle.commands.specs.Command.{verifier, update, wellFormed, FitsCommand}
 use Rattle.commands.specs.Bytes.{fieldsOf, payload, formed, parsed, parsedNumber, parsedCommand, commandBytes}
 use Rattle.lists.specs.Table.{row, first, applies, noRow, earlier}
 use Rattle.guard.specs.Judge.{judgeRows, raise, judged}
@@ -27,14 +27,19 @@ pub record Judging (e : Entry) (c : Command) (room lent : ℕ) : Type 0 where
   -- A refusal leaves the entry as it was; an accepted command leaves it raised.
   pub leaves : (n : ℕ) → judged e c room lent .number ≡ suc n → judged e c room lent .entry ≡ e
   pub raises : judged e c room lent .number ≡ 0 → judged e c room lent .entry ≡ raise e c
-  -- An accepted command is well formed, shared or exclusive, and not stale.
+  -- An accepted command is well formed, shared or exclusive, not stale, and not too far ahead.
   pub formed : judged e c room lent .number ≡ 0 → T (wellFormed c)
   pub mode : judged e c room lent .number ≡ 0 → (c .mode ≡ shared) ⊎ (c .mode ≡ exclusive)
   pub fresh : judged e c room lent .number ≡ 0 → stale (c .mode) (e .pair) (verifier c) ≡ false
+  pub near : judged e c room lent .number ≡ 0 → tooFar (e .pair) (update c) ≡ false
   -- An entry by the rules of a sound image stays so, and within its fields' widths, whatever it judges; its stamps grow.
   pub sound : T (entrySound room e) → T (entrySound room (judged e c room lent .entry))
   pub fits : FitsEntry e → FitsCommand c → FitsEntry (judged e c room lent .entry)
   pub grows : (e .pair .s ≤ judged e c room lent .entry .pair .s) × (e .pair .x ≤ judged e c room lent .entry .pair .x)
+  -- No command raises the T of a stored stamp by more than 1,000,000 (rule 4.9).
+  pub bounded :
+      (stampT (judged e c room lent .entry .pair .s) ≤ stampT (e .pair .s) + mostAhead)
+      × (stampT (judged e c room lent .entry .pair .x) ≤ stampT (e .pair .x) + mostAhead)
 
 abbrev pub Judges : Type 0
 Judges = (e : Entry) (c : Command) (room lent : ℕ) → Judging e c room lent

@@ -86,7 +86,8 @@ claim n sent log whole a =
     record {
       whole = whole;
       staleness = λ later e before split p. at later e before split .staleness p;
-      behindness = λ later e before t split p r h m. at later e before split .behindness t p r h m;
+      aheadness = λ later e before split p h. at later e before split .aheadness p h;
+      behindness = λ later e before t split p r h f m. at later e before split .behindness t p r h f m;
       showing = λ later e before l split z r. at later e before split .showing l z r;
       showing-length = λ later e before l split z r. at later e before split .showing-length l z r;
       isolation = isolated n sent log whole (λ later e before split z. timely n e before (at later e before split) z);

@@ -1,14 +1,16 @@
 -- Each number exactly when its row applies and no earlier row does; every number is from the list, and a refusal changes nothing.
 -- Assumes nothing.
-use Prim.Native.Nat.{ℕ, suc}
+use Prim.Native.Nat.{ℕ, suc, _≤_}
 use mathlib.Core.Path.{_≡_, refl, sym, subst, _∙_}
-use mathlib.Core.Logic.{_↔_}
+use mathlib.Core.Logic.{_↔_, _⊎_, inl, inr}
 use mathlib.Core.List.{List}
-use lib.Dec.{T, leb, leb→le}
+use mathlib.Core.Bool.{_||_}
+use lib.Dec.{T, leb, eqb, leb→le, eqb→eq}
 use lib.ListN.{length}
 use Rattle.guard.specs.Replies.{replied}
 use Rattle.lists.specs.Table.{first, applies, earlier, noRow}
 use Rattle.lists.proofs.Table.{given, unapplied, first-all}
+use Rattle.lists.proofs.Tests.{T-or-cases}
 use Rattle.model.specs.Serve.{serveBy, serve, storeRows}
 use Rattle.model.specs.Claims.{Exactly, Refusals}
 
@@ -30,13 +32,21 @@ exactly image command reply =
           (unapplied (storeRows image command (length reply)) tt);
     }
 
+-- The list as a test and as a statement.
+in-list : (n : ℕ) → T (leb n 9 || eqb n 17) → (n ≤ 9) ⊎ (n ≡ 17)
+in-list n t = go (T-or-cases (leb n 9) (eqb n 17) t)
+  where
+    go : T (leb n 9) ⊎ T (eqb n 17) → (n ≤ 9) ⊎ (n ≡ 17)
+    go (inl low) = inl (leb→le n 9 low)
+    go (inr far) = inr (eqb→eq n 17 far)
+
 pub refusals : Refusals
 unfolding serve serveBy
 refusals image command reply =
     record {
       listed =
-          leb→le (serve image command reply .answer .number) 9
-          (subst (λ (m : ℕ). T (leb m 9)) (sym (number-is image command reply))
-          (first-all (λ n. leb n 9) (storeRows image command (length reply)) tt tt));
+          in-list (serve image command reply .answer .number)
+          (subst (λ (m : ℕ). T (leb m 9 || eqb m 17)) (sym (number-is image command reply))
+          (first-all (λ n. leb n 9 || eqb n 17) (storeRows image command (length reply)) tt tt));
       kept = λ n e. let given-number = sym (number-is image command reply) ∙ e in (rw given-number, rw given-number);
     }

@@ -89,7 +89,7 @@ passed cs s e =
 -- ---- a card and the events before
 
 -- An accepted command for card k whose pair has, on one side, a stamp above n.
-abbrev above : (Pair → ℕ) → ℕ → ℕ → Event → Bool
+abbrev pub above : (Pair → ℕ) → ℕ → ℕ → Event → Bool
 above side k n e = accepted k e && ltb n (side (update (commandOf e)))
 
 -- A stored card k, by the events before: which stamps its own are above, its mark, its texts, and which of its translations are behind. No maximum

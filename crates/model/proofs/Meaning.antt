@@ -1,19 +1,19 @@
 -- The words on lists mean what they read like. Assumes nothing.
-use Prim.Native.Nat.{ℕ, _<_, _%_}
+use Prim.Native.Nat.{ℕ, _+_, _<_, _%_}
 use native.Mathlib.Omega.{arith}
 use mathlib.Core.Path.{_≡_, refl, sym, ap, _∙_}
 use mathlib.Core.Logic.{_↔_, _⊎_, inl, inr}
 use mathlib.Core.List.{List, [], _∷_, _++_, map, reverse, append-assoc, reverse-append, reverse-cons, reverse-reverse}
 use mathlib.Core.Bool.{Bool, true, false, not, _&&_, _||_, or-assoc}
-use borrow.Author.Tests.{not-true, not-false, ltb-true, lt-ltb, eqb-true, eqb-false, eq-eqb, ne-eqb}
-use lib.Dec.{eqb, ltb}
+use borrow.Author.Tests.{not-true, not-false, ltb-true, lt-ltb, leb-false, lt-leb, eqb-true, eqb-false, eq-eqb, ne-eqb}
+use lib.Dec.{eqb, ltb, leb}
 use Rattle.lists.proofs.Tests.{never-both, cases, and-in, and-left, and-right, or-left, or-right, or-cases, or-fails, not-in}
 use Rattle.commands.specs.Command.{verifier, update}
 use Rattle.commands.specs.Bytes.{fieldsOf}
-use Rattle.stamps.specs.Stamp.{shared, exclusive, deskNumber, deskStart, deskOf}
+use Rattle.stamps.specs.Stamp.{shared, exclusive, stampT, deskNumber, deskStart, deskOf, mostAhead}
 use Rattle.commands.specs.declared.Command.{Command}
 use Rattle.stamps.specs.declared.Pair.{Pair}
-use Rattle.model.specs.Words.{Sent, Event, commandOf, accepted, largerS, largerX, late, sentFor, carries, under, breaks, premise, deskIn, intrudes}
+use Rattle.model.specs.Words.{Sent, Event, commandOf, accepted, largerS, largerX, late, inReach, outOfReach, farAhead, sentFor, carries, under, breaks, premise, deskIn, intrudes}
 use Rattle.lists.specs.Search.{any, none, since, last}
 
 module _ {A : Type 0} where
@@ -264,6 +264,59 @@ late-means before c = (out, λ h. back (h .0) (h .1) (h .2) (h .2 .larger))
         (and-in (eq-eqb (c .mode) exclusive (y .0))
         (any-here (largerS (c .card) c) m
         (and-in (accepted-means (c .card) e .1 (o .accepted, o .card)) (lt-ltb (verifier c .s) (update (commandOf e) .s) (y .1)))))
+
+-- On one side the T of a command is more than 1,000,000 above zero, so that there is a stamp, and above the T of each earlier accepted command for its
+-- card, so above the largest.
+pub record Beyond (side : Pair → ℕ) (before : List Event) (c : Command) : Type 0 where
+  pub some : side (update c) ≡ 0 → ⊥
+  pub nothing : mostAhead < stampT (side (update c))
+  pub each :
+      (e : Event) → Among e before → e .answer .number ≡ 0 → commandOf e .card ≡ c .card
+      → stampT (side (update (commandOf e))) + mostAhead < stampT (side (update c))
+
+reach-means : (side : Pair → ℕ) (before : List Event) (c : Command) → (outOfReach side before c ≡ true) ↔ Beyond side before c
+reach-means side before c = (out, back)
+  where
+    near : Event → Bool
+    near e = leb (stampT (side (update c))) (stampT (side (update (commandOf e))) + mostAhead)
+
+    out : outOfReach side before c ≡ true → Beyond side before c
+    out h =
+        let far = ltb-true mostAhead (stampT (side (update c))) (and-left (ltb mostAhead (stampT (side (update c)))) (none (inReach side c) before) h) in
+        record {
+          some = λ z. omega arith;
+          nothing = far;
+          each = λ e m number card.
+              let unreached : inReach side c e ≡ false =
+              none-means (inReach side c) before .0 (and-right (ltb mostAhead (stampT (side (update c)))) (none (inReach side c) before) h) e m in
+              leb-false (stampT (side (update c))) (stampT (side (update (commandOf e))) + mostAhead)
+              (sym (ap (λ (b : Bool). b && near e) (accepted-means (c .card) e .1 (number, card))) ∙ unreached);
+        }
+
+    back : Beyond side before c → outOfReach side before c ≡ true
+    back b = and-in (lt-ltb mostAhead (stampT (side (update c))) (b .nothing)) (none-means (inReach side c) before .1 unreached)
+      where
+        unreached : (e : Event) → Among e before → inReach side c e ≡ false
+        unreached e m = go (cases (accepted (c .card) e))
+          where
+            go : (accepted (c .card) e ≡ true) ⊎ (accepted (c .card) e ≡ false) → inReach side c e ≡ false
+            go (inl a) =
+                let known = accepted-means (c .card) e .0 a in
+                rw a (lt-leb (stampT (side (update c))) (stampT (side (update (commandOf e))) + mostAhead) (b .each e m (known .0) (known .1)))
+            go (inr a) = rw a
+
+-- A command comes from too far ahead: by its s, or by its x.
+pub far-means : (before : List Event) (c : Command) → (farAhead before c ≡ true) ↔ (Beyond (λ (p : Pair). p .s) before c ⊎ Beyond (λ (p : Pair). p .x) before c)
+far-means before c = (λ h. out (or-cases (outOfReach (λ (p : Pair). p .s) before c) (outOfReach (λ (p : Pair). p .x) before c) h), back)
+  where
+    out : (outOfReach (λ (p : Pair). p .s) before c ≡ true) ⊎ (outOfReach (λ (p : Pair). p .x) before c ≡ true)
+        → Beyond (λ (p : Pair). p .s) before c ⊎ Beyond (λ (p : Pair). p .x) before c
+    out (inl s) = inl (reach-means (λ (p : Pair). p .s) before c .0 s)
+    out (inr x) = inr (reach-means (λ (p : Pair). p .x) before c .0 x)
+
+    back : Beyond (λ (p : Pair). p .s) before c ⊎ Beyond (λ (p : Pair). p .x) before c → farAhead before c ≡ true
+    back (inl s) = or-left (outOfReach (λ (p : Pair). p .x) before c) (reach-means (λ (p : Pair). p .s) before c .1 s)
+    back (inr x) = or-right (outOfReach (λ (p : Pair). p .s) before c) (reach-means (λ (p : Pair). p .x) before c .1 x)
 
 -- Two stamps have one desk and start: the 16 bits of the desk and the 16 bits of the start are equal.
 pub desk-and-start : (m n : ℕ) → (deskStart m ≡ deskStart n) ↔ ((deskNumber m ≡ deskNumber n) × (m % 65536 ≡ n % 65536))

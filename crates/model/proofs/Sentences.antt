@@ -1,18 +1,21 @@
 -- The sentences of demand 3 of one request on cards, from what ties the cards to the events before. Assumes nothing.
-use Prim.Native.Nat.{ℕ, zero, suc, _+_}
+use Prim.Native.Nat.{ℕ, zero, suc, _+_, _<_}
 use native.Mathlib.Omega.{arith}
 use mathlib.Core.Path.{_≡_, refl, sym, ap, subst, _∙_}
-use mathlib.Core.Logic.{_↔_}
-use mathlib.Core.List.{List}
-use mathlib.Core.Bool.{true, false, or-false}
-use borrow.Author.Tests.{eqb-true, le-ltb, ltb-true}
+use mathlib.Core.Logic.{_↔_, _⊎_, inl, inr}
+use mathlib.Core.List.{List, [], _∷_}
+use mathlib.Core.Bool.{Bool, true, false, not, _&&_, or-false}
+use borrow.Author.Tests.{eqb-true, le-ltb, ltb-true, ltb-false}
 use lib.Dec.{ltb}
 use lib.ListN.{length, take, drop}
 use lib.Seq.{take-append-seam}
 use Rattle.lists.specs.Parts.{splice}
-use Rattle.lists.proofs.Tests.{to-T, from-T}
-use Rattle.stamps.specs.Stamp.{stale, markFits}
-use Rattle.commands.specs.Command.{Language, original, translation, reads, writes, language, verifier}
+use Rattle.lists.specs.Search.{any}
+use Rattle.lists.proofs.Tests.{to-T, from-T, cases}
+use Rattle.stamps.specs.Stamp.{stale, stampT, mostAhead, stampTooFar, tooFar, markFits}
+use Rattle.stamps.specs.declared.Pair.{Pair}
+use Rattle.stamps.proofs.Stamp.{edge, reach-above, far-below}
+use Rattle.commands.specs.Command.{Language, original, translation, reads, writes, language, verifier, update}
 use Rattle.commands.specs.Bytes.{fieldsOf}
 use Rattle.guard.specs.Judge.{behind, raise}
 use Rattle.guard.specs.Replies.{readLength, replied}
@@ -22,16 +25,18 @@ use Rattle.commands.proofs.Languages.{reads-named}
 use Rattle.lists.proofs.Table.{given}
 use Rattle.image.specs.Image.{Card, Cards, translationOf, view, text}
 use Rattle.model.specs.Serve.{cardOf, entryOf, requestRows, textRead}
-use Rattle.model.specs.Words.{Sent, Event, commandOf, Proper, late, rightMark, outdated, lastText}
+use Rattle.model.specs.Words.{Sent, Event, commandOf, accepted, Proper, late, inReach, outOfReach, farAhead, rightMark, outdated, lastText}
 use Rattle.model.proofs.Formed.{formed-rules, no-payload}
-use Rattle.model.proofs.Machine.{numberOn, eventBy, passed, Tied, Ties}
+use Rattle.model.proofs.Machine.{numberOn, eventBy, passed, above, Tied, Ties}
 
 -- What is claimed of an event and the events before it.
 pub record Told (n : ℕ) (e : Event) (before : List Event) : Type 0 where
   pub proper : e .answer .number ≡ 0 → Proper n e
   pub staleness : Proper n e → (e .answer .number ≡ 3) ↔ (late before (commandOf e) ≡ true)
+  pub aheadness : Proper n e → late before (commandOf e) ≡ false → (e .answer .number ≡ 17) ↔ (farAhead before (commandOf e) ≡ true)
   pub behindness :
       (t : ℕ) → Proper n e → reads (translation t) (commandOf e) ≡ true → late before (commandOf e) ≡ false
+      → farAhead before (commandOf e) ≡ false
       → rightMark before (commandOf e) ≡ true
       → (e .answer .number ≡ 6) ↔ (outdated t before (commandOf e .card) ≡ true)
   pub showing :
@@ -72,6 +77,11 @@ take-splice v l = take-append-seam v (drop (0 + length v) l)
 
 -- ---- one request
 
+-- Tests that agree on each element agree on a list.
+any-same : (p q : Event → Bool) → ((e : Event) → p e ≡ q e) → (l : List Event) → any p l ≡ any q l
+any-same p q h [] = refl
+any-same p q h (e ∷ l) = rw (h e, any-same p q h l)
+
 module _ (cs : Cards) (s : Sent) (before : List Event) (ties : Ties cs before) where
   abbrev c : Command
   c = fieldsOf (s .command)
@@ -105,11 +115,38 @@ module _ (cs : Cards) (s : Sent) (before : List Event) (ties : Ties cs before) w
     λ h. given rows tt 2 .1 (to-T (late-is p ∙ h), rw (p .wellFormed, p .exists) tt),
   )
 
-  behind-when : (t : ℕ) → Proper (length (cs .cards)) event → reads (translation t) c ≡ true → late before c ≡ false → rightMark before c ≡ true
+  -- On one side: too far ahead of the stored stamp exactly when out of reach of all that was accepted before.
+  far-side : (side : Pair → ℕ) → ((n : ℕ) → ltb n (side (stored .pair)) ≡ any (above side (c .card) n) before)
+      → stampTooFar (side (stored .pair)) (side (update c)) ≡ outOfReach side before c
+  far-side side tie = go (cases (ltb mostAhead (stampT (side (update c)))))
+    where
+      go : (ltb mostAhead (stampT (side (update c))) ≡ true) ⊎ (ltb mostAhead (stampT (side (update c))) ≡ false)
+          → stampTooFar (side (stored .pair)) (side (update c)) ≡ outOfReach side before c
+      go (inl e) =
+          let h : mostAhead < stampT (side (update c)) = ltb-true mostAhead (stampT (side (update c))) e in
+          let same : any (inReach side c) before ≡ any (above side (c .card) (edge (side (update c)) h)) before =
+          any-same (inReach side c) (above side (c .card) (edge (side (update c)) h))
+          (λ (d : Event). ap (λ (b : Bool). accepted (c .card) d && b) (reach-above (side (update c)) h (side (update (commandOf d))))) before in
+          far-below (side (update c)) h (side (stored .pair)) ∙ ap not (tie (edge (side (update c)) h) ∙ sym same) ∙ rw e
+      go (inr e) =
+          le-ltb (stampT (side (stored .pair)) + mostAhead) (stampT (side (update c))) (omega (arith, ltb-false mostAhead (stampT (side (update c))) e))
+          ∙ rw e
+
+  far-is : Proper (length (cs .cards)) event → tooFar (stored .pair) (update c) ≡ farAhead before c
+  far-is p = rw (far-side (λ (q : Pair). q .s) (tied p .s), far-side (λ (q : Pair). q .x) (tied p .x))
+
+  far-when : Proper (length (cs .cards)) event → late before c ≡ false → (numberOn cs s ≡ 17) ↔ (farAhead before c ≡ true)
+  far-when p h = (
+    λ e. sym (far-is p) ∙ from-T (applies 17 rows) (given rows tt 16 .0 e .0),
+    λ f. given rows tt 16 .1 (to-T (far-is p ∙ f), rw (p .wellFormed, p .exists, late-is p ∙ h) tt),
+  )
+
+  behind-when : (t : ℕ) → Proper (length (cs .cards)) event → reads (translation t) c ≡ true → late before c ≡ false → farAhead before c ≡ false
+      → rightMark before c ≡ true
       → (numberOn cs s ≡ 6) ↔ (outdated t before (c .card) ≡ true)
-  behind-when t p r h m = (
+  behind-when t p r h f m = (
     λ e. sym row-is ∙ from-T (applies 6 rows) (given rows tt 5 .0 e .0),
-    λ o. given rows tt 5 .1 (to-T (row-is ∙ o), rw (p .wellFormed, p .exists, late-is p ∙ h, mark-fits, fits) tt),
+    λ o. given rows tt 5 .1 (to-T (row-is ∙ o), rw (p .wellFormed, p .exists, late-is p ∙ h, far-is p ∙ f, mark-fits, fits) tt),
   )
     where
       no-write : (writes original c ≡ false) × (writes (translation (language c)) c ≡ false)
@@ -148,7 +185,8 @@ module _ (cs : Cards) (s : Sent) (before : List Event) (ties : Ties cs before) w
       record {
         proper = λ e. is-proper (sym number-is ∙ e);
         staleness = subst (λ (n : ℕ). Proper (length (cs .cards)) event → (n ≡ 3) ↔ (late before c ≡ true)) (sym number-is) stale-when;
-        behindness = λ t p r h m. subst (λ (n : ℕ). (n ≡ 6) ↔ (outdated t before (c .card) ≡ true)) (sym number-is) (behind-when t p r h m);
+        aheadness = λ p h. subst (λ (n : ℕ). (n ≡ 17) ↔ (farAhead before c ≡ true)) (sym number-is) (far-when p h);
+        behindness = λ t p r h f m. subst (λ (n : ℕ). (n ≡ 6) ↔ (outdated t before (c .card) ≡ true)) (sym number-is) (behind-when t p r h f m);
         showing = λ l e r.
             let zero-is = sym number-is ∙ e in
             ap (λ (n : ℕ). take n (event .reply)) (shown-length l zero-is r) ∙ shown-text l zero-is r ∙ tied (is-proper zero-is) .texts l;

@@ -1,4 +1,4 @@
--- Trials, the four commands of case P, the three slips, commit marks, and the numbers 1, 2 and 9, as one
+-- Trials, the four commands of case P, the three slips, commit marks, stamps from far ahead, and the numbers 1, 2 and 9, as one
 -- table: a start, requests in the order in which they are sent, and what each must get. Where no act is named it is verify.
 -- Assumes nothing.
 use Prim.Native.Nat.{ℕ}
@@ -354,6 +354,78 @@ refused57 = got 4 stamp1 stamp1 5 7 0 0 0 []
 abbrev pub trialNoMark : Trial
 trialNoMark = record { start = empty; sent = verifyMarked (markOf 5 7) noMark ∷ []; expected = got 4 0 0 0 0 0 0 0 [] ∷ [] }
 
+-- Stamps from far ahead (rule 4.9), all of desk 1.
+abbrev pub ahead : ℕ → ℕ
+ahead t = stamp t 1 0
+
+-- A verify that expects a mark and leaves (5, 7).
+abbrev pub verifyAhead : ℕ → Pair → Mark → Sent
+verifyAhead mode p expected = sends (withNumbers 5 mode 0 p expected (markOf 5 7) 0 0) [] []
+
+-- Commands, and what they get, on a card that keeps T 3 as its s, T 1 as its x, and the mark (5, 7).
+abbrev pub trialAhead : List Sent → List Got → Trial
+trialAhead then gets =
+    record {
+      start = empty;
+      sent = verifyAhead exclusive (pair (ahead 3) (ahead 1)) noMark ∷ then;
+      expected = got 0 (ahead 3) (ahead 1) 5 7 0 0 0 [] ∷ gets;
+    }
+
+-- One such command, in a mode and under a pair: it is refused with 17, or accepted and raises the stored pair to its own.
+abbrev pub refusedAhead : ℕ → ℕ → ℕ → Trial
+refusedAhead mode s x = trialAhead (verifyAhead mode (pair s x) (markOf 5 7) ∷ []) (got 17 (ahead 3) (ahead 1) 5 7 0 0 0 [] ∷ [])
+
+abbrev pub passedAhead : ℕ → ℕ → ℕ → Trial
+passedAhead mode s x = trialAhead (verifyAhead mode (pair s x) (markOf 5 7) ∷ []) (got 0 s x 5 7 0 0 0 [] ∷ [])
+
+-- One command on a fresh card: a read of the translation, with a reply buffer of two bytes, gets 6 or 17; a verify is accepted or gets 17.
+abbrev pub freshRead : ℕ → ℕ → Trial
+freshRead t number =
+    record { start = empty; sent = request 2 shared (pair (ahead t) 0) 0 [] (long 2) ∷ []; expected = got number 0 0 0 0 0 0 0 (long 2) ∷ [] }
+
+abbrev pub freshVerify : ℕ → ℕ → ℕ → Got → Trial
+freshVerify mode s x then = record { start = empty; sent = verify mode s x ∷ []; expected = then ∷ [] }
+
+-- A refusal raises nothing, so the same command is refused again; the next T in reach passes, and from there the one after it.
+abbrev pub trialClimb : Trial
+trialClimb =
+    trialAhead
+    (verifyAhead exclusive (pair (ahead 1000004) (ahead 1)) (markOf 5 7)
+    ∷ verifyAhead exclusive (pair (ahead 1000004) (ahead 1)) (markOf 5 7)
+    ∷ verifyAhead exclusive (pair (ahead 1000003) (ahead 1)) (markOf 5 7)
+    ∷ verifyAhead exclusive (pair (ahead 2000003) (ahead 1)) (markOf 5 7)
+    ∷ [])
+    (got 17 (ahead 3) (ahead 1) 5 7 0 0 0 []
+    ∷ got 17 (ahead 3) (ahead 1) 5 7 0 0 0 []
+    ∷ got 0 (ahead 1000003) (ahead 1) 5 7 0 0 0 []
+    ∷ got 0 (ahead 2000003) (ahead 1) 5 7 0 0 0 []
+    ∷ [])
+
+-- A stamp that is below the stored one by more than 1,000,000 is not far ahead.
+abbrev pub trialBelow : Trial
+trialBelow =
+    trialAhead
+    (verifyAhead exclusive (pair (ahead 1000003) (ahead 1)) (markOf 5 7) ∷ verifyAhead shared (pair (ahead 2) (ahead 1)) (markOf 5 7) ∷ [])
+    (got 0 (ahead 1000003) (ahead 1) 5 7 0 0 0 [] ∷ got 0 (ahead 1000003) (ahead 1) 5 7 0 0 0 [] ∷ [])
+
+-- Stale comes before 17, the commit mark after it.
+abbrev pub trialAheadStale : Trial
+trialAheadStale =
+    trialAhead (verifyAhead exclusive (pair (ahead 2) (ahead 1000002)) (markOf 5 7) ∷ []) (got 3 (ahead 3) (ahead 1) 5 7 0 0 0 [] ∷ [])
+
+abbrev pub trialAheadMark : Trial
+trialAheadMark =
+    trialAhead (verifyAhead exclusive (pair (ahead 1000004) (ahead 1)) noMark ∷ []) (got 17 (ahead 3) (ahead 1) 5 7 0 0 0 [] ∷ [])
+
+-- 17 replies the whole entry as stored, editions too.
+abbrev pub trialAheadWritten : Trial
+trialAheadWritten =
+    record {
+      start = empty;
+      sent = bothWritten ++ (verify exclusive stamp1 (ahead 1000002) ∷ []);
+      expected = bothGot ++ (got 17 stamp1 stamp1 0 0 1 1 0 [] ∷ []);
+    }
+
 -- Number 1: no act has number 0. Number 2: with one card there is no card 1. Number 9: an image that is not there.
 abbrev pub trialMalformed : Trial
 trialMalformed = record { start = empty; sent = request 0 shared (pair stamp1 0) 0 [] (long 2) ∷ []; expected = got 1 0 0 0 0 0 0 0 (long 2) ∷ [] }
@@ -396,6 +468,28 @@ trials =
     ∷ trialMark (markOf 6 7) refused57
     ∷ trialMark noMark refused57
     ∷ trialNoMark
+    -- exactly 1,000,000 above, and one more: on s alone, on x alone, in either mode; the largest stamp of the T in reach
+    ∷ passedAhead exclusive (ahead 1000003) (ahead 1)
+    ∷ refusedAhead exclusive (ahead 1000004) (ahead 1)
+    ∷ passedAhead exclusive (ahead 3) (ahead 1000001)
+    ∷ refusedAhead exclusive (ahead 3) (ahead 1000002)
+    ∷ passedAhead exclusive (ahead 1000003) (ahead 1000001)
+    ∷ passedAhead shared (ahead 1000003) (ahead 1000001)
+    ∷ refusedAhead shared (ahead 1000004) (ahead 1)
+    ∷ refusedAhead shared (ahead 3) (ahead 1000002)
+    ∷ passedAhead exclusive (stamp 1000003 65535 65535) (ahead 1)
+    -- on a fresh card, with no stamp on the other side; a read of a translation that is behind
+    ∷ freshVerify shared (ahead 1000000) 0 (got 0 (ahead 1000000) 0 0 0 0 0 0 [])
+    ∷ freshVerify shared (ahead 1000001) 0 (got 17 0 0 0 0 0 0 0 [])
+    ∷ freshVerify exclusive 0 (ahead 1000000) (got 0 0 (ahead 1000000) 0 0 0 0 0 [])
+    ∷ freshVerify exclusive 0 (ahead 1000001) (got 17 0 0 0 0 0 0 0 [])
+    ∷ freshRead 1000000 6
+    ∷ freshRead 1000001 17
+    ∷ trialClimb
+    ∷ trialBelow
+    ∷ trialAheadStale
+    ∷ trialAheadMark
+    ∷ trialAheadWritten
     ∷ trialMalformed
     ∷ trialNoCard
     ∷ trialUnsound

@@ -1,7 +1,7 @@
 -- The claims of the store: demand 3, whole, and what demands 1 and 2 ask of one request. The theorems stand in proofs/.
 -- Assumes nothing.
 use Prim.Native.Nat.{ℕ, suc, _≤_}
-use mathlib.Core.Logic.{_↔_}
+use mathlib.Core.Logic.{_↔_, _⊎_}
 use mathlib.Core.Path.{_≡_}
 use mathlib.Core.List.{List, [], _∷_, _++_, map, reverse}
 use mathlib.Core.Bool.{true, false}
@@ -21,6 +21,7 @@ use Rattle.model.specs.Words.{
   accepted,
   Proper,
   late,
+  farAhead,
   rightMark,
   outdated,
   lastText,
@@ -48,11 +49,17 @@ pub record Claim (n : ℕ) (sent : List Sent) (log : List Event) : Type 0 where
   pub staleness :
       (later : List Event) (e : Event) (before : List Event) → log ≡ later ++ e ∷ before → Proper n e
       → (e .answer .number ≡ 3) ↔ (late before (commandOf e) ≡ true)
-  -- a read of a translation that is not late and has the right mark is refused as behind exactly when the translation is
+  -- one that is not late is refused with 17 exactly when it comes from too far ahead
+  pub aheadness :
+      (later : List Event) (e : Event) (before : List Event) → log ≡ later ++ e ∷ before → Proper n e
+      → late before (commandOf e) ≡ false
+      → (e .answer .number ≡ 17) ↔ (farAhead before (commandOf e) ≡ true)
+  -- a read of a translation that is neither late nor from too far ahead and has the right mark is refused as behind exactly when the translation is
   pub behindness :
       (later : List Event) (e : Event) (before : List Event) (t : ℕ) → log ≡ later ++ e ∷ before → Proper n e
       → reads (translation t) (commandOf e) ≡ true
       → late before (commandOf e) ≡ false
+      → farAhead before (commandOf e) ≡ false
       → rightMark before (commandOf e) ≡ true
       → (e .answer .number ≡ 6) ↔ (outdated t before (commandOf e .card) ≡ true)
   -- rule 9.4: an accepted read shows the last accepted text of its card and language, by as many bytes as its length field says, and nothing
@@ -109,9 +116,9 @@ pub record Given (image command reply : List ℕ) : Type 0 where
 abbrev pub Exactly : Type 0
 Exactly = (image command reply : List ℕ) → Given image command reply
 
--- Demand 1: every number is from the list, and a refusal changes nothing.
+-- Demand 1: every number is from the list (rule 4.1: 0 to 9, and 17), and a refusal changes nothing.
 pub record Safe (image command reply : List ℕ) : Type 0 where
-  pub listed : serve image command reply .answer .number ≤ 9
+  pub listed : (serve image command reply .answer .number ≤ 9) ⊎ (serve image command reply .answer .number ≡ 17)
   pub kept :
       (n : ℕ) → serve image command reply .answer .number ≡ suc n
       → (serve image command reply .image ≡ image) × (serve image command reply .reply ≡ reply)

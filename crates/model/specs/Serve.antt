@@ -1,4 +1,4 @@
--- One request on an image: the table, the reply fields, the image after and the reply buffer after (rules 4.1 to 4.8).
+-- One request on an image: the table, the reply fields, the image after and the reply buffer after (rules 4.1 to 4.9).
 -- Assumes nothing.
 use Prim.Native.Nat.{ℕ}
 use mathlib.Core.List.{List, [], _∷_}
@@ -25,12 +25,12 @@ cardOf cs c = getD (cs .cards) (c .card) noCard
 abbrev pub entryOf : Cards → Command → Entry
 entryOf cs c = view (language c) (cardOf cs c)
 
--- Rows 1 to 8 of the table, on a store's cards, a command's lent bytes and the length of the lent reply buffer.
+-- The rows of the table but the first, on a store's cards, a command's lent bytes and the length of the lent reply buffer.
 abbrev pub requestRows : Cards → List ℕ → ℕ → List Row
 requestRows cs command lent =
     row (not (formed command)) MALFORMED
     ∷ row (not (ltb (fieldsOf command .card) (length (cs .cards)))) NO-CARD
-    -- 3 to 8
+    -- 3, 17, then 4 to 8
     ∷ entryRows (entryOf cs (fieldsOf command)) (fieldsOf command) (cs .room) lent
 
 -- The whole table.

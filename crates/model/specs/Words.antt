@@ -1,16 +1,17 @@
--- The words of demand 3 (rules 9.1 to 9.6), on the events of a list of requests, latest first.
+-- The words of demand 3 (rules 9.1 to 9.7), on the events of a list of requests, latest first.
 -- Assumes nothing.
-use Prim.Native.Nat.{ℕ}
+use Prim.Native.Nat.{ℕ, _+_}
 use mathlib.Core.Path.{_≡_}
 use mathlib.Core.List.{List, [], _∷_, reverse}
 use mathlib.Core.Bool.{Bool, true, false, cond, not, _&&_, _||_}
-use lib.Dec.{ltb, eqb}
+use lib.Dec.{ltb, leb, eqb}
 use Rattle.lists.specs.Search.{any, none, since, last}
-use Rattle.stamps.specs.Stamp.{shared, exclusive, deskStart, noMark, markFits}
+use Rattle.stamps.specs.Stamp.{shared, exclusive, stampT, deskStart, mostAhead, noMark, markFits}
 use Rattle.commands.specs.Command.{Language, original, translation, writes, verifier, update, session}
 use Rattle.commands.specs.Bytes.{fieldsOf, payload, formed}
 use Rattle.guard.specs.declared.Answer.{Answer}
 use Rattle.commands.specs.declared.Command.{Command}
+use Rattle.stamps.specs.declared.Pair.{Pair}
 use Rattle.image.specs.Image.{fresh}
 use Rattle.model.specs.Serve.{Outcome, serve}
 
@@ -70,6 +71,19 @@ largerX k c e = accepted k e && ltb (verifier c .x) (update (commandOf e) .x)
 -- A command comes late: shared, if an earlier accepted command for its card has a larger x; exclusive, if one has a larger s or a larger x.
 abbrev pub late : List Event → Command → Bool
 late before c = any (largerX (c .card) c) before || eqb (c .mode) exclusive && any (largerS (c .card) c) before
+
+-- An accepted command for c's card from which c is in reach on one side: c's T there is at most 1,000,000 above its T.
+abbrev pub inReach : (Pair → ℕ) → Command → Event → Bool
+inReach side c e = accepted (c .card) e && leb (stampT (side (update c))) (stampT (side (update (commandOf e))) + mostAhead)
+
+-- On one side c is in reach neither from 0, with which every card begins, nor from an earlier accepted command for its card: its T is more than 1,000,000
+-- above the largest.
+abbrev pub outOfReach : (Pair → ℕ) → List Event → Command → Bool
+outOfReach side before c = ltb mostAhead (stampT (side (update c))) && none (inReach side c) before
+
+-- Rule 9.7: a command comes from too far ahead, by its s or by its x.
+abbrev pub farAhead : List Event → Command → Bool
+farAhead before c = outOfReach (λ p. p .s) before c || outOfReach (λ p. p .x) before c
 
 -- Rule 9.3: the expected mark passes what the last earlier accepted command for the card left, and no mark where there was
 -- none.

@@ -1,12 +1,12 @@
 -- What a desk knows of one card, what it learns and the pairs that it proposes (docs/RULES.md, section 10; Minuet, section 3.2: a client's MaxTs and MaxTx
 -- for a resource, and ProposedTs, ProposedTx).
 -- Assumes nothing.
-use Prim.Native.Nat.{ℕ, _+_, _/_}
+use Prim.Native.Nat.{ℕ, _+_}
 use mathlib.Core.List.{List, [], _∷_}
 use mathlib.Core.Bool.{Bool, cond, not, _&&_, _||_}
 use lib.Dec.{ltb, eqb}
 use Rattle.lists.specs.Table.{Row, row, first, settled}
-use Rattle.stamps.specs.Stamp.{MALFORMED, stamp, shared, exclusive, own, largerOfEach, noPair}
+use Rattle.stamps.specs.Stamp.{MALFORMED, stamp, stampT, shared, exclusive, own, largerOfEach, noPair}
 use Rattle.stamps.specs.declared.Pair.{Pair}
 use Rattle.proposals.specs.declared.Known.{Known}
 use Rattle.proposals.specs.declared.Proposed.{Proposed}
@@ -17,7 +17,7 @@ learnt k p = record { desk = k .desk; start = k .start; pair = largerOfEach (k .
 
 -- Rule 10.3: the T of the smallest stamp of this desk and start above n: n's own T if the stamp made with it is above n, else one more.
 unfoldable pub nextT : ℕ → ℕ → ℕ → ℕ
-nextT desk start n = cond (ltb n (stamp (n / 4294967296) desk start)) (n / 4294967296) (n / 4294967296 + 1)
+nextT desk start n = cond (ltb n (stamp (stampT n) desk start)) (stampT n) (stampT n + 1)
 
 -- That stamp. (The claim `Smallest` says that there is no smaller one.)
 abbrev pub ownAbove : ℕ → ℕ → ℕ → ℕ

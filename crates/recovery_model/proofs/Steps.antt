@@ -20,6 +20,11 @@ use Rattle.model.proofs.Exact.{refusals}
 use Rattle.recovery_model.specs.Recovery.{Pairs, Recovery, recordIn, due, recoverySent, recoveryStep, recovering, recovered}
 use Rattle.recovery_model.specs.Claims.{AllTaken, StopsWith, Recovers, RecoversAll}
 
+-- The store's numbers, 0 to 9 and 17, are below 23.
+at-most : {n : ℕ} → (n ≤ 9) ⊎ (n ≡ 17) → n ≤ 17
+at-most (inl h) = omega arith
+at-most (inr h) = omega arith
+
 module _ (pairs : Pairs) (rs : List LogRecord) (image : List ℕ) where
   abbrev pub R : ℕ → Recovery
   R i = recovering pairs rs image i
@@ -66,7 +71,7 @@ module _ (pairs : Pairs) (rs : List LogRecord) (image : List ℕ) where
     pub accepted : R i .number ≡ 0 → AllTaken (history image (R i .sent))
     pub stopped : StopsWith (R i .number) (history image (R i .sent))
     pub line : R i .number ≡ 0 → R i .line ≡ 0
-    pub listed : R i .number ≤ 9
+    pub listed : R i .number ≤ 17
     pub later : due rs 0 ≡ false → (R i .number ≡ 0 → ⊥) → 1 ≤ R i .line
 
   told-same : (i : ℕ) → R (suc i) ≡ R i → Told i → Told (suc i)
@@ -75,7 +80,7 @@ module _ (pairs : Pairs) (rs : List LogRecord) (image : List ℕ) where
         accepted = λ z. subst (λ (r : Recovery). AllTaken (history image (r .sent))) (sym e) (t .accepted (sym (ap (λ (r : Recovery). r .number) e) ∙ z));
         stopped = subst (λ (r : Recovery). StopsWith (r .number) (history image (r .sent))) (sym e) (t .stopped);
         line = λ z. ap (λ (r : Recovery). r .line) e ∙ t .line (sym (ap (λ (r : Recovery). r .number) e) ∙ z);
-        listed = subst (λ (r : Recovery). r .number ≤ 9) (sym e) (t .listed);
+        listed = subst (λ (r : Recovery). r .number ≤ 17) (sym e) (t .listed);
         later = λ f n. subst (λ (r : Recovery). 1 ≤ r .line) (sym e) (t .later f (λ z. n (ap (λ (r : Recovery). r .number) e ∙ z)));
       }
 
@@ -94,7 +99,7 @@ module _ (pairs : Pairs) (rs : List LogRecord) (image : List ℕ) where
         accepted = λ z. subst (λ (r : Recovery). AllTaken (history image (r .sent))) (sym (s .now)) (number ∙ sym (ap (λ (r : Recovery). r .number) (s .now)) ∙ z, t .accepted (s .so-far));
         stopped = subst (λ (r : Recovery). StopsWith (r .number) (history image (r .sent))) (sym (s .now)) (number, t .accepted (s .so-far));
         line = λ z. ap (λ (r : Recovery). r .line) (s .now) ∙ ap (λ (n : ℕ). settled n 0 i) (sym (ap (λ (r : Recovery). r .number) (s .now)) ∙ z);
-        listed = subst (λ (r : Recovery). r .number ≤ 9) (sym (s .now)) (refusals (R i .image) (S i .command) (S i .lent) .listed);
+        listed = subst (λ (r : Recovery). r .number ≤ 17) (sym (s .now)) (at-most (refusals (R i .image) (S i .command) (S i .lent) .listed));
         later = λ f n. subst (λ (r : Recovery). 1 ≤ r .line) (sym (s .now)) (above i s f (λ z. n (ap (λ (r : Recovery). r .number) (s .now) ∙ z)));
       }
 

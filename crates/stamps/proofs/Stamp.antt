@@ -1,14 +1,14 @@
 -- Laws of stamps, pairs and staleness. Assumes nothing.
-use Prim.Native.Nat.{ℕ, _+_, _*_, _/_, _≤_, _<_, max}
+use Prim.Native.Nat.{ℕ, _+_, _*_, _-_, _/_, _≤_, _<_, max}
 use native.Mathlib.Omega.{arith}
-use mathlib.Core.Path.{_≡_, sym, subst, _∙_}
+use mathlib.Core.Path.{_≡_, sym, ap, subst, _∙_}
 use mathlib.Core.Logic.{_⊎_, inl, inr}
-use mathlib.Core.Bool.{true, false, _&&_}
-use borrow.Author.Tests.{ltb-true, ltb-false, ne-eqb, eqb-true, eqb-false, not-true}
-use lib.Dec.{T, ltb, eqb, lt→ltb, ltb→lt}
+use mathlib.Core.Bool.{true, false, not, _&&_}
+use borrow.Author.Tests.{ltb-true, ltb-false, lt-ltb, le-ltb, le-leb, lt-leb, ne-eqb, eqb-true, eqb-false, not-true}
+use lib.Dec.{T, ltb, leb, eqb, lt→ltb, ltb→lt}
 use Rattle.lists.specs.Table.{all}
-use Rattle.lists.proofs.Tests.{cases, not-in, or-right, or-cases, all-out, T-and, T-and-left, T-and-right, T-or-left, T-or-right, T-or-cases}
-use Rattle.stamps.specs.Stamp.{stamp, deskNumber, deskStart, stampValid, shared, exclusive, own, sessionChecks, stale, largerOfEach}
+use Rattle.lists.proofs.Tests.{cases, not-in, or-right, or-cases, or-fails, all-out, T-and, T-and-left, T-and-right, T-or-left, T-or-right, T-or-cases}
+use Rattle.stamps.specs.Stamp.{stamp, stampT, deskNumber, deskStart, stampValid, shared, exclusive, own, sessionChecks, stale, mostAhead, stampTooFar, tooFar, largerOfEach}
 use Rattle.stamps.specs.declared.Pair.{Pair}
 
 -- The parts of a stamp T.desk.start, for a desk and a start of 16 bits.
@@ -19,7 +19,7 @@ module _ (t : ℕ) {desk start : ℕ} (d : desk < 65536) (i : start < 65536) whe
   pub stamp-desk : deskNumber (stamp t desk start) ≡ desk
   stamp-desk = omega arith
 
-  pub stamp-t : stamp t desk start / 4294967296 ≡ t
+  pub stamp-t : stampT (stamp t desk start) ≡ t
   stamp-t = omega arith
 
   pub stamp-valid : (desk ≡ 0 → ⊥) → stampValid (stamp t desk start) ≡ true
@@ -49,6 +49,39 @@ stale-more mode {stored} {more} new hs hx t = go (T-or-cases (ltb (new .x) (stor
         T-or-right (ltb (new .x) (more .x)) (eqb mode exclusive && ltb (new .s) (more .s))
         (T-and (eqb mode exclusive) (ltb (new .s) (more .s)) (T-and-left (eqb mode exclusive) (ltb (new .s) (stored .s)) s)
         (lt→ltb (new .s) (more .s) (omega (arith, ltb→lt (new .s) (stored .s) (T-and-right (eqb mode exclusive) (ltb (new .s) (stored .s)) s)))))
+
+-- No stamp is never too far ahead: the rule's word "nonzero" needs no test of its own.
+pub zero-near : (stored : ℕ) → stampTooFar stored 0 ≡ false
+zero-near stored = le-ltb (stampT stored + mostAhead) (stampT 0) (omega arith)
+
+-- A stamp with a T beyond the most is in reach of the numbers above one edge, and too far ahead of all others.
+module _ (new : ℕ) (h : mostAhead < stampT new) where
+  abbrev pub edge : ℕ
+  edge = (stampT new - mostAhead) * 4294967296 - 1
+
+  pub reach-above : (n : ℕ) → leb (stampT new) (stampT n + mostAhead) ≡ ltb edge n
+  reach-above n = go (cases (ltb edge n))
+    where
+      go : (ltb edge n ≡ true) ⊎ (ltb edge n ≡ false) → leb (stampT new) (stampT n + mostAhead) ≡ ltb edge n
+      go (inl e) = le-leb (stampT new) (stampT n + mostAhead) (omega (arith, ltb-true edge n e)) ∙ sym e
+      go (inr e) = lt-leb (stampT new) (stampT n + mostAhead) (omega (arith, ltb-false edge n e)) ∙ sym e
+
+  pub far-below : (n : ℕ) → stampTooFar n new ≡ not (ltb edge n)
+  far-below n = go (cases (ltb edge n))
+    where
+      go : (ltb edge n ≡ true) ⊎ (ltb edge n ≡ false) → stampTooFar n new ≡ not (ltb edge n)
+      go (inl e) = le-ltb (stampT n + mostAhead) (stampT new) (omega (arith, ltb-true edge n e)) ∙ sym (ap not e)
+      go (inr e) = lt-ltb (stampT n + mostAhead) (stampT new) (omega (arith, ltb-false edge n e)) ∙ sym (ap not e)
+
+-- What is not too far ahead raises no T by more than the most.
+pub near-raises : (old new : Pair) → tooFar old new ≡ false
+    → (stampT (largerOfEach old new .s) ≤ stampT (old .s) + mostAhead) × (stampT (largerOfEach old new .x) ≤ stampT (old .x) + mostAhead)
+near-raises old new h =
+    let both = or-fails (stampTooFar (old .s) (new .s)) (stampTooFar (old .x) (new .x)) h in
+    (raised (old .s) (new .s) (both .0), raised (old .x) (new .x) (both .1))
+  where
+    raised : (a b : ℕ) → stampTooFar a b ≡ false → stampT (max a b) ≤ stampT a + mostAhead
+    raised a b e = omega (arith, ltb-false (stampT a + mostAhead) (stampT b) e)
 
 -- The larger of each is at least both.
 pub larger-old : (old new : Pair) → (old .s ≤ largerOfEach old new .s) × (old .x ≤ largerOfEach old new .x)

@@ -1,1 +1,2 @@
 pub mod Stamp
+pub mod Cases

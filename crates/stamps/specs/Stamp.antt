@@ -1,4 +1,4 @@
--- Stamps, pairs, modes, desks and commit marks (rules 1.1 to 1.7), and what number 3 and number 4 compare (rules 4.2 and 4.3).
+-- Stamps, pairs, modes, desks and commit marks (rules 1.1 to 1.7), and what the numbers 3, 17 and 4 compare (rules 4.2, 4.9 and 4.3).
 -- Assumes nothing.
 use Prim.Native.Nat.{ℕ, _+_, _*_, _/_, _%_, _<_, max}
 use mathlib.Core.List.{List, [], _∷_}
@@ -10,6 +10,10 @@ use Rattle.stamps.specs.declared.Pair.{Pair}
 -- A stamp of its three parts (rule 1.1). Minuet: a timestamp T.cliID.incNum.
 abbrev pub stamp : ℕ → ℕ → ℕ → ℕ
 stamp t desk start = t * 4294967296 + desk * 65536 + start
+
+-- The T of a stamp, its high 32 bits.
+abbrev pub stampT : ℕ → ℕ
+stampT n = n / 4294967296
 
 -- The desk of a stamp: Minuet's client identifier.
 abbrev pub deskNumber : ℕ → ℕ
@@ -56,6 +60,18 @@ MALFORMED = 1
 -- Minuet: EBADSESSION.
 abbrev pub stale : ℕ → Pair → Pair → Bool
 stale mode stored new = ltb (new .x) (stored .x) || eqb mode exclusive && ltb (new .s) (stored .s)
+
+-- Rule 4.9: the most by which the T of a stamp may be above the T of the stored one.
+abbrev pub mostAhead : ℕ
+mostAhead = 1000000
+
+-- A stamp is too far ahead of the stored one: its T is above the stored T by more than that. Zero, no stamp, has T 0 and is never too far ahead.
+abbrev pub stampTooFar : ℕ → ℕ → Bool
+stampTooFar stored new = ltb (stampT stored + mostAhead) (stampT new)
+
+-- A pair is too far ahead: one of its stamps is, of the stored one on its own side, whatever the mode.
+abbrev pub tooFar : Pair → Pair → Bool
+tooFar stored new = stampTooFar (stored .s) (new .s) || stampTooFar (stored .x) (new .x)
 
 -- The larger of each stamp (rule 4.4): what an accepted command makes of the stored pair, in an entry and in the lock queue.
 abbrev pub largerOfEach : Pair → Pair → Pair

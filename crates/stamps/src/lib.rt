@@ -1,8 +1,8 @@
-// Stamps, pairs of stamps and commit marks: what a session is named by, when a pair is stale, and what the stored pair becomes.
+// Stamps, pairs of stamps and commit marks: what a session is named by, when a pair is stale or too far ahead, and what the stored pair becomes.
 ghost use mathlib.Core.Path.{_≡_};
 ghost use Prim.Native.Nat.{max};
 ghost use Rattle.lists.specs.Table.{all};
-ghost use Rattle.stamps.specs.Stamp.{stampValid, own, deskOf, sessionChecks, stale, largerOfEach, markWhole, markFits};
+ghost use Rattle.stamps.specs.Stamp.{stampValid, own, deskOf, sessionChecks, stale, stampTooFar, tooFar, largerOfEach, markWhole, markFits};
 
 // A shared stamp s and an exclusive stamp x (Minuet: a session identifier). Zero means none.
 pub struct Pair {
@@ -30,6 +30,9 @@ pub const STARTS: u64 = 65536;
 const DESKS: u64 = 65536;
 
 pub const DESK_STARTS: u64 = 4294967296;
+
+// The most by which the T of a stamp may be above the T of the stored one.
+const MOST_AHEAD: u64 = 1000000;
 
 // Whether a stamp is valid: zero, or one with a desk of at least 1.
 pub fn stamp_valid(n: u64) -> bool
@@ -70,6 +73,20 @@ pub fn stale(mode: u8, stored: Pair, new: Pair) -> bool
     ensures { λ r. ⌜ r ≡ stale mode stored new ⌝ }
 {
     (new.x < stored.x) | ((mode == EXCLUSIVE) & (new.s < stored.s))
+}
+
+// Whether a stamp is too far ahead of the stored one, by their T alone.
+fn stamp_too_far(stored: u64, new: u64) -> bool
+    ensures { λ r. ⌜ r ≡ stampTooFar stored new ⌝ }
+{
+    stored / DESK_STARTS + MOST_AHEAD < new / DESK_STARTS
+}
+
+// Whether a stamp of a pair is too far ahead of the stored one on its side.
+pub fn too_far(stored: Pair, new: Pair) -> bool
+    ensures { λ r. ⌜ r ≡ tooFar stored new ⌝ }
+{
+    stamp_too_far(stored.s, new.s) | stamp_too_far(stored.x, new.x)
 }
 
 // Whether a commit mark is both zero or both not.

@@ -2,6 +2,7 @@
 
 use second::generate;
 use second::random::Random;
+use second::stamp::{time, MOST_AHEAD};
 use second::{Act, Command, CommandFields, Entry, Language, Layout, Pair};
 
 use crate::coverage::{Kind, Run};
@@ -85,15 +86,40 @@ fn off_by_one(random: &mut Random, image: &[u8]) -> Vec<u8> {
     fields.followed_by(&command[52..])
 }
 
+/// A fitting command with stamps near the limit above the stored ones: on one
+/// side or on both, on a card of which some keep no stamp.
+fn near_limit(random: &mut Random, image: &[u8]) -> Vec<u8> {
+    let command = generate::fitting_command(random, image);
+    let (Some(mut fields), Some((_, stored))) =
+        (CommandFields::from_bytes(&command), about(image, &command))
+    else {
+        return command;
+    };
+    let more = random.pick(&generate::NEAR_LIMIT);
+    let own = |stamp, kept: u64| if kept == 0 { stamp } else { kept };
+    let Pair { s, x } = stored.pair;
+    let (far_s, far_x) = (
+        generate::ahead(random, s, more),
+        generate::ahead(random, x, more),
+    );
+    fields.pair = match random.below(3) {
+        0 => Pair::new(far_s, own(fields.pair.x, x)),
+        1 => Pair::new(own(fields.pair.s, s), far_x),
+        _ => Pair::new(far_s, far_x),
+    };
+    fields.followed_by(&command[52..])
+}
+
 /// Single commands on sound images near the edges.
 pub fn singles(run: &mut Run, random: &mut Random) -> Compared<()> {
     for _ in 0..100 {
         let mut image = generate::sound_image(random);
         for _ in 0..3 {
-            let command = match random.below(8) {
+            let command = match random.below(9) {
                 0 => carrying(random, &image),
                 1 => generate::command(random, &image),
                 2 => off_by_one(random, &image),
+                3 => near_limit(random, &image),
                 _ => generate::fitting_command(random, &image),
             };
             let lent = reply_near(random, &image, &command);
@@ -102,6 +128,7 @@ pub fn singles(run: &mut Run, random: &mut Random) -> Compared<()> {
             run.seen(Kind::Singles);
             note_edges(run, &before, &command, lent.len());
             note_bits(run, &command, told.number);
+            note_ahead(run, &before, &command, told.number);
         }
     }
     Ok(())
@@ -154,6 +181,47 @@ fn note_edges(run: &mut Run, image: &[u8], command: &[u8], lent: usize) {
     );
 }
 
+/// Counts the stamps near the limit above the stored ones, of commands that
+/// are not stale, and how 17 stands to the rows around it.
+fn note_ahead(run: &mut Run, image: &[u8], bytes: &[u8], number: u8) {
+    let Some((command, stored)) = about(image, bytes) else {
+        return;
+    };
+    let above = |new: u64, old: u64| i64::from(time(new)) - i64::from(time(old));
+    let (s, x) = (
+        above(command.pair.s, stored.pair.s),
+        above(command.pair.x, stored.pair.x),
+    );
+    let most = i64::from(MOST_AHEAD);
+    let stale = command.mode.is_below(command.pair, stored.pair);
+    if stale {
+        if s > most || x > most {
+            run.seen_at(Kind::AheadOrder, 0);
+        }
+        return;
+    }
+    let limit = [most - 1, most, most + 1].map(Some);
+    if s == x {
+        note(run, Kind::AheadBoth, s, &limit);
+    } else if x < most - 1 {
+        note(run, Kind::AheadShared, s, &limit);
+    } else if s < most - 1 {
+        note(run, Kind::AheadExclusive, x, &limit);
+    }
+    if stored.pair.s == 0 {
+        note(run, Kind::AheadFreshShared, s, &limit);
+    }
+    if stored.pair.x == 0 {
+        note(run, Kind::AheadFreshExclusive, x, &limit);
+    }
+    if number == 17 && !command.expected.passes(stored.mark) {
+        run.seen_at(Kind::AheadOrder, 1);
+    }
+    if number == 0 && s < -most {
+        run.seen(Kind::FarBelow);
+    }
+}
+
 /// Counts top bits that are accepted, and payloads of non-writes.
 fn note_bits(run: &mut Run, bytes: &[u8], number: u8) {
     let Some(fields) = CommandFields::from_bytes(bytes) else {
@@ -193,7 +261,7 @@ pub fn replies(run: &mut Run, random: &mut Random) -> Compared<()> {
         false => Language::Translation,
     };
     let mut own = |stamp: u64| match stamp {
-        0 => generate::valid_stamp(random),
+        0 => generate::early_stamp(random),
         _ => stamp,
     };
     let pair = Pair::new(own(stored.pair.s), own(stored.pair.x));

@@ -27,6 +27,13 @@ kinds! {
     Marks 5 ".. with the stored mark, its desk one below, above, its transaction one below, above"
     SharedStamps 3 ".. with the stored s, one below, one above"
     ExclusiveStamps 3 ".. with the stored x, one below, one above"
+    AheadShared 3 ".. in time, with a T 999,999, 1,000,000, 1,000,001 above the stored s, alone"
+    AheadExclusive 3 ".. in time, .. above the stored x, alone"
+    AheadBoth 3 ".. in time, .. above the stored s and x"
+    AheadFreshShared 3 ".. in time, .. on a card that keeps no s"
+    AheadFreshExclusive 3 ".. in time, .. on a card that keeps no x"
+    AheadOrder 2 ".. too far ahead: stale as well, refused with 17 though the mark is wrong too"
+    FarBelow 1 ".. accepted, with an s more than 1,000,000 below the stored one"
     Replies 4 ".. reading into a buffer of no bytes, one short of the text, as long, one past"
     TopBits 4 ".. accepted, with the top bit of a transaction, commit desk, stamp's T, stamp's desk"
     Carrying 1 ".. refused with 1, non-writes that carry a payload"
@@ -43,10 +50,12 @@ kinds! {
     MadeBeyond 9 ".. refused beyond them at their own length, by shape"
     CommandBytes 52 "commands refused with 1 or 2 by one byte of the 52"
     CommandLengths 2 "commands too short, too long"
-    Lists 3 "lists from a fresh image, by strict desks, by loose desks, by anyone"
+    Lists 4 "lists from a fresh image, by strict desks, by loose desks, by anyone, by desks whose clocks jump"
     Listed 1 "commands in these lists"
     LargeLists 3 "lists from fresh images at the limits: demand 3, beside the history engine, with recoveries"
     Late 2 "demand 3: commands that come late, and that do not"
+    Ahead 2 "demand 3: commands in time from too far ahead, and that are not"
+    AheadRead 2 "demand 3: .. reads of a translation that is behind, and that is not, left out as too far ahead"
     Behind 2 "demand 3: reads of a translation that is behind, and that is not"
     Shown 2 "demand 3: accepted reads of a text written, of none"
     Premise 2 "demand 3: cards with the premise, not idle, and without it"
@@ -92,7 +101,7 @@ kinds! {
     LogBodies 1 ".. by a byte of a body"
     StillGood 1 "redo logs changed and still good"
     AnyLogs 1 "any bytes as log, image and pairs"
-    Recoveries 8 "recoveries answered 0, 1, 2, 3, 5, 7, 9, 23"
+    Recoveries 9 "recoveries answered 0, 1, 2, 3, 5, 7, 9, 17, 23"
     RecoveredTexts 2 "texts after a recovery: of a committed update, as before"
     RecoveredTwice 1 "recoveries run twice, neither refused"
     RecoveryWrites 2 "recovery's writes in demand 3's list: accepted, refused"
@@ -127,7 +136,8 @@ const MOST: usize = 26;
 
 /// The numbers that some operation gives today.
 pub const GIVEN: &[usize] = &[
-    0, 1, 2, 3, 4, 5, 6, 7, 8, 9, 10, 11, 12, 13, 14, 15, 16, 18, 19, 20, 21, 22, 23, 24, 25, 26,
+    0, 1, 2, 3, 4, 5, 6, 7, 8, 9, 10, 11, 12, 13, 14, 15, 16, 17, 18, 19, 20, 21, 22, 23, 24, 25,
+    26,
 ];
 
 /// What was run.
@@ -187,7 +197,7 @@ impl Run {
             let each: Vec<String> = counts.iter().map(u64::to_string).collect();
             let more = match size {
                 1 => String::new(),
-                2..=8 | 13 => format!(": {}", each.join(", ")),
+                2..=9 | 13 => format!(": {}", each.join(", ")),
                 _ => format!(": each of {size}, {least} times or more"),
             };
             let _ = writeln!(table, "{sum:>12}  {text}{more}");

@@ -2,7 +2,7 @@
 //! what was answered, and the reply buffers. Nothing here looks at an image.
 
 use second::stamp::desk_and_start;
-use second::{Act, Command, Language, Mark, Mode};
+use second::{Act, Command, Language, Mark, Mode, Pair};
 
 use crate::coverage::{Kind, Run};
 use crate::proved::Answer;
@@ -72,6 +72,19 @@ impl<'a> List<'a> {
             let larger_s = before.pair.s > command.pair.s;
             before.pair.x > command.pair.x || command.mode == Mode::Exclusive && larger_s
         })
+    }
+
+    /// Whether a stamp of the command that is not zero has a T more than
+    /// 1,000,000 above the largest T that was accepted before for its card on
+    /// that side, which is 0 where there was none.
+    fn far_ahead(&self, at: usize, command: &Command) -> bool {
+        let far = |side: fn(Pair) -> u64| {
+            let before = self.earlier(at, command.card);
+            let largest = before.map(|before| side(before.pair) >> 32).max();
+            let own = side(command.pair);
+            own != 0 && own >> 32 > largest.unwrap_or(0) + 1_000_000
+        };
+        far(|pair| pair.s) || far(|pair| pair.x)
     }
 
     /// The expected mark passes the next mark of the last earlier accepted
@@ -185,6 +198,7 @@ pub fn holds(cards: u16, events: &[Event], run: &mut Run) -> Result<(), String> 
         let formed = list.commands[at].as_ref();
         if let Some(command) = formed.filter(|command| command.card < cards) {
             staleness(&list, at, command, run).map_err(told)?;
+            aheadness(&list, at, command, run).map_err(told)?;
             behindness(&list, at, command, run).map_err(told)?;
         }
         showing(&list, at, run).map_err(told)?;
@@ -214,6 +228,16 @@ fn staleness(list: &List, at: usize, command: &Command, run: &mut Run) -> Result
     spoken(run, Kind::Late, late, holds, sentence)
 }
 
+fn aheadness(list: &List, at: usize, command: &Command, run: &mut Run) -> Result<(), &'static str> {
+    if list.late(at, command) {
+        return Ok(());
+    }
+    let far = list.far_ahead(at, command);
+    let holds = far == (list.events[at].number == 17);
+    let sentence = "in time, refused with 17 exactly when it comes from too far ahead";
+    spoken(run, Kind::Ahead, far, holds, sentence)
+}
+
 fn behindness(
     list: &List,
     at: usize,
@@ -225,6 +249,10 @@ fn behindness(
         return Ok(());
     }
     let behind = list.behind(at, command.card);
+    if list.far_ahead(at, command) {
+        run.seen_at(Kind::AheadRead, usize::from(!behind));
+        return Ok(());
+    }
     let holds = behind == (list.events[at].number == 6);
     let sentence = "a translation's read is refused as behind exactly when it is behind";
     spoken(run, Kind::Behind, behind, holds, sentence)

@@ -131,7 +131,7 @@ fn note(run: &mut Run, before: &History, command: &[u8], number: u8) {
     }
     match (number, many, long) {
         (22, true, _) if before.count() == MOST_KEPT => run.seen_at(Kind::HistoryEdges, 1),
-        (3..=8, true, _) | (3..=8, _, true) => run.seen(Kind::HistoryOrder),
+        (3..=8 | 17, true, _) | (3..=8 | 17, _, true) => run.seen(Kind::HistoryOrder),
         _ => {}
     }
     if number == 22 {
@@ -149,7 +149,7 @@ fn willing(random: &mut Random, image: &[u8], length: usize) -> Vec<u8> {
     let stored = layout.and_then(|layout| layout.entry(image, card));
     let stored = stored.unwrap_or_default();
     let mut own = |stamp: u64| match stamp {
-        0 => generate::valid_stamp(random),
+        0 => generate::early_stamp(random),
         _ => stamp,
     };
     let pair = Pair::new(own(stored.pair.s), own(stored.pair.x));

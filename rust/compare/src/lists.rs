@@ -10,7 +10,7 @@ use crate::coverage::{Kind, Run};
 use crate::demand3::{self, Event};
 use crate::images;
 use crate::run::{bytes, Compared};
-use crate::sessions::Desks;
+use crate::sessions::{self, Desks};
 
 /// Who sends the list.
 #[derive(Clone, Copy, PartialEq, Eq)]
@@ -21,11 +21,19 @@ enum Sender {
     Loose,
     /// Anyone: commands of any sort.
     Anyone,
+    /// Desks whose clocks jump: each stamp is at most a little past the limit
+    /// above what the card keeps.
+    Jumping,
 }
 
 /// A list of each sender from a fresh image of a random shape.
 pub fn any(run: &mut Run, random: &mut Random) -> Compared<()> {
-    let senders = [Sender::Strict, Sender::Loose, Sender::Anyone];
+    let senders = [
+        Sender::Strict,
+        Sender::Loose,
+        Sender::Anyone,
+        Sender::Jumping,
+    ];
     for (at, sender) in senders.into_iter().enumerate() {
         let large = random.one_in(20);
         let (cards, room) = match large {
@@ -39,6 +47,7 @@ pub fn any(run: &mut Run, random: &mut Random) -> Compared<()> {
         for _ in 0..random.between(10, 70) {
             let command = match sender {
                 Sender::Anyone => generate::command(random, &image),
+                Sender::Jumping => sessions::jumping(random, &image),
                 _ => desks.command(random, &image),
             };
             let lent = reply_near(random, &image, &command);

@@ -3,7 +3,7 @@
 
 use std::collections::BTreeMap;
 
-use second::generate::{self, valid_stamp};
+use second::generate::{self, early_stamp, valid_stamp};
 use second::log::{ReadBack, Record, BODIES, LINE_BYTES, LOG_LIMIT, OTHER_STORES, RECORDS};
 use second::random::Random;
 use second::recovery::recover_by;
@@ -149,7 +149,7 @@ fn recover(run: &mut Run, log: &[u8], image: &mut [u8], pairs: &Pairs) -> Compar
     let quiet = matches!(proved.number, 0 | 23);
     same("line 0", proved.line == 0, quiet, input)?;
     run.number(proved.number);
-    let numbers = [0, 1, 2, 3, 5, 7, 9, 23];
+    let numbers = [0, 1, 2, 3, 5, 7, 9, 17, 23];
     let at = numbers.iter().position(|number| *number == proved.number);
     let none = || Err(format!("recovery answered {}\n{}", proved.number, input()));
     at.map_or_else(none, |at| {
@@ -221,11 +221,14 @@ fn pairs_for(random: &mut Random, image: &[u8]) -> Pairs {
     for card in 0..=cards {
         let stored = layout.and_then(|layout| layout.entry(image, card));
         let stored = stored.unwrap_or_default().pair;
-        let newer = stored.larger(second::Pair::new(valid_stamp(random), valid_stamp(random)));
-        let pair = match random.below(10) {
+        let newer = stored.larger(second::Pair::new(early_stamp(random), early_stamp(random)));
+        let more = random.pick(&generate::NEAR_LIMIT);
+        let pair = match random.below(12) {
             0 => stored,
             1 => second::Pair::new(random.pick(&[0, 1]), 0),
             2 => second::Pair::new(0, valid_stamp(random)),
+            3 => stored.larger(second::Pair::new(valid_stamp(random), valid_stamp(random))),
+            4 => second::Pair::new(newer.s, generate::ahead(random, stored.x, more)),
             _ => newer,
         };
         pairs.0.push(pair.s);

@@ -69,7 +69,7 @@ pub fn sound(image: &[u8]) -> bool {
 /// The number and the seven reply fields.
 #[derive(Clone, Copy, Debug, PartialEq, Eq)]
 pub struct Answer {
-    /// The number, 0 to 9.
+    /// The number, 0 to 9 or 17.
     pub number: u8,
     /// s, x, commit desk, transaction, edition, translated-from, length.
     pub fields: [u64; 7],

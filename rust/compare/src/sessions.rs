@@ -72,6 +72,27 @@ impl Desks {
     }
 }
 
+/// A command of a desk whose clock jumps: its own stamp, and now and then the
+/// other one, is as old as the stored one, a little newer, or near the limit
+/// above it.
+pub fn jumping(random: &mut Random, image: &[u8]) -> Vec<u8> {
+    let cards = Layout::of_header(image).map_or(1, Layout::cards);
+    let card = random.index(cards) as u16;
+    let mode = random.pick(&[1, 1, 2]);
+    let mut pair = stored(image, card).pair;
+    let limit = random.pick(&generate::NEAR_LIMIT);
+    let more = random.pick(&[0, 0, 1, 1, 2, limit]);
+    let (own, other) = match mode {
+        1 => (&mut pair.s, &mut pair.x),
+        _ => (&mut pair.x, &mut pair.s),
+    };
+    *own = generate::ahead(random, *own, more);
+    if random.one_in(8) {
+        *other = generate::ahead(random, *other, limit);
+    }
+    sent(random, image, Open { card, mode, pair })
+}
+
 fn stored(image: &[u8], card: u16) -> Entry {
     let entry = Layout::of_header(image).and_then(|layout| layout.entry(image, card));
     entry.unwrap_or_default()

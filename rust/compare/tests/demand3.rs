@@ -76,6 +76,52 @@ fn a_translation_not_behind_that_is_refused() {
     assert!(with_number(4, 6).is_err());
 }
 
+/// A list with reads of a translation at the limit and past it.
+fn far_list() -> Vec<Vec<u8>> {
+    let read = |time| command(READ_TRANSLATION, SHARED, Pair::new(at(time, 2), at(1, 1)));
+    vec![
+        write_original(a_prime(), b"first"),
+        read(1_000_002),
+        read(1_000_001),
+        write_translation(a_prime(), 1, b"premier"),
+        read(1_000_002),
+        read(1_000_001),
+        read(2_000_001),
+        read(3_000_002),
+    ]
+}
+
+/// The list past the limit with another number at one place.
+fn far_with(at: usize, number: u8) -> Result<(), String> {
+    let mut events = events(&far_list());
+    events[at].number = number;
+    says(&events)
+}
+
+#[test]
+fn stamps_from_too_far_ahead() {
+    let events = events(&far_list());
+    let numbers: Vec<u8> = events.iter().map(|event| event.number).collect();
+    assert_eq!(numbers, [0, 17, 6, 0, 17, 0, 0, 17]);
+    assert_eq!(says(&events), Ok(()));
+}
+
+#[test]
+fn a_command_from_too_far_ahead_that_is_not_refused_with_17() {
+    for number in [0, 3, 4, 6, 8] {
+        assert!(far_with(1, number).is_err());
+        assert!(far_with(4, number).is_err());
+        assert!(far_with(7, number).is_err());
+    }
+}
+
+#[test]
+fn a_command_in_reach_that_is_refused_with_17() {
+    for at in [0, 2, 3, 5, 6] {
+        assert!(far_with(at, 17).is_err());
+    }
+}
+
 #[test]
 fn another_text_shown() {
     for (at, length) in [(1, 5), (4, 7), (7, 7)] {

@@ -5,6 +5,7 @@
 
 use crate::random::Random;
 use crate::short::{fresh, put_card, Kept};
+use crate::stamp::{time, MOST_AHEAD};
 use crate::{CommandFields, Entry, Layout, Mark, Pair, Place};
 
 /// A few stamps that are often equal or near, some of them not valid.
@@ -19,7 +20,32 @@ pub fn any_stamp(random: &mut Random) -> u64 {
 
 /// A stamp with a desk; few desks and few times, so that they meet.
 pub fn valid_stamp(random: &mut Random) -> u64 {
-    let time = random.pick(&[0, 1, 1, 2, 2, 3, u32::MAX]);
+    stamp_of(random, &[0, 1, 1, 2, 2, 3, u32::MAX])
+}
+
+/// A stamp with a desk that no card finds too far ahead.
+pub fn early_stamp(random: &mut Random) -> u64 {
+    stamp_of(random, &[0, 1, 1, 2, 2, 3, MOST_AHEAD])
+}
+
+/// A stamp whose T is by so much above that of another, of its desk and start
+/// or of any; the other one where there is no such T.
+pub fn ahead(random: &mut Random, stamp: u64, more: u32) -> u64 {
+    let Some(time) = time(stamp).checked_add(more) else {
+        return stamp;
+    };
+    match stamp != 0 && random.one_in(2) {
+        true => stamp + (u64::from(more) << 32),
+        false => stamp_of(random, &[time]),
+    }
+}
+
+/// How much a T near the limit is above the stored one.
+pub const NEAR_LIMIT: [u32; 3] = [MOST_AHEAD - 1, MOST_AHEAD, MOST_AHEAD + 1];
+
+/// A stamp with one of these times.
+fn stamp_of(random: &mut Random, times: &[u32]) -> u64 {
+    let time = random.pick(times);
     let desk = random.pick(&[1, 1, 2, 3, 0x8000, u16::MAX]);
     let start = random.pick(&[0, 0, 0, 1, u16::MAX]);
     crate::stamp::stamp(time, desk, start)
@@ -33,15 +59,20 @@ fn stored_stamp(random: &mut Random) -> u64 {
     }
 }
 
-/// A stamp near this one, mostly valid if this one is.
+/// A stamp near this one, mostly valid if this one is, or near the limit above
+/// it.
 fn near(random: &mut Random, stamp: u64) -> u64 {
-    match random.below(12) {
+    match random.below(13) {
         0 => stamp.saturating_sub(1),
         1 => stamp.saturating_sub(1 << 32),
         2 => stamp.saturating_add(1),
         3 => stamp.saturating_add(1 << 32),
         4 => any_stamp(random),
         5 => valid_stamp(random),
+        6 => {
+            let more = random.pick(&NEAR_LIMIT);
+            ahead(random, stamp, more)
+        }
         _ => stamp,
     }
 }
@@ -51,7 +82,7 @@ fn near_pair(random: &mut Random, mode: u8, stored: Pair) -> Pair {
     let mut pair = Pair::new(near(random, stored.s), near(random, stored.x));
     let own = if mode == 1 { &mut pair.s } else { &mut pair.x };
     if *own == 0 && !random.one_in(8) {
-        *own = valid_stamp(random);
+        *own = early_stamp(random);
     }
     pair
 }

@@ -1,11 +1,13 @@
 //! The guard of one card: its entry takes a command and comes back as the new
 //! entry (sheet, "How the guard judges" and rows 3 to 8 of "When the store
-//! says no").
+//! says no", with 17 after 3).
 
 use crate::command::{Act, Command};
 use crate::entry::Entry;
 use crate::language::Language;
-use crate::number::{BEHIND, BUFFER_SHORT, LAST_EDITION, MARK_DIFFERS, PAYLOAD_TOO_LONG, STALE};
+use crate::number::{
+    BEHIND, BUFFER_SHORT, LAST_EDITION, MARK_DIFFERS, PAYLOAD_TOO_LONG, STALE, TOO_FAR_AHEAD,
+};
 
 impl Entry {
     /// The new entry if the command is accepted, else the number of the first
@@ -22,10 +24,12 @@ impl Entry {
         self.translated_from == 0 || self.translated_from != self.edition
     }
 
-    /// Rows 3 to 8, in the table's order.
+    /// Rows 3, 17 and 4 to 8, in the table's order.
     fn refusal(self, command: &Command, room: usize, reply_length: usize) -> Option<u8> {
         if command.mode.is_below(command.pair, self.pair) {
             Some(STALE)
+        } else if command.pair.is_too_far_ahead(self.pair) {
+            Some(TOO_FAR_AHEAD)
         } else if !command.expected.passes(self.mark) {
             Some(MARK_DIFFERS)
         } else if command.payload.len() > room {

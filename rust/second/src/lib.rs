@@ -9,7 +9,7 @@
 //! - [`stamp`], [`language`], [`entry`], [`image`]: stamps, pairs, the image
 //!   and its soundness, a fresh image.
 //! - [`command`], [`guard`](Entry::take), [`store`]: commands and the answers
-//!   0 to 9.
+//!   0 to 9 and 17.
 //! - [`desk`]: the text a desk shows.
 //! - [`texts`]: structured texts and whether two agree, numbers 18 to 20.
 //! - [`proposal`]: what a desk knows and proposes, numbers 1 and 16.

@@ -37,6 +37,8 @@ pub const NOT_MADE: u8 = 14;
 pub const NOT_STANDING: u8 = 15;
 /// The desk has no stamp of its own left above the one it knows.
 pub const NO_STAMP_LEFT: u8 = 16;
+/// A stamp's T is too far above that of the stored one.
+pub const TOO_FAR_AHEAD: u8 = 17;
 /// The first of two texts is ill formed.
 pub const FIRST_ILL_FORMED: u8 = 18;
 /// The second of two texts is ill formed.

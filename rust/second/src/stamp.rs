@@ -6,6 +6,21 @@ pub fn stamp(time: u32, desk: u16, start: u16) -> u64 {
     u64::from(time) << 32 | u64::from(desk) << 16 | u64::from(start)
 }
 
+/// By how much the T of a stamp may exceed the T of the stored one.
+pub const MOST_AHEAD: u32 = 1_000_000;
+
+/// The T of a stamp.
+pub fn time(stamp: u64) -> u32 {
+    (stamp >> 32) as u32
+}
+
+/// A stamp that is not zero is too far ahead if its T exceeds the T of the
+/// stored one by more than 1,000,000.
+fn is_too_far(stamp: u64, stored: u64) -> bool {
+    let more = time(stamp).checked_sub(time(stored));
+    stamp != 0 && more.is_some_and(|more| more > MOST_AHEAD)
+}
+
 /// A stamp is valid if it is zero (none) or its desk is at least 1.
 pub fn is_valid(stamp: u64) -> bool {
     stamp == 0 || desk_and_start(stamp) >> 16 >= 1
@@ -34,6 +49,11 @@ impl Pair {
     /// Whether both stamps are valid.
     pub fn is_valid(self) -> bool {
         is_valid(self.s) && is_valid(self.x)
+    }
+
+    /// Whether one of the two stamps is too far ahead of the same stored one.
+    pub fn is_too_far_ahead(self, stored: Pair) -> bool {
+        is_too_far(self.s, stored.s) || is_too_far(self.x, stored.x)
     }
 
     /// The larger of each stamp.

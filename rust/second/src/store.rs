@@ -36,7 +36,7 @@ impl ReplyFields {
     }
 }
 
-/// An answer: its number, 0 to 9, and the reply fields.
+/// An answer: its number, 0 to 9 or 17, and the reply fields.
 #[derive(Clone, Copy, Debug, Default, PartialEq, Eq, Hash)]
 pub struct Answer {
     /// The number of the row that applies.

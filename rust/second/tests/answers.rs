@@ -240,9 +240,13 @@ fn row_3_a_zero_stamp_is_below_every_other() {
 
 #[test]
 fn row_3_stamps_with_the_top_bit_are_large() {
-    let mut image = fresh(1, 16);
     let top = at(u32::MAX, u16::MAX);
     let newest = Pair::new(top, top);
+    let kept = Entry {
+        pair: newest,
+        ..entry(0, 0)
+    };
+    let mut image = one_card(kept, b"", b"");
     assert_eq!(number(&mut image, &command(VERIFY, EXCLUSIVE, newest)), 0);
     assert_eq!(
         number(&mut image, &command(VERIFY, EXCLUSIVE, a_prime())),
@@ -408,6 +412,81 @@ fn row_8_an_empty_text_needs_no_buffer() {
         let read = command(act, SHARED, a());
         assert_eq!(check::answer(&mut image.clone(), &read, &mut []).number, 0);
     }
+}
+
+/// The number that a command under this pair gets on a card that keeps a pair.
+fn ahead(mode: u8, stored: Pair, pair: Pair) -> u8 {
+    let kept = Entry {
+        pair: stored,
+        ..entry(3, 3)
+    };
+    number_on(&one_card(kept, b"", b""), &command(VERIFY, mode, pair))
+}
+
+#[test]
+fn row_17_each_side_by_itself() {
+    let stored = stored_pair();
+    let (s, x) = (1_000_005, 1_000_007);
+    for mode in [SHARED, EXCLUSIVE] {
+        for (more_s, more_x) in [(0, 0), (0, 1), (1, 0), (1, 1)] {
+            let pair = Pair::new(at(s + more_s, 1), at(x + more_x, 1));
+            let number = if more_s + more_x == 0 { 0 } else { 17 };
+            assert_eq!(ahead(mode, stored, pair), number, "{more_s} {more_x}");
+        }
+        assert_eq!(ahead(mode, stored, Pair::new(at(s, 1), stored.x)), 0);
+        assert_eq!(ahead(mode, stored, Pair::new(at(s + 1, 1), stored.x)), 17);
+        assert_eq!(ahead(mode, stored, Pair::new(stored.s, at(x, 1))), 0);
+        assert_eq!(ahead(mode, stored, Pair::new(stored.s, at(x + 1, 1))), 17);
+    }
+}
+
+#[test]
+fn row_17_on_a_fresh_card_with_one_stamp() {
+    let fresh = Pair::default();
+    for (time, number) in [(999_999, 0), (1_000_000, 0), (1_000_001, 17)] {
+        assert_eq!(ahead(SHARED, fresh, Pair::new(at(time, 1), 0)), number);
+        assert_eq!(ahead(EXCLUSIVE, fresh, Pair::new(0, at(time, 1))), number);
+    }
+    assert_eq!(ahead(SHARED, fresh, Pair::new(at(u32::MAX, 1), 0)), 17);
+}
+
+/// The T alone counts, not the desk and the start behind it.
+#[test]
+fn row_17_the_time_alone() {
+    let stored = |desk| Pair::new(second::stamp::stamp(9, desk, 0), 0);
+    let s = |time, desk, start| Pair::new(second::stamp::stamp(time, desk, start), 0);
+    let largest = s(1_000_009, u16::MAX, u16::MAX);
+    assert_eq!(ahead(SHARED, stored(1), largest), 0);
+    assert_eq!(ahead(SHARED, stored(u16::MAX), s(1_000_010, 1, 0)), 17);
+}
+
+/// A stamp below the stored one is not ahead of it, however far below.
+#[test]
+fn row_17_a_stamp_below() {
+    let stored = Pair::new(at(u32::MAX, 1), 0);
+    assert_eq!(ahead(SHARED, stored, Pair::new(at(1, 1), 0)), 0);
+}
+
+#[test]
+fn row_17_replies_the_entry_as_stored() {
+    let far = Pair::new(at(5, 5), at(1_000_008, 7));
+    let mut fields = accepted(READ_TRANSLATION, SHARED);
+    fields.pair = far;
+    let (mut image, mut reply) = (image(), [7; 20]);
+    let answer = check::answer(&mut image, &fields.with_payload(b""), &mut reply);
+    assert_eq!((answer.number, answer.fields.pair), (17, stored_pair()));
+}
+
+#[test]
+fn row_17_after_3_and_before_4() {
+    let mut command = accepted(VERIFY, EXCLUSIVE);
+    command.pair = Pair::new(at(4, 5), at(1_000_008, 7));
+    assert_eq!(judged(command, b""), 3, "3 before 17");
+    command.pair = Pair::new(at(5, 5), at(1_000_008, 7));
+    command.expected = Mark::default();
+    assert_eq!(judged(command, b""), 17, "17 before 4");
+    command.pair = Pair::new(at(5, 5), at(1_000_007, 7));
+    assert_eq!(judged(command, b""), 4);
 }
 
 /// Each command breaks two rows; the earlier one gives the number.

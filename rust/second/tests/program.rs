@@ -242,9 +242,14 @@ fn a_full_text_is_read() {
 #[test]
 fn the_largest_fields_are_printed_whole() {
     let most = u64::MAX;
-    let mut verify = fields(VERIFY, EXCLUSIVE, second::Pair::new(most, most));
+    let pair = second::Pair::new(most, most);
+    let mut verify = fields(VERIFY, EXCLUSIVE, pair);
     verify.next = second::Mark::new(u16::MAX, u32::MAX);
-    let image = one_card(entry(u16::MAX, u16::MAX), b"", b"");
+    let kept = second::Entry {
+        pair,
+        ..entry(u16::MAX, u16::MAX)
+    };
+    let image = one_card(kept, b"", b"");
     let expected = format!("cards 1\n1 0 {most} {most} 65535 4294967295 65535 65535 0\nend\n");
     assert_eq!(
         output(&input(&image, &[&verify.with_payload(b"")])),

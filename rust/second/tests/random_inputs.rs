@@ -14,7 +14,7 @@ use second::{
 
 /// How often each number came.
 #[derive(Default)]
-struct Numbers([u32; 16]);
+struct Numbers([u32; 18]);
 
 impl Numbers {
     fn count(&mut self, number: u8) {
@@ -42,7 +42,7 @@ fn answers_on_images_and_commands_of_any_sort() {
             numbers.count(answer.number);
         }
     }
-    numbers.assert_all_came(&[0, 1, 2, 3, 4, 5, 6, 7, 8, 9]);
+    numbers.assert_all_came(&[0, 1, 2, 3, 4, 5, 6, 7, 8, 9, 17]);
 }
 
 /// What a list of commands should show: for each card and language the
@@ -77,7 +77,7 @@ fn lists_from_a_fresh_image_show_the_last_accepted_write() {
             }
         }
     }
-    numbers.assert_all_came(&[0, 1, 2, 3, 4, 5, 6, 8]);
+    numbers.assert_all_came(&[0, 1, 2, 3, 4, 5, 6, 8, 17]);
 }
 
 #[test]
@@ -210,7 +210,7 @@ fn an_entry_takes_any_command() {
                 assert!(now.pair.s >= entry.pair.s.max(command.pair.s));
                 assert!(now.edition >= entry.edition);
             }
-            Err(number) => assert!((3..=8).contains(&number)),
+            Err(number) => assert!(matches!(number, 3..=8 | 17)),
         }
     }
 }

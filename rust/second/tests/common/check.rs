@@ -15,7 +15,7 @@ pub fn answer(image: &mut [u8], command: &[u8], reply: &mut [u8]) -> Answer {
         1 | 2 | 9 => {
             assert_eq!(answer.fields, ReplyFields::default());
         }
-        3..=8 => {
+        3..=8 | 17 => {
             let (stored, _) = entry_of(&image_before, command);
             assert_eq!(answer.fields, fields_of(stored, 0));
         }
@@ -31,10 +31,10 @@ pub fn answer(image: &mut [u8], command: &[u8], reply: &mut [u8]) -> Answer {
 
 /// The entry a well-formed command is about.
 fn entry_of(image: &[u8], command: &[u8]) -> (Entry, Layout) {
-    let layout = Layout::of_header(image).expect("rows 3 to 8 need a sound image");
-    let command = Command::parse(command).expect("rows 3 to 8 need a well-formed command");
+    let layout = Layout::of_header(image).expect("rows 3 on need a sound image");
+    let command = Command::parse(command).expect("rows 3 on need a well-formed command");
     let entry = layout.entry(image, command.card);
-    (entry.expect("rows 3 to 8 need a card"), layout)
+    (entry.expect("rows 3 on need a card"), layout)
 }
 
 fn fields_of(entry: Entry, length: u16) -> ReplyFields {
