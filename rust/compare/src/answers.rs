@@ -5,6 +5,7 @@ use second::random::Random;
 use second::{Act, Command, CommandFields, Entry, Language, Layout, Pair};
 
 use crate::coverage::{Kind, Run};
+use crate::pairs;
 use crate::proved::{self, Answer};
 use crate::run::{bytes, same, Compared};
 
@@ -102,6 +103,8 @@ pub fn singles(run: &mut Run, random: &mut Random) -> Compared<()> {
             run.seen(Kind::Singles);
             note_edges(run, &before, &command, lent.len());
             note_bits(run, &command, told.number);
+            let about = about(&before, &command);
+            pairs::note(run, &command, about.map(|(_, stored)| stored), told.number);
         }
     }
     Ok(())
@@ -143,13 +146,13 @@ fn note_edges(run: &mut Run, image: &[u8], command: &[u8], lent: usize) {
     note(
         run,
         Kind::SharedStamps,
-        command.pair.s,
+        command.verifier.s,
         &near(stored.pair.s),
     );
     note(
         run,
         Kind::ExclusiveStamps,
-        command.pair.x,
+        command.verifier.x,
         &near(stored.pair.x),
     );
 }
@@ -164,7 +167,8 @@ fn note_bits(run: &mut Run, bytes: &[u8], number: u8) {
         run.seen(Kind::Carrying);
     }
     let marks = [fields.expected, fields.next];
-    let stamps = [fields.pair.s, fields.pair.x];
+    let update = fields.update_pair();
+    let stamps = [fields.pair.s, fields.pair.x, update.s, update.x];
     let tops = [
         marks.iter().any(|mark| mark.transaction >> 31 == 1),
         marks.iter().any(|mark| mark.desk >> 15 == 1),

@@ -24,7 +24,7 @@ impl Entry {
 
     /// Rows 3 to 8, in the table's order.
     fn refusal(self, command: &Command, room: usize, reply_length: usize) -> Option<u8> {
-        if command.mode.is_below(command.pair, self.pair) {
+        if command.mode.is_below(command.verifier, self.pair) {
             Some(STALE)
         } else if !command.expected.passes(self.mark) {
             Some(MARK_DIFFERS)
@@ -61,7 +61,7 @@ impl Entry {
     /// The entry after an accepted command.
     fn accepted(self, command: &Command) -> Entry {
         let mut entry = self;
-        entry.pair = self.pair.larger(command.pair);
+        entry.pair = self.pair.larger(command.update);
         entry.mark = command.next;
         let length = u16::try_from(command.payload.len()).unwrap_or(u16::MAX);
         match command.act {
