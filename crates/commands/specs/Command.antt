@@ -37,7 +37,7 @@ verifier c = c .pair
 abbrev pub update : Command → Pair
 update c = cond (eqb (c .opened .s) 0 && eqb (c .opened .x) 0) (c .pair) (c .opened)
 
--- The rules of a verifier: valid stamps, zero or not, and none above the update pair's.
+-- The rules of a verifier (rule 3.3): valid stamps, zero or not, and none above the update pair's.
 abbrev pub verifierChecks : Command → List Bool
 verifierChecks c =
     stampValid (verifier c .s)
