@@ -158,17 +158,7 @@ pub fn trials(room: u64) -> Vec<Trial> {
     }
     all.push(Trial::new("P", case_p_steps()));
     all.extend(slips());
-    all.extend(sessions_opened());
-    all.extend(malformed_pairs().map(|(mode, verifier, update)| {
-        // What is malformed raises nothing.
-        let steps = vec![
-            opens(mode, verifier, update, 1),
-            step(command(VERIFY, SHARED, a()), 0)
-                .field(S, at(1, 1))
-                .field(X, 0),
-        ];
-        Trial::new("pairs", steps)
-    }));
+    all.extend(two_pairs());
     all
 }
 
@@ -320,64 +310,77 @@ fn opens(mode: u8, verifier: Pair, update: Pair, number: u8) -> Step {
     step(fields.with_payload(b""), number)
 }
 
-/// Sessions opened inside a command, and verifiers that come late.
-fn sessions_opened() -> Vec<Trial> {
-    let none = Pair::default();
+/// Sessions opened inside a command: out of no stamps and out of an older
+/// pair, which then is late.
+fn sessions_opened() -> Vec<Step> {
     let newer = Pair::new(at(1, 1), at(2, 1));
-    let third = Pair::new(at(3, 3), at(3, 3));
-    let mut first = fields(WRITE_ORIGINAL, EXCLUSIVE, none);
+    let mut first = fields(WRITE_ORIGINAL, EXCLUSIVE, Pair::default());
     first.update = a_prime();
-    let opened = vec![
+    vec![
         step(first.with_payload(b"205"), 0).all_fields([at(1, 1), at(1, 1), 0, 0, 1, 0, 0]),
         step(write_translation(a_prime(), 1, b"401"), 0),
         opens(EXCLUSIVE, a_prime(), newer, 0).all_fields([at(1, 1), at(2, 1), 0, 0, 1, 1, 0]),
         step(command(VERIFY, EXCLUSIVE, newer), 0),
         step(command(VERIFY, EXCLUSIVE, a_prime()), 3),
-    ];
-    let without_s = vec![
+    ]
+}
+
+/// Shared verifiers without s; the larger of each stamp is kept.
+fn without_s() -> Vec<Step> {
+    let verifier = Pair::new(0, at(1, 1));
+    let low = Pair::new(at(0, 3), at(1, 1));
+    let opened = |update| {
+        let step = opens(SHARED, verifier, update, 0);
+        step.field(S, at(2, 2)).field(X, at(1, 1))
+    };
+    vec![
         step(command(VERIFY, EXCLUSIVE, a_prime()), 0),
-        opens(SHARED, Pair::new(0, at(1, 1)), b(), 0)
-            .field(S, at(2, 2))
-            .field(X, at(1, 1)),
-        opens(
-            SHARED,
-            Pair::new(0, at(1, 1)),
-            Pair::new(at(0, 3), at(1, 1)),
-            0,
-        )
-        .field(S, at(2, 2))
-        .field(X, at(1, 1)),
-    ];
-    let late = vec![
+        opened(b()),
+        opened(low),
+    ]
+}
+
+/// Verifiers that come late, though their update pair would not.
+fn late_verifiers() -> Vec<Step> {
+    let newest = Pair::new(at(3, 3), at(3, 3));
+    let (old_x, old_s) = (b(), Pair::new(at(1, 1), at(2, 2)));
+    vec![
         step(command(VERIFY, EXCLUSIVE, b_prime()), 0),
-        opens(EXCLUSIVE, Pair::new(at(2, 2), at(1, 1)), third, 3).field(X, at(2, 2)),
-        opens(SHARED, Pair::new(at(2, 2), at(1, 1)), third, 3).field(S, at(2, 2)),
-        opens(EXCLUSIVE, Pair::new(at(1, 1), at(2, 2)), third, 3),
-        opens(SHARED, Pair::new(at(1, 1), at(2, 2)), third, 0)
-            .field(S, at(3, 3))
-            .field(X, at(3, 3)),
-    ];
-    let well_formed = [
+        opens(EXCLUSIVE, old_x, newest, 3).field(X, at(2, 2)),
+        opens(SHARED, old_x, newest, 3).field(S, at(2, 2)),
+        opens(EXCLUSIVE, old_s, newest, 3),
+        opens(SHARED, old_s, newest, 0).field(S, at(3, 3)),
+    ]
+}
+
+/// Commands with two pairs on a fresh card.
+fn two_pairs() -> Vec<Trial> {
+    let trial = |steps| Trial::new("pairs", steps);
+    let none = Pair::default();
+    let accepted = [
         (EXCLUSIVE, a_prime(), a_prime()),
         (EXCLUSIVE, Pair::new(at(2, 2) - 1, at(2, 2) - 1), b_prime()),
         (SHARED, none, Pair::new(at(2, 2), 0)),
         (EXCLUSIVE, none, Pair::new(0, at(2, 2))),
     ];
-    let stored = well_formed.map(|(mode, verifier, update)| {
+    let accepted = accepted.map(|(mode, verifier, update)| {
         let step = opens(mode, verifier, update, 0);
-        Trial::new("pairs", vec![step.field(S, update.s).field(X, update.x)])
+        trial(vec![step.field(S, update.s).field(X, update.x)])
+    });
+    let malformed = malformed_pairs().map(|(mode, verifier, update)| {
+        // What is malformed raises nothing.
+        let next = step(command(VERIFY, SHARED, a()), 0);
+        let next = next.field(S, at(1, 1)).field(X, 0);
+        trial(vec![opens(mode, verifier, update, 1), next])
     });
     let without_s = Trial {
         // 0.3.0 is not above the s of the exclusive command under 1.1.0.
         premise: false,
-        ..Trial::new("pairs", without_s)
+        ..trial(without_s())
     };
-    let mut all = vec![
-        Trial::new("pairs", opened),
-        without_s,
-        Trial::new("pairs", late),
-    ];
-    all.extend(stored);
+    let mut all = vec![trial(sessions_opened()), without_s, trial(late_verifiers())];
+    all.extend(accepted);
+    all.extend(malformed);
     all
 }
 

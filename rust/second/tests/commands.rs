@@ -293,3 +293,16 @@ fn the_session_of_an_update_pair() {
         assert_eq!((session.desk, session.pair), (desk, update));
     }
 }
+
+/// The second example of rule 3.4 in docs/RULES.md, to the byte.
+#[test]
+fn the_example_of_two_pairs() {
+    let mut bytes = vec![5, 1, 0, 0, 0, 0, 0, 0, 0, 0, 0, 0];
+    bytes.extend([0, 0, 1, 0, 1, 0, 0, 0]);
+    bytes.extend([0, 0, 2, 0, 2, 0, 0, 0]);
+    bytes.extend([0, 0, 1, 0, 1, 0, 0, 0]);
+    bytes.extend([0; 16]);
+    let command = Command::parse(&bytes).expect("well formed");
+    assert_eq!(command.verifier, Pair::new(0, at(1, 1)));
+    assert_eq!((command.update, command.desk), (b(), 2 << 16));
+}
