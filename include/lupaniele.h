@@ -13,7 +13,8 @@ uint8_t lupaniele_make(uint8_t *image, size_t image_length, uint64_t cards, uint
 bool lupaniele_sound(const uint8_t *image, size_t image_length);
 
 /* One request: the number, 0 to 9 or 17. fields: s, x, commit desk, transaction, edition, translated-from, length.
-   The text of an accepted read stands in the first `length` bytes of reply. */
+   The text of an accepted read stands in the first `length` bytes of reply. command: as rule 3.1 lays it out, the
+   verifier at 4, the update pair at 20 (rule 3.4). */
 uint8_t lupaniele_answer(uint8_t *image, size_t image_length, const uint8_t *command, size_t command_length,
                          uint8_t *reply, size_t reply_length, uint64_t fields[7]);
 

@@ -1,24 +1,25 @@
 -- A command in bytes. Assumes nothing.
 use Prim.Native.Nat.{ℕ, _+_, _≤_, _<_}
 use native.Mathlib.Omega.{arith}
-use mathlib.Core.Path.{_≡_, refl, sym, ap, subst, _∙_}
+use mathlib.Core.Path.{_≡_, refl, sym, ap, _∙_}
 use mathlib.Core.List.{List, [], _∷_, _++_}
 use mathlib.Core.Bool.{Bool, true, false, _&&_}
 use borrow.Author.Tests.{eqb-true, eq-eqb, ne-eqb}
-use lib.Dec.{eqb, lit<, lit≤}
-use lib.ListN.{length, drop, replicate, length-drop, take-append-drop}
+use lib.Dec.{eqb, lit≤}
+use lib.ListN.{length, drop, length-drop, take-append-drop}
 use lib.Seq.{drop-drop}
-use Rattle.lists.specs.Parts.{part, zeros, Bytes}
+use Rattle.lists.specs.Parts.{part, Bytes}
 use Rattle.lists.specs.Le.{le, toLe, field}
 use Rattle.lists.proofs.Tests.{and-in, and-left, and-right}
-use Rattle.lists.proofs.Bytes.{Bytes-cons, Bytes-nil, Bytes-append, Bytes-replicate, Bytes-drop, Bytes-part, zeros-means}
+use Rattle.lists.proofs.Bytes.{Bytes-cons, Bytes-nil, Bytes-append, Bytes-drop, Bytes-part}
 use Rattle.lists.proofs.Le.{le-toLe, toLe-le, le-part-bound, Bytes-toLe}
 use Rattle.lists.proofs.Parts.{length-part, drop-left}
 use Rattle.commands.specs.Command.{wellFormed, FitsCommand}
-use Rattle.commands.specs.Bytes.{fixed, markAt, markBytes, fieldsOf, payload, formed, parsed, commandBytes}
-use Rattle.stamps.specs.Stamp.{FitsMark}
+use Rattle.commands.specs.Bytes.{fixed, markAt, pairAt, markBytes, pairBytes, fieldsOf, payload, formed, parsed, commandBytes}
+use Rattle.stamps.specs.Stamp.{FitsPair, FitsMark}
 use Rattle.commands.specs.declared.Command.{Command}
 use Rattle.stamps.specs.declared.Mark.{Mark}
+use Rattle.stamps.specs.declared.Pair.{Pair}
 use Rattle.commands.specs.declared.Parsed.the-variants.{Malformed, Formed}
 
 -- A parse by the one test of the bytes.
@@ -35,29 +36,23 @@ pub formed-short : (bytes : List ℕ) → length bytes < fixed → formed bytes 
 unfolding formed
 formed-short bytes h = rw (ne-eqb (length bytes) (fixed + field 50 2 bytes) (λ e. omega arith))
 
--- The test of the bytes, for numbers and tests that were found in them.
-pub formed-by : (bytes : List ℕ) {c : Command} {z w : Bool} → c ≡ fieldsOf bytes → z ≡ zeros (part 20 16 bytes) → w ≡ wellFormed c →
-    formed bytes ≡ (eqb (length bytes) (fixed + c .length) && z && w)
+-- The test of the bytes, for numbers and a test that were found in them.
+pub formed-by : (bytes : List ℕ) {c : Command} {w : Bool} → c ≡ fieldsOf bytes → w ≡ wellFormed c → formed bytes ≡ (eqb (length bytes) (fixed + c .length) && w)
 unfolding formed fieldsOf
-formed-by bytes p q r = rw (r, q, p)
+formed-by bytes p r = rw (r, p)
 
 -- What holds of bytes that are a command.
 pub record Formedness (bytes : List ℕ) : Type 0 where
   pub whole : length bytes ≡ fixed + fieldsOf bytes .length
-  pub blanks : zeros (part 20 16 bytes) ≡ true
   pub rules : wellFormed (fieldsOf bytes) ≡ true
 
 pub formedness : (bytes : List ℕ) → formed bytes ≡ true → Formedness bytes
 unfolding formed fieldsOf
 formedness bytes h =
     record {
-      whole = eqb-true (length bytes) (fixed + field 50 2 bytes) (and-left (eqb (length bytes) (fixed + field 50 2 bytes)) (zeros (part 20 16 bytes)) fronts);
-      blanks = and-right (eqb (length bytes) (fixed + field 50 2 bytes)) (zeros (part 20 16 bytes)) fronts;
-      rules = and-right (eqb (length bytes) (fixed + field 50 2 bytes) && zeros (part 20 16 bytes)) (wellFormed (fieldsOf bytes)) h;
+      whole = eqb-true (length bytes) (fixed + field 50 2 bytes) (and-left (eqb (length bytes) (fixed + field 50 2 bytes)) (wellFormed (fieldsOf bytes)) h);
+      rules = and-right (eqb (length bytes) (fixed + field 50 2 bytes)) (wellFormed (fieldsOf bytes)) h;
     }
-  where
-    fronts : (eqb (length bytes) (fixed + field 50 2 bytes) && zeros (part 20 16 bytes)) ≡ true
-    fronts = and-left (eqb (length bytes) (fixed + field 50 2 bytes) && zeros (part 20 16 bytes)) (wellFormed (fieldsOf bytes)) h
 
 -- The numbers read from bytes are within their fields' widths.
 pub fits-fields : (bytes : List ℕ) → Bytes bytes → FitsCommand (fieldsOf bytes)
@@ -68,6 +63,7 @@ fits-fields bytes h =
       mode = h 1;
       card = le-part-bound 2 2 bytes h;
       pair = record { s = le-part-bound 4 8 bytes h; x = le-part-bound 12 8 bytes h };
+      opened = record { s = le-part-bound 20 8 bytes h; x = le-part-bound 28 8 bytes h };
       expected = record { desk = le-part-bound 36 2 bytes h; transaction = le-part-bound 38 4 bytes h };
       next = record { desk = le-part-bound 42 2 bytes h; transaction = le-part-bound 44 4 bytes h };
       edition = le-part-bound 48 2 bytes h;
@@ -95,6 +91,9 @@ joined-bytes (join {a} {b} h k) = Bytes-append a b (joined-bytes h) (joined-byte
 whole-mark : (m : Mark) → FitsMark m → _≡_ {A = Mark} (record { desk = le (toLe 2 (m .desk)); transaction = le (toLe 4 (m .transaction)) }) m
 whole-mark m f = λ i. record { desk = le-toLe 2 (m .desk) (f .desk) i; transaction = le-toLe 4 (m .transaction) (f .transaction) i }
 
+whole-pair : (p : Pair) → FitsPair p → _≡_ {A = Pair} (record { s = le (toLe 8 (p .s)); x = le (toLe 8 (p .x)) }) p
+whole-pair p f = λ i. record { s = le-toLe 8 (p .s) (f .s) i; x = le-toLe 8 (p .x) (f .x) i }
+
 -- A command's bytes, and back.
 module _ (c : Command) (text : List ℕ) where
   pub length-command : length (commandBytes c text) ≡ fixed + length text
@@ -109,8 +108,8 @@ module _ (c : Command) (text : List ℕ) where
   unfolding commandBytes fieldsOf toLe part
   fields-command f =
       let card : field 2 2 (commandBytes c text) ≡ c .card = le-toLe 2 (c .card) (f .card) in
-      let s : field 4 8 (commandBytes c text) ≡ c .pair .s = le-toLe 8 (c .pair .s) (f .pair .s) in
-      let x : field 12 8 (commandBytes c text) ≡ c .pair .x = le-toLe 8 (c .pair .x) (f .pair .x) in
+      let pair : pairAt 4 (commandBytes c text) ≡ c .pair = whole-pair (c .pair) (f .pair) in
+      let opened : pairAt 20 (commandBytes c text) ≡ c .opened = whole-pair (c .opened) (f .opened) in
       let expected : markAt 36 (commandBytes c text) ≡ c .expected = whole-mark (c .expected) (f .expected) in
       let next : markAt 42 (commandBytes c text) ≡ c .next = whole-mark (c .next) (f .next) in
       let edition : field 48 2 (commandBytes c text) ≡ c .edition = le-toLe 2 (c .edition) (f .edition) in
@@ -119,7 +118,8 @@ module _ (c : Command) (text : List ℕ) where
         act = c .act;
         mode = c .mode;
         card = card i;
-        pair = record { s = s i; x = x i };
+        pair = pair i;
+        opened = opened i;
         expected = expected i;
         next = next i;
         edition = edition i;
@@ -133,7 +133,7 @@ module _ (c : Command) (text : List ℕ) where
       (join
       (join
       (join
-      (join (join (join (join (join (join (piece (c .act ∷ c .mode ∷ []) first) (number 2 (c .card))) (number 8 (c .pair .s))) (number 8 (c .pair .x))) (piece (replicate 16 0) (Bytes-replicate 16 (lit< tt)))) (mark (c .expected))) (mark (c .next)))
+      (join (join (join (join (join (piece (c .act ∷ c .mode ∷ []) first) (number 2 (c .card))) (pair (c .pair))) (pair (c .opened))) (mark (c .expected))) (mark (c .next)))
       (number 2 (c .edition)))
       (number 2 (c .length)))
       (piece text h))
@@ -144,17 +144,16 @@ module _ (c : Command) (text : List ℕ) where
       number : (count n : ℕ) → Joined (toLe count n)
       number count n = piece (toLe count n) (Bytes-toLe count n)
 
+      pair : (p : Pair) → Joined (pairBytes p)
+      pair p = join (number 8 (p .s)) (number 8 (p .x))
+
       mark : (m : Mark) → Joined (markBytes m)
       mark m = join (number 2 (m .desk)) (number 4 (m .transaction))
 
   pub formed-command : FitsCommand c → wellFormed c ≡ true → length text ≡ c .length → formed (commandBytes c text) ≡ true
-  unfolding commandBytes toLe part zeros
   formed-command f w l =
-      formed-by (commandBytes c text) (sym (fields-command f)) refl refl
-      ∙ and-in (and-in (eq-eqb (length (commandBytes c text)) (fixed + c .length) (length-command ∙ rw l)) blanks) w
-    where
-      blanks : zeros (part 20 16 (commandBytes c text)) ≡ true
-      blanks = refl
+      formed-by (commandBytes c text) (sym (fields-command f)) refl
+      ∙ and-in (eq-eqb (length (commandBytes c text)) (fixed + c .length) (length-command ∙ rw l)) w
 
   -- Parsing the bytes of a command gives it back.
   pub parsed-command : FitsCommand c → wellFormed c ≡ true → length text ≡ c .length → parsed (commandBytes c text) ≡ Formed c
@@ -182,7 +181,8 @@ command-fields bytes h e =
       number 42 2 (lit≤ tt),
       number 38 4 (lit≤ tt),
       number 36 2 (lit≤ tt),
-      blanks,
+      number 28 8 (lit≤ tt),
+      number 20 8 (lit≤ tt),
       number 12 8 (lit≤ tt),
       number 4 8 (lit≤ tt),
       number 2 2 (lit≤ tt),
@@ -195,9 +195,3 @@ command-fields bytes h e =
 
     number : (at count : ℕ) → at + count ≤ fixed → toLe count (field at count bytes) ++ drop (at + count) bytes ≡ drop at bytes
     number at count fits = number-here at count bytes h (omega (arith, whole))
-
-    blanks : replicate 16 0 ++ drop 36 bytes ≡ drop 20 bytes
-    blanks =
-        let zero : part 20 16 bytes ≡ replicate 16 0 =
-        zeros-means (part 20 16 bytes) (formedness bytes e .blanks) ∙ ap (λ (n : ℕ). replicate n 0) (length-part 20 16 bytes (omega (arith, whole))) in
-        subst (λ (l : List ℕ). l ++ drop 36 bytes ≡ drop 20 bytes) zero (parts-here 20 16 bytes)

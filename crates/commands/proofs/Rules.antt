@@ -7,7 +7,7 @@ use lib.Dec.{leb, eqb}
 use Rattle.lists.specs.Table.{all, allFrom}
 use Rattle.lists.proofs.Tests.{allFrom-and, all-out, and-left, and-right, beq-true}
 use Rattle.stamps.specs.Stamp.{exclusive, sessionChecks, markWhole}
-use Rattle.commands.specs.Command.{translation, writes, isWrite, update, checks, wellFormed}
+use Rattle.commands.specs.Command.{translation, writes, isWrite, verifier, update, verifierChecks, checks, wellFormed}
 use Rattle.stamps.proofs.Stamp.{SessionRules, session-rules}
 use Rattle.commands.specs.declared.Command.{Command}
 
@@ -20,11 +20,16 @@ ownRules c =
     && Bool·beq (eqb (c .act) 4) (not (eqb (c .edition) 0))
     && (eqb (c .length) 0 || isWrite c)
 
--- The rules, with those of a session as one.
-pub by-session : (c : Command) →
-    wellFormed c ≡ (ownRules c && all (sessionChecks (c .mode) (update c)) && markWhole (c .expected) && markWhole (c .next))
+-- The rules of the numbers in front of the marks, with those of a session and of a verifier as one each.
+abbrev pub pairRules : Command → Bool
+pairRules c = ownRules c && all (sessionChecks (c .mode) (update c)) && all (verifierChecks c)
+
+pub by-session : (c : Command) → wellFormed c ≡ (pairRules c && markWhole (c .expected) && markWhole (c .next))
 unfolding wellFormed all allFrom
-by-session c = ap (λ (b : Bool). b && markWhole (c .expected) && markWhole (c .next)) (allFrom-and (ownRules c) (sessionChecks (c .mode) (update c)))
+by-session c =
+    ap (λ (b : Bool). allFrom b (verifierChecks c) && markWhole (c .expected) && markWhole (c .next)) (allFrom-and (ownRules c) (sessionChecks (c .mode) (update c)))
+    ∙ ap (λ (b : Bool). b && markWhole (c .expected) && markWhole (c .next))
+    (allFrom-and (ownRules c && all (sessionChecks (c .mode) (update c))) (verifierChecks c))
 
 -- The rules of a well-formed command, one by one.
 pub record CommandRules (c : Command) : Type 0 where
@@ -36,6 +41,8 @@ pub record CommandRules (c : Command) : Type 0 where
   pub expected : markWhole (c .expected) ≡ true
   pub next : markWhole (c .next) ≡ true
   pub session : SessionRules (c .mode) (update c)
+  -- no stamp of the verifier is above the update pair's
+  pub reached : (verifier c .s ≤ update c .s) × (verifier c .x ≤ update c .x)
 
 pub command-rules : (c : Command) → wellFormed c ≡ true → CommandRules c
 unfolding wellFormed
@@ -46,11 +53,14 @@ command-rules c h =
       writing = all-out (checks c) h 1;
       edition = beq-true (eqb (c .act) 4) (not (eqb (c .edition) 0)) (all-out (checks c) h 2);
       length = all-out (checks c) h 3;
-      expected = all-out (checks c) h 8;
-      next = all-out (checks c) h 9;
+      expected = all-out (checks c) h 12;
+      next = all-out (checks c) h 13;
       session =
           session-rules (c .mode) (update c)
           (and-right (ownRules c) (all (sessionChecks (c .mode) (update c)))
-          (and-left (ownRules c && all (sessionChecks (c .mode) (update c))) (markWhole (c .expected))
-          (and-left (ownRules c && all (sessionChecks (c .mode) (update c)) && markWhole (c .expected)) (markWhole (c .next)) (sym (by-session c) ∙ h))));
+          (and-left (ownRules c && all (sessionChecks (c .mode) (update c))) (all (verifierChecks c))
+          (and-left (pairRules c) (markWhole (c .expected))
+          (and-left (pairRules c && markWhole (c .expected)) (markWhole (c .next)) (sym (by-session c) ∙ h)))));
+      reached =
+          (leb-true (verifier c .s) (update c .s) (all-out (checks c) h 10), leb-true (verifier c .x) (update c .x) (all-out (checks c) h 11));
     }

@@ -1,11 +1,11 @@
--- A command: its numbers and its rules (rules 3.2 and 3.3).
+-- A command: its numbers, its two pairs and its rules (rules 3.2 to 3.4).
 -- Assumes nothing.
 use Prim.Native.Nat.{ℕ, zero, suc, _<_}
 use mathlib.Core.List.{List, [], _∷_, _++_}
-use mathlib.Core.Bool.{Bool, false, not, _&&_, _||_, Bool·beq}
+use mathlib.Core.Bool.{Bool, false, cond, not, _&&_, _||_, Bool·beq}
 use lib.Dec.{leb, eqb}
 use Rattle.lists.specs.Table.{all}
-use Rattle.stamps.specs.Stamp.{deskOf, exclusive, sessionChecks, markWhole, FitsPair, FitsMark}
+use Rattle.stamps.specs.Stamp.{deskOf, exclusive, stampValid, sessionChecks, markWhole, FitsPair, FitsMark}
 use Rattle.commands.specs.declared.Command.{Command}
 use Rattle.stamps.specs.declared.Pair.{Pair}
 
@@ -33,12 +33,22 @@ language c = 0
 abbrev pub isWrite : Command → Bool
 isWrite c = writes original c || writes (translation 0) c
 
--- The pair that staleness judges, and the pair that raises the stored one: both are the command's one pair.
+-- The two pairs of a command (rule 3.4). Staleness judges the verifier. The update pair raises the stored pair and names the session; it is the
+-- verifier where the bytes for it are all zero. Minuet (003, section 3.2): session verifier and session update.
 abbrev pub verifier : Command → Pair
 verifier c = c .pair
 
 abbrev pub update : Command → Pair
-update c = c .pair
+update c = cond (eqb (c .opened .s) 0 && eqb (c .opened .x) 0) (c .pair) (c .opened)
+
+-- The rules of a verifier (rule 3.3): valid stamps, zero or not, and none above the update pair's.
+abbrev pub verifierChecks : Command → List Bool
+verifierChecks c =
+    stampValid (verifier c .s)
+    ∷ stampValid (verifier c .x)
+    ∷ leb (verifier c .s) (update c .s)
+    ∷ leb (verifier c .x) (update c .x)
+    ∷ []
 
 -- Rule 1.6.
 pub record Session : Type 0 where
@@ -61,8 +71,8 @@ checks c =
     ∷ Bool·beq (eqb (c .act) 4) (not (eqb (c .edition) 0))
     -- only a write has a payload
     ∷ (eqb (c .length) 0 || isWrite c)
-    -- the mode and its stamps (rule 1.4), and both marks (rule 1.7)
-    ∷ (sessionChecks (c .mode) (update c) ++ (markWhole (c .expected) ∷ markWhole (c .next) ∷ []))
+    -- the mode and the update pair (rule 1.4), the verifier, and both marks (rule 1.7)
+    ∷ (sessionChecks (c .mode) (update c) ++ (verifierChecks c ++ (markWhole (c .expected) ∷ markWhole (c .next) ∷ [])))
 
 unfoldable pub wellFormed : Command → Bool
 wellFormed c = all (checks c)
@@ -73,6 +83,7 @@ pub record FitsCommand (c : Command) : Type 0 where
   pub mode : c .mode < 256
   pub card : c .card < 65536
   pub pair : FitsPair (c .pair)
+  pub opened : FitsPair (c .opened)
   pub expected : FitsMark (c .expected)
   pub next : FitsMark (c .next)
   pub edition : c .edition < 65536

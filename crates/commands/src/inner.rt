@@ -11,8 +11,10 @@ use crate::EXPECTED;
 use crate::LENGTH;
 use crate::MODE;
 use crate::NEXT;
+use crate::UPDATE;
+use crate::VERIFIER;
 use crate::mark_at;
-use crate::pair_of;
+use crate::pair_at;
 
 // The numbers of a command, by the offsets of rule 3.1.
 pub fn fields(bytes: &[u8]) -> Command
@@ -23,7 +25,8 @@ pub fn fields(bytes: &[u8]) -> Command
         act: bytes[ACT],
         mode: bytes[MODE],
         card: slices::inner::fixed_width::read_u16(bytes, CARD),
-        pair: pair_of(bytes),
+        pair: pair_at(bytes, VERIFIER),
+        opened: pair_at(bytes, UPDATE),
         expected: mark_at(bytes, EXPECTED),
         next: mark_at(bytes, NEXT),
         edition: slices::inner::fixed_width::read_u16(bytes, EDITION),

@@ -5,24 +5,28 @@ ghost use mathlib.Core.Path.{_≡_};
 ghost use mathlib.Core.Bool.{Bool·beq, not, _&&_, _||_};
 ghost use lib.Dec.{leb, eqb};
 ghost use Rattle.stamps.specs.Stamp.{exclusive};
-ghost use Rattle.commands.specs.Command.{Language, reads, writes, isWrite, wellFormed};
+ghost use Rattle.lists.specs.Table.{all};
+ghost use Rattle.commands.specs.Command.{Language, reads, writes, isWrite, update, verifierChecks, wellFormed};
 ghost use Prim.Native.Nat.{_+_, _≤_};
 ghost use lib.ListN.{length};
-ghost use Rattle.commands.specs.Bytes.{markAt, fieldsOf, parsed, fixed};
+ghost use Rattle.commands.specs.Bytes.{markAt, pairAt, parsed};
 use stamps::EXCLUSIVE;
 use stamps::Mark;
 use stamps::Pair;
 use stamps::mark_whole;
 use stamps::session_ok;
+use stamps::stamp_valid;
 
 // ---- A command: its numbers and its rules.
 
-// The numbers of a command. Its payload stands behind the fixed part in the lent bytes.
+// The numbers of a command. Its payload stands behind the fixed part in the lent bytes. `pair` is the verifier; `opened` is what was sent as the
+// update pair, zeros where that is the verifier too.
 pub struct Command {
     pub act: u8,
     pub mode: u8,
     pub card: u16,
     pub pair: Pair,
+    pub opened: Pair,
     pub expected: Mark,
     pub next: Mark,
     pub edition: u16,
@@ -104,6 +108,29 @@ impl Command {
         (self.length == 0) | self.is_write()
     }
 
+    // The update pair: the verifier where none was sent.
+    pub fn update(self) -> Pair
+        ensures { λ r. ⌜ r ≡ update self ⌝ }
+    {
+        let opened = self.opened;
+        if (opened.s == 0) & (opened.x == 0) {
+            return self.pair;
+        }
+        opened
+    }
+
+    // The verifier's stamps are valid, and none is above the update pair's.
+    fn verifier_ok(self) -> bool
+        ensures { λ r. ⌜ r ≡ all (verifierChecks self) ⌝ }
+    {
+        let verifier = self.pair;
+        let update = self.update();
+        stamp_valid(verifier.s)
+            & stamp_valid(verifier.x)
+            & (verifier.s <= update.s)
+            & (verifier.x <= update.x)
+    }
+
     // Whether the numbers keep the rules of a command.
     pub fn well_formed(self) -> bool
         ensures { λ r. ⌜ r ≡ wellFormed self ⌝ }
@@ -112,7 +139,8 @@ impl Command {
             & self.write_exclusive()
             & self.edition_named()
             & self.payload_written()
-            & session_ok(self.mode, self.pair)
+            & session_ok(self.mode, self.update())
+            & self.verifier_ok()
             & mark_whole(self.expected)
             & mark_whole(self.next)
     }
@@ -135,11 +163,9 @@ const MODE: usize = 1;
 
 const CARD: usize = 2;
 
-const S: usize = 4;
+const VERIFIER: usize = 4;
 
-const X: usize = 12;
-
-const ZEROS: usize = 20;
+const UPDATE: usize = 20;
 
 const EXPECTED: usize = 36;
 
@@ -160,14 +186,14 @@ fn mark_at(bytes: &[u8], at: usize) -> Mark
     }
 }
 
-// The command's pair.
-fn pair_of(bytes: &[u8]) -> Pair
-    requires { ⌜ fixed ≤ length (now bytes) ⌝ }
-    ensures { λ r. ⌜ r ≡ fieldsOf (now (bytes .entry)) .pair ⌝ }
+// The pair that begins at `at`.
+fn pair_at(bytes: &[u8], at: usize) -> Pair
+    requires { ⌜ at + 16 ≤ length (now bytes) ⌝ }
+    ensures { λ r. ⌜ r ≡ pairAt at (now (bytes .entry)) ⌝ }
 {
     Pair {
-        s: slices::inner::fixed_width::read_u64(bytes, S),
-        x: slices::inner::fixed_width::read_u64(bytes, X),
+        s: slices::inner::fixed_width::read_u64(bytes, at),
+        x: slices::inner::fixed_width::read_u64(bytes, at + 8),
     }
 }
 
@@ -179,10 +205,7 @@ pub fn parse(bytes: &[u8]) -> Parsed
         return Parsed::Malformed;
     }
     let c = inner::fields(bytes);
-    if (bytes.len() == FIXED + (c.length as usize))
-        & slices::all_zero(&bytes[ZEROS..EXPECTED])
-        & c.well_formed()
-    {
+    if (bytes.len() == FIXED + (c.length as usize)) & c.well_formed() {
         return Parsed::Formed(c);
     }
     Parsed::Malformed

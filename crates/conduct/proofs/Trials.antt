@@ -30,6 +30,7 @@ rules-needed =
     record {
       start-again = record { before = refl; refused = refl; after = refl; broken = refl };
       never-proposed = record { before = refl; refused = refl; after = refl; broken = refl };
+      never-proposed-update = record { before = refl; refused = refl; after = refl; broken = refl };
       other-mode = record { before = refl; refused = refl; after = refl; broken = refl };
       other-card = record { before = refl; refused = refl; after = refl; broken = refl };
       never-proposed-ask = record { before = refl; refused = refl; after = refl; broken = refl };

@@ -13,7 +13,7 @@ use Rattle.lock_queue.specs.declared.Waiting.{Waiting}
 use Rattle.commands.specs.Bytes.{fieldsOf}
 use Rattle.model.specs.Serve.{serve}
 use Rattle.model.specs.Words.{Sent, Event, logOf, carries, under, premise}
-use Rattle.model.specs.Cases.{pair, request, text205, text401, long}
+use Rattle.model.specs.Cases.{pair, request, requestOpening, text205, text401, long}
 use Rattle.conduct.specs.System.{
   System,
   Move,
@@ -68,6 +68,10 @@ readUnder s x = request 1 shared (pair s x) 0 [] (long 3)
 abbrev pub writeUnder : ℕ → ℕ → List ℕ → Sent
 writeUnder s x text = request 3 exclusive (pair s x) 0 text []
 
+-- A write that relies on one pair and opens another.
+abbrev pub writeOpening : Pair → Pair → List ℕ → Sent
+writeOpening p opened text = requestOpening 3 exclusive p opened 0 text []
+
 -- ---- a story by the rules
 
 abbrev pub story : List Move
@@ -96,10 +100,10 @@ story =
     -- a malformed ask may carry anything; an old answer to desk 1 is learnt late, by desk 2
     ∷ ask 0 (waits 3 0 0)
     ∷ learn deskTwo 0 (pair (stamp 0 1 0) 0)
-    -- desk 1 upgrades, and writes
+    -- desk 1 upgrades, and writes: the command relies on its shared session and opens the exclusive one
     ∷ propose deskOne 0 exclusive
     ∷ ask 0 (waits exclusive (stamp 1 1 0) (stamp 2 1 0))
-    ∷ send (writeUnder (stamp 1 1 0) (stamp 2 1 0) text401)
+    ∷ send (writeOpening (pair (stamp 1 1 0) (stamp 1 2 0)) (pair (stamp 1 1 0) (stamp 2 1 0)) text401)
     -- malformed bytes are free too; desk 2's write comes again, late
     ∷ send (record { command = 1 ∷ 2 ∷ 0 ∷ []; lent = [] })
     ∷ send (writeUnder (stamp 0 1 0) (stamp 1 2 0) text205)
@@ -245,8 +249,11 @@ oneFarAbove =
 pub record RulesNeeded : Type 0 where
   -- rule 10.9: desk 1 starts again under the same start, and proposes its old exclusive stamp with a larger s
   pub start-again : BrokenBy (threeAsks ++ (oneWrites ++ twoReads)) (begin deskOne) oneAbove
-  -- rule 10.8: a command under a pair that nobody proposed; under one that was proposed in the other mode; for another card
+  -- rule 10.8: a command under a pair that nobody proposed; one that relies on a pair that was proposed and opens one that was not; under one that was
+  -- proposed in the other mode; for another card
   pub never-proposed : BrokenBy (oneWrites ++ twoReads) (send (writeUnder (stamp 0 3 0) (stamp 0 1 0) text401)) []
+  pub never-proposed-update :
+      BrokenBy (oneWrites ++ twoReads) (send (writeOpening (pair 0 (stamp 0 1 0)) (pair (stamp 0 3 0) (stamp 0 1 0)) text401)) []
   pub other-mode : BrokenBy (oneWrites ++ twoReads) (send (writeUnder (stamp 0 2 0) (stamp 0 1 0) text401)) []
   pub other-card :
       BrokenBy (oneWrites ++ (twoReads ++ aboveElsewhere)) (send (writeUnder (stamp 0 3 0) (stamp 0 1 0) text401)) []

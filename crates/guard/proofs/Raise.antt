@@ -3,13 +3,13 @@ use Prim.Native.Nat.{ℕ, _+_, _<_}
 use native.Mathlib.Omega.{arith}
 use mathlib.Core.Path.{_≡_, refl, sym, _∙_}
 use mathlib.Core.List.{List, [], _∷_}
-use mathlib.Core.Bool.{Bool, true, false, cond, not, _||_}
+use mathlib.Core.Bool.{Bool, true, false, cond, not, _&&_, _||_}
 use borrow.Author.Tests.{le-leb, leb-true, ne-eqb, eqb-false, not-true}
 use lib.Dec.{T, leb, eqb}
 use lib.ListN.{getD}
 use Rattle.lists.specs.Table.{all, allFrom}
 use Rattle.lists.proofs.Tests.{to-T, from-T, and-in, or-left, not-in, all-cons, all-out}
-use Rattle.stamps.specs.Stamp.{stampValid}
+use Rattle.stamps.specs.Stamp.{stampValid, FitsPair}
 use Rattle.commands.specs.Command.{original, translation, writes, update, FitsCommand}
 use Rattle.guard.specs.Judge.{raise}
 use Rattle.guard.specs.Entry.{entryChecks, entrySound, FitsEntry}
@@ -39,6 +39,10 @@ still-empty : (b : Bool) (n m x y : ℕ) → (b ≡ true → n ≡ 0 → ⊥) �
     (not (eqb (cond b n m) 0) || eqb (cond b x y) 0) ≡ true
 still-empty true n m x y h k = or-left (eqb x 0) (not-in (ne-eqb n 0 (h refl)))
 still-empty false n m x y h k = k
+
+-- The update pair is one of the two that were sent.
+fits-update : (c : Command) → FitsCommand c → FitsPair (update c)
+fits-update c g = picked FitsPair (eqb (c .opened .s) 0 && eqb (c .opened .x) 0) (λ w. g .pair) (λ w. g .opened)
 
 module _ {e : Entry} {c : Command} {room lent : ℕ} (a : Accepted e c room lent) where
   abbrev rules : CommandRules c
@@ -82,8 +86,8 @@ module _ {e : Entry} {c : Command} {room lent : ℕ} (a : Accepted e c room lent
       record {
         pair =
             record {
-              s = max-one (λ n. n < 18446744073709551616) (e .pair .s) (update c .s) (f .pair .s) (g .pair .s);
-              x = max-one (λ n. n < 18446744073709551616) (e .pair .x) (update c .x) (f .pair .x) (g .pair .x);
+              s = max-one (λ n. n < 18446744073709551616) (e .pair .s) (update c .s) (f .pair .s) (fits-update c g .s);
+              x = max-one (λ n. n < 18446744073709551616) (e .pair .x) (update c .x) (f .pair .x) (fits-update c g .x);
             };
         mark = g .next;
         edition = picked (λ n. n < 65536) (writes original c) (λ w. let unspent = a .unspent w in omega (arith, f .edition, unspent)) (λ w. f .edition);

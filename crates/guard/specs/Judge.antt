@@ -93,8 +93,8 @@ entryRows e c room lent =
 abbrev pub judgeRows : Entry → Command → ℕ → ℕ → List Row
 judgeRows e c room lent = row (not (wellFormed c)) MALFORMED ∷ entryRows e c room lent
 
--- The entry after an accepted command: the larger of each stamp and the next mark (rule 4.4); a write of the original counts one edition
--- more, a write of the translation keeps the edition that it names (rule 4.5).
+-- The entry after an accepted command: the larger of each stamp, the stored one or the update pair's, and the next mark (rule 4.4); a write of the
+-- original counts one edition more, a write of the translation keeps the edition that it names (rule 4.5).
 unfoldable pub raise : Entry → Command → Entry
 raise e c =
     record {

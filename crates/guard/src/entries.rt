@@ -1,5 +1,7 @@
 ghost use mathlib.Core.Path.{_≡_};
 ghost use Rattle.guard.specs.Judge.{wrongEdition, editionsSpent, replyShort, judgeRows, judged};
+ghost use Rattle.commands.specs.Command.{update};
+ghost use Rattle.stamps.specs.Stamp.{tooFar};
 ghost use Rattle.lists.specs.Table.{first};
 use crate::ACCEPTED;
 use crate::EDITION_WRONG;
@@ -45,6 +47,13 @@ impl Entry {
             | (c.reads_translation() & (lent < self.translation as usize))
     }
 
+    // Row 17: a stamp of the update pair is too far ahead of the stored one on its side.
+    fn far_ahead(self, c: Command) -> bool
+        ensures { λ r. ⌜ r ≡ tooFar (self .pair) (update c) ⌝ }
+    {
+        too_far(self.pair, c.update())
+    }
+
     // The number of the first row that applies.
     fn number(self, c: Command, room: u16, lent: usize) -> u8
         ensures { λ r. ⌜ r ≡ first (judgeRows self c room lent) ⌝ }
@@ -55,7 +64,7 @@ impl Entry {
         if stale(c.mode, self.pair, c.pair) {
             return STALE;
         }
-        if too_far(self.pair, c.pair) {
+        if self.far_ahead(c) {
             return TOO_FAR;
         }
         if !mark_fits(self.mark, c.expected) {

@@ -24,8 +24,9 @@ impl Entry {
         ensures { λ r. ⌜ r ≡ raise self c ⌝ }
     {
         let next = c.next;
+        let update = c.update();
         Entry {
-            pair: larger_of_each(self.pair, c.pair),
+            pair: larger_of_each(self.pair, update),
             mark: next,
             edition: self.next_edition(c),
             from: chosen(c.writes_translation(), c.edition, self.from),

@@ -44,7 +44,7 @@ kept-limits = record { many = refl; too-many = refl; heavy = refl; too-heavy = r
 
 pub worked-bytes : WorkedBytes
 unfolding historyServe keptIn bytesBy usedBy deduced deducedBy entryFrom textFrom highest timesWritten replied raise commands commandsWithin endOf endWithin whole extent commandBytes formed payload fieldsOf wellFormed all allFrom le toLe part splice spread zeros
-worked-bytes = record { three = refl; read = refl; text = refl; used = refl; late = refl; late-used = refl }
+worked-bytes = record { three = refl; read = refl; text = refl; used = refl; late = refl; late-used = refl; opened = refl }
 
 -- ---- bytes, by a test
 

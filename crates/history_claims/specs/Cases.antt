@@ -8,11 +8,11 @@ use lib.ListN.{replicate}
 use Rattle.lists.specs.Parts.{splice}
 use Rattle.lists.specs.Le.{toLe}
 use Rattle.lists.specs.Search.{none}
-use Rattle.stamps.specs.Stamp.{shared}
+use Rattle.stamps.specs.Stamp.{shared, exclusive}
 use Rattle.commands.specs.Bytes.{fixed}
 use Rattle.image.specs.Image.{fresh}
 use Rattle.model.specs.Words.{Sent}
-use Rattle.model.specs.Cases.{pair, request, got, stamp1, stamp2, verify, writeOriginal, writeTranslation, readOriginal, text205, text401, long}
+use Rattle.model.specs.Cases.{pair, request, got, stamp1, stamp2, verify, verifyOpening, writeOriginal, writeTranslation, readOriginal, text205, text401, long}
 use Rattle.history.specs.Engine.{overLimits, deduced}
 use Rattle.history.specs.Lent.{historySize, keptIn, historyServe}
 use Rattle.history_claims.specs.Claims.{keptAfter, engineEvent, engineLog, gave22, EqualSoFar, FirstRefusal}
@@ -72,6 +72,10 @@ pub record WorkedBytes : Type 0 where
   pub used : historyServe 1 16 keptBytes 1000 (readAfter .command) (readAfter .lent) .used ≡ 214
   pub late : historyServe 1 16 keptBytes 1000 (again .command) (again .lent) .answer ≡ got 3 stamp2 stamp2 0 0 1 1 0 [] .answer
   pub late-used : historyServe 1 16 keptBytes 1000 (again .command) (again .lent) .used ≡ 1000
+  -- a kept command with two pairs counts by its update pair (rule 14.5)
+  pub opened :
+      historyServe 1 16 (verifyOpening exclusive (pair stamp1 stamp1) (pair stamp2 stamp2) .command) 52 (again .command) (again .lent) .answer
+      ≡ got 3 stamp2 stamp2 0 0 0 0 0 [] .answer
 
 -- ---- different cards (rules 14.12 and 14.13)
 

@@ -22,7 +22,8 @@ use Rattle.guard.specs.Entry.{entrySound}
 use Rattle.guard.specs.declared.Entry.{Entry}
 use Rattle.image.specs.Image.{Translation, Card, Cards, noTranslation, translationOf, view, sideText, withCard, noCard, cardEntry, bodies, encode, bodyAt, translationAt, cardAt, decode, tailZero, cardSound, headerSound, sound}
 use Rattle.image.specs.Layout.{shapeOk, sizeOf, entrySize, translations, sides, entryPlace, bodyPlace}
-use Rattle.image.specs.Bytes.{magic, version, headerNumbers, header, entryPair, entryMark, entryCounts, entryBytes, pad, countOf, roomOf, entryAt, readEntry}
+use Rattle.commands.specs.Bytes.{pairBytes}
+use Rattle.image.specs.Bytes.{magic, version, headerNumbers, header, entryMark, entryCounts, entryBytes, pad, countOf, roomOf, entryAt, readEntry}
 use Rattle.image.specs.Image.{GoodCard, GoodCards}
 use Rattle.image.proofs.Encode.{part-whole, length-entryBytes, length-encode, part-header, countOf-encode, roomOf-encode, part-entry, part-body}
 use Rattle.image.proofs.Written.{take-replicate}
@@ -49,8 +50,8 @@ unfolding entryBytes
 Bytes-entry e =
     let mark = toLe 2 (e .mark .desk) ++ toLe 2 0 in
     let counts = toLe 2 (e .edition) ++ toLe 2 (e .from) in
-    Bytes-append (entryPair (e .pair) ++ entryMark (e .mark)) (entryCounts e)
-    (Bytes-append (entryPair (e .pair)) (entryMark (e .mark)) (then (toLe 8 (e .pair .s)) 8 (e .pair .x) (Bytes-toLe 8 (e .pair .s)))
+    Bytes-append (pairBytes (e .pair) ++ entryMark (e .mark)) (entryCounts e)
+    (Bytes-append (pairBytes (e .pair)) (entryMark (e .mark)) (then (toLe 8 (e .pair .s)) 8 (e .pair .x) (Bytes-toLe 8 (e .pair .s)))
     (then mark 4 (e .mark .transaction) (then (toLe 2 (e .mark .desk)) 2 0 (Bytes-toLe 2 (e .mark .desk)))))
     (then (counts ++ toLe 2 (e .original)) 2 (e .translation)
     (then counts 2 (e .original) (then (toLe 2 (e .edition)) 2 (e .from) (Bytes-toLe 2 (e .edition)))))

@@ -4,9 +4,9 @@ use Prim.Native.Nat.{ℕ}
 use mathlib.Core.List.{List, [], _∷_, _++_}
 use lib.ListN.{take, replicate}
 use Rattle.lists.specs.Le.{toLe, field}
+use Rattle.commands.specs.Bytes.{pairAt, pairBytes}
 use Rattle.guard.specs.declared.Entry.{Entry}
 use Rattle.stamps.specs.declared.Mark.{Mark}
-use Rattle.stamps.specs.declared.Pair.{Pair}
 use Rattle.lists.specs.Parts.{part}
 use Rattle.image.specs.Layout.{entrySize, entryPlace}
 
@@ -23,10 +23,7 @@ headerNumbers n c = magic ++ toLe 2 version ++ toLe 2 n ++ toLe 2 c
 unfoldable pub header : ℕ → ℕ → List ℕ
 header n c = headerNumbers n c ++ replicate 6 0
 
--- An entry's parts in their order (rule 2.4): the pair, the mark with the zero field in it, the counts and lengths.
-abbrev pub entryPair : Pair → List ℕ
-entryPair p = toLe 8 (p .s) ++ toLe 8 (p .x)
-
+-- An entry's parts in their order (rule 2.4): the pair as in a command, the mark with the zero field in it, the counts and lengths.
 abbrev pub entryMark : Mark → List ℕ
 entryMark m = toLe 2 (m .desk) ++ toLe 2 0 ++ toLe 4 (m .transaction)
 
@@ -34,7 +31,7 @@ abbrev pub entryCounts : Entry → List ℕ
 entryCounts e = toLe 2 (e .edition) ++ toLe 2 (e .from) ++ toLe 2 (e .original) ++ toLe 2 (e .translation)
 
 unfoldable pub entryBytes : Entry → List ℕ
-entryBytes e = entryPair (e .pair) ++ entryMark (e .mark) ++ entryCounts e
+entryBytes e = pairBytes (e .pair) ++ entryMark (e .mark) ++ entryCounts e
 
 -- A body: the text, and zeros up to the room.
 unfoldable pub pad : ℕ → List ℕ → List ℕ
@@ -53,7 +50,7 @@ roomOf image = field 8 2 image
 unfoldable pub readEntry : List ℕ → Entry
 readEntry bytes =
     record {
-      pair = record { s = field 0 8 bytes; x = field 8 8 bytes };
+      pair = pairAt 0 bytes;
       mark = record { desk = field 16 2 bytes; transaction = field 20 4 bytes };
       edition = field 24 2 bytes;
       from = field 26 2 bytes;

@@ -24,8 +24,9 @@ pub record Timely (n : ℕ) (e : Event) (before : List Event) : Type 0 where
   pub proper : Proper n e
   pub prompt : late before (commandOf e) ≡ false
 
--- A command that is not late is not below any command accepted before it for its card: its x, and its s if it is exclusive.
-module _ (k : ℕ) (c : Command) (before : List Event) (card : c .card ≡ k) (prompt : late before c ≡ false) (e : Event)
+-- A command that is not late is not below any command accepted before it for its card: its x, and its s if it is exclusive. Of its verifier this is what
+-- not being late means; its update pair reaches the verifier.
+module _ (k : ℕ) (c : Command) (rules : CommandRules c) (before : List Event) (card : c .card ≡ k) (prompt : late before c ≡ false) (e : Event)
     (m : Among e before) (a : accepted k e ≡ true) where
   -- No event before that is accepted for the card has a larger stamp on that side.
   reaches : (side : Pair → ℕ) → any (λ (d : Event). accepted (c .card) d && ltb (side (verifier c)) (side (update (commandOf d)))) before ≡ false
@@ -39,12 +40,13 @@ module _ (k : ℕ) (c : Command) (before : List Event) (card : c .card ≡ k) (p
   on-time : (any (largerX (c .card) c) before ≡ false) × ((eqb (c .mode) exclusive && any (largerS (c .card) c) before) ≡ false)
   on-time = or-fails (any (largerX (c .card) c) before) (eqb (c .mode) exclusive && any (largerS (c .card) c) before) prompt
 
-  reaches-x : update (commandOf e) .x ≤ verifier c .x
-  reaches-x = reaches (λ (p : Pair). p .x) (on-time .0)
+  reaches-x : update (commandOf e) .x ≤ update c .x
+  reaches-x = omega (arith, rules .reached, reaches (λ (p : Pair). p .x) (on-time .0))
 
-  reaches-s : c .mode ≡ exclusive → update (commandOf e) .s ≤ verifier c .s
+  reaches-s : c .mode ≡ exclusive → update (commandOf e) .s ≤ update c .s
   reaches-s x =
-      reaches (λ (p : Pair). p .s) (sym (ap (λ (b : Bool). b && any (largerS (c .card) c) before) (eq-eqb (c .mode) exclusive x)) ∙ on-time .1)
+      let by-verifier = reaches (λ (p : Pair). p .s) (sym (ap (λ (b : Bool). b && any (largerS (c .card) c) before) (eq-eqb (c .mode) exclusive x)) ∙ on-time .1) in
+      omega (arith, rules .reached, by-verifier)
 
 -- The mode's own stamp.
 own-shared : (c : Command) → c .mode ≡ shared → own (c .mode) (update c) ≡ update c .s
@@ -94,24 +96,30 @@ module _ (n : ℕ) (sent : List Sent) (log : List Event) (whole : map (λ (e : E
     time-e : Timely n e (m₂ ++ a ∷ before)
     time-e = timely (later ++ b ∷ m₁) e (m₂ ++ a ∷ before) e-in (accepted-means k e .0 by-e .0)
 
+    rules-b : CommandRules (commandOf b)
+    rules-b = formed-rules (b .sent .command) (time-b .proper .wellFormed)
+
+    rules-e : CommandRules (commandOf e)
+    rules-e = formed-rules (e .sent .command) (time-e .proper .wellFormed)
+
     same-pair : update (commandOf a) ≡ update (commandOf b)
     same-pair = ap (λ (s : Session). s .pair) one
 
     e-x : update (commandOf e) .x ≡ update (commandOf b) .x
     e-x =
-        let up = reaches-x k (commandOf b) (m₁ ++ e ∷ (m₂ ++ a ∷ before)) (accepted-means k b .0 by-b .1) (time-b .prompt) e (among-right m₁ (among-here e (m₂ ++ a ∷ before))) by-e in
-        let low = reaches-x k (commandOf e) (m₂ ++ a ∷ before) (accepted-means k e .0 by-e .1) (time-e .prompt) a (among-right m₂ (among-here a before)) by-a in
+        let up = reaches-x k (commandOf b) rules-b (m₁ ++ e ∷ (m₂ ++ a ∷ before)) (accepted-means k b .0 by-b .1) (time-b .prompt) e (among-right m₁ (among-here e (m₂ ++ a ∷ before))) by-e in
+        let low = reaches-x k (commandOf e) rules-e (m₂ ++ a ∷ before) (accepted-means k e .0 by-e .1) (time-e .prompt) a (among-right m₂ (among-here a before)) by-a in
         let same : update (commandOf a) .x ≡ update (commandOf b) .x = ap (λ (p : Pair). p .x) same-pair in
         omega arith
 
     -- The two are not below one another, as their modes ask.
     e-below-b : commandOf b .mode ≡ exclusive → update (commandOf e) .s ≤ update (commandOf b) .s
     e-below-b x =
-        reaches-s k (commandOf b) (m₁ ++ e ∷ (m₂ ++ a ∷ before)) (accepted-means k b .0 by-b .1) (time-b .prompt) e (among-right m₁ (among-here e (m₂ ++ a ∷ before))) by-e x
+        reaches-s k (commandOf b) rules-b (m₁ ++ e ∷ (m₂ ++ a ∷ before)) (accepted-means k b .0 by-b .1) (time-b .prompt) e (among-right m₁ (among-here e (m₂ ++ a ∷ before))) by-e x
 
     b-below-e : commandOf e .mode ≡ exclusive → update (commandOf b) .s ≤ update (commandOf e) .s
     b-below-e x =
-        let low = reaches-s k (commandOf e) (m₂ ++ a ∷ before) (accepted-means k e .0 by-e .1) (time-e .prompt) a (among-right m₂ (among-here a before)) by-a x in
+        let low = reaches-s k (commandOf e) rules-e (m₂ ++ a ∷ before) (accepted-means k e .0 by-e .1) (time-e .prompt) a (among-right m₂ (among-here a before)) by-a x in
         let same : update (commandOf a) .s ≡ update (commandOf b) .s = ap (λ (p : Pair). p .s) same-pair in
         omega arith
 
@@ -130,12 +138,6 @@ module _ (n : ℕ) (sent : List Sent) (log : List Event) (whole : map (λ (e : E
 
     e-among : Among e log
     e-among = record { front = later ++ b ∷ m₁; back = m₂ ++ a ∷ before; split = e-in }
-
-    rules-b : CommandRules (commandOf b)
-    rules-b = formed-rules (b .sent .command) (time-b .proper .wellFormed)
-
-    rules-e : CommandRules (commandOf e)
-    rules-e = formed-rules (e .sent .command) (time-e .proper .wellFormed)
 
     -- Where one of the two is exclusive, they are of one desk.
     one-desk : (commandOf b .mode ≡ shared) ⊎ (commandOf b .mode ≡ exclusive) → (commandOf e .mode ≡ shared) ⊎ (commandOf e .mode ≡ exclusive)

@@ -15,10 +15,10 @@ use Rattle.image.specs.Bytes.{header, entryBytes, pad, readEntry, entryAt}
 use Rattle.image.specs.Image.{bodies, encode, cardAt, decode, tailZero, cardSound, headerSound, sound, fresh}
 use Rattle.model.specs.Serve.{stepped, serveBy, serve}
 use Rattle.model.specs.Words.{Sent, Event, imageAfter, history, logOf}
-use Rattle.model.specs.Cases.{got, verify, stamp1, sentD}
+use Rattle.model.specs.Cases.{pair, got, verify, verifyOpening, stamp1, sentD, sentHidden}
 use Rattle.model.specs.Claims.{Intruded, PremiseTells}
 
--- An accepted event of trial d.
+-- An accepted event of trial d, and of the same with update pairs.
 abbrev event : Sent → Event
 event s = record { sent = s; answer = got 0 stamp1 stamp1 0 0 0 0 0 [] .answer; reply = [] }
 
@@ -36,6 +36,21 @@ intruded =
       intruder = refl;
     }
 
+hidden : Intruded (logOf 1 16 sentHidden)
+unfolding logOf history imageAfter serve serveBy stepped sound headerSound cardSound tailZero decode cardAt entryAt readEntry encode bodies pad entryBytes header shapeOk fresh replied raise entrySound commandBytes formed payload fieldsOf wellFormed all allFrom le toLe part splice table spread every zeros
+hidden =
+    record {
+      a = event (verify exclusive stamp1 stamp1);
+      e = event (verifyOpening shared (pair (stamp 0 1 0) stamp1) (pair (stamp 0 2 0) stamp1));
+      b = event (verify exclusive stamp1 stamp1);
+      split = refl;
+      first = refl;
+      second = refl;
+      same = refl;
+      intruder = refl;
+    }
+
 pub premise-tells : PremiseTells
 unfolding commandBytes formed fieldsOf wellFormed all allFrom le toLe part zeros
-premise-tells = record { holds = refl; fails = refl; without = intruded }
+premise-tells =
+    record { holds = refl; fails = refl; without = intruded; hidden = refl; hidden-without = hidden; lifted = refl }

@@ -1,4 +1,4 @@
--- Trials, the four commands of case P, the three slips, commit marks, stamps from far ahead, and the numbers 1, 2 and 9, as one
+-- Trials, the four commands of case P, the three slips, commit marks, stamps from far ahead, commands with two pairs, and the numbers 1, 2 and 9, as one
 -- table: a start, requests in the order in which they are sent, and what each must get. Where no act is named it is verify.
 -- Assumes nothing.
 use Prim.Native.Nat.{ℕ}
@@ -49,21 +49,34 @@ stamp1 = stamp 1 1 0
 abbrev pub stamp2 : ℕ
 stamp2 = stamp 2 2 0
 
+-- 3.3.0, and the stamp right below 2.2.0.
+abbrev pub stamp3 : ℕ
+stamp3 = stamp 3 3 0
+
+abbrev pub below2 : ℕ
+below2 = stamp 2 1 65535
+
 abbrev pub pair : ℕ → ℕ → Pair
 pair s x = record { s = s; x = x }
 
--- The numbers of a command.
+-- The numbers of a command with two pairs, and of one whose update pair is its verifier.
+abbrev pub withPairs : ℕ → ℕ → ℕ → Pair → Pair → Mark → Mark → ℕ → ℕ → Command
+withPairs act mode card p opened expected next edition n =
+    record { act = act; mode = mode; card = card; pair = p; opened = opened; expected = expected; next = next; edition = edition; length = n }
+
 abbrev pub withNumbers : ℕ → ℕ → ℕ → Pair → Mark → Mark → ℕ → ℕ → Command
-withNumbers act mode card p expected next edition n =
-    record { act = act; mode = mode; card = card; pair = p; expected = expected; next = next; edition = edition; length = n }
+withNumbers act mode card p expected next edition n = withPairs act mode card p noPair expected next edition n
 
 -- A command with its payload and a lent reply buffer.
 abbrev pub sends : Command → List ℕ → List ℕ → Sent
 sends c text lent = record { command = commandBytes c text; lent = lent }
 
--- A command for card 0 without marks.
+-- A command for card 0 without marks, with an update pair of its own, and with one pair.
+abbrev pub requestOpening : ℕ → ℕ → Pair → Pair → ℕ → List ℕ → List ℕ → Sent
+requestOpening act mode p opened edition text lent = sends (withPairs act mode 0 p opened noMark noMark edition (length text)) text lent
+
 abbrev pub request : ℕ → ℕ → Pair → ℕ → List ℕ → List ℕ → Sent
-request act mode p edition text lent = sends (withNumbers act mode 0 p noMark noMark edition (length text)) text lent
+request act mode p edition text lent = requestOpening act mode p noPair edition text lent
 
 -- The commit mark of a desk and a transaction, and an exclusive verify by A' that expects one mark and leaves another.
 abbrev pub markOf : ℕ → ℕ → Mark
@@ -74,6 +87,9 @@ verifyMarked expected next = sends (withNumbers 5 exclusive 0 (pair stamp1 stamp
 
 abbrev pub verify : ℕ → ℕ → ℕ → Sent
 verify mode s x = request 5 mode (pair s x) 0 [] []
+
+abbrev pub verifyOpening : ℕ → Pair → Pair → Sent
+verifyOpening mode p opened = requestOpening 5 mode p opened 0 [] []
 
 abbrev pub readOriginal : List ℕ → Sent
 readOriginal lent = request 1 shared (pair stamp2 stamp1) 0 [] lent
@@ -204,6 +220,18 @@ trialD =
           ∷ got 0 stamp1 stamp1 0 0 0 0 0 []
           ∷ [];
     }
+
+-- The same with update pairs. Here the shared command's verifier has desk 1's stamps, and its update pair is desk 2's: the premise does not hold. There the
+-- verifier's s is below the exclusive command's, and the update pair's is above: it does.
+abbrev pub sentHidden : List Sent
+sentHidden =
+    verify exclusive stamp1 stamp1
+    ∷ verifyOpening shared (pair (stamp 0 1 0) stamp1) (pair (stamp 0 2 0) stamp1)
+    ∷ verify exclusive stamp1 stamp1
+    ∷ []
+
+abbrev pub sentLifted : List Sent
+sentLifted = verify exclusive stamp1 stamp1 ∷ verifyOpening shared (pair (stamp 0 2 0) stamp1) (pair stamp2 stamp1) ∷ []
 
 -- e: an original that was never written is read as empty.
 abbrev pub trialE : Trial
@@ -426,6 +454,120 @@ trialAheadWritten =
       expected = bothGot ++ (got 17 stamp1 stamp1 0 0 1 1 0 [] ∷ []);
     }
 
+-- Two pairs (rules 3.3 and 3.4). A session is opened inside a command: desk 1, which has no session, writes against no stamps and opens A'. The next command
+-- has A' as its verifier, and so has the one that opens (1.1.0, 2.1.0), after which A' is late.
+abbrev pub trialOpens : Trial
+trialOpens =
+    record {
+      start = empty;
+      sent =
+          requestOpening 3 exclusive noPair (pair stamp1 stamp1) 0 text205 []
+          ∷ writeTranslation stamp1 stamp1 1 text401
+          ∷ verifyOpening exclusive (pair stamp1 stamp1) (pair stamp1 (stamp 2 1 0))
+          ∷ verify exclusive stamp1 (stamp 2 1 0)
+          ∷ verify exclusive stamp1 stamp1
+          ∷ [];
+      expected =
+          got 0 stamp1 stamp1 0 0 1 0 0 []
+          ∷ got 0 stamp1 stamp1 0 0 1 1 0 []
+          ∷ got 0 stamp1 (stamp 2 1 0) 0 0 1 1 0 []
+          ∷ got 0 stamp1 (stamp 2 1 0) 0 0 1 1 0 []
+          ∷ got 3 stamp1 (stamp 2 1 0) 0 0 1 1 0 []
+          ∷ [];
+    }
+
+-- A shared verifier without s, as Minuet's clients send it; the larger of each stamp is kept, also where the update pair's s is not above the stored one.
+abbrev pub trialNoS : Trial
+trialNoS =
+    record {
+      start = empty;
+      sent =
+          verify exclusive stamp1 stamp1
+          ∷ verifyOpening shared (pair 0 stamp1) (pair stamp2 stamp1)
+          ∷ verifyOpening shared (pair 0 stamp1) (pair (stamp 0 3 0) stamp1)
+          ∷ [];
+      expected =
+          got 0 stamp1 stamp1 0 0 0 0 0 []
+          ∷ got 0 stamp2 stamp1 0 0 0 0 0 []
+          ∷ got 0 stamp2 stamp1 0 0 0 0 0 []
+          ∷ [];
+    }
+
+-- With B' stored, a verifier comes late that opens a pair which would not: by x, in both modes, and by s.
+abbrev pub trialLateVerifier : Trial
+trialLateVerifier =
+    record {
+      start = empty;
+      sent =
+          verify exclusive stamp2 stamp2
+          ∷ verifyOpening exclusive (pair stamp2 stamp1) (pair stamp3 stamp3)
+          ∷ verifyOpening shared (pair stamp2 stamp1) (pair stamp3 stamp3)
+          ∷ verifyOpening exclusive (pair stamp1 stamp2) (pair stamp3 stamp3)
+          ∷ [];
+      expected =
+          got 0 stamp2 stamp2 0 0 0 0 0 []
+          ∷ got 3 stamp2 stamp2 0 0 0 0 0 []
+          ∷ got 3 stamp2 stamp2 0 0 0 0 0 []
+          ∷ got 3 stamp2 stamp2 0 0 0 0 0 []
+          ∷ [];
+    }
+
+-- The update pair comes from too far ahead though its verifier is the stored pair (rule 4.9): by s, by x; one T less passes.
+abbrev pub trialFarUpdate : Trial
+trialFarUpdate =
+    record {
+      start = empty;
+      sent =
+          verifyOpening exclusive noPair (pair (ahead 1000000) (ahead 1))
+          ∷ verifyOpening exclusive (pair (ahead 1000000) (ahead 1)) (pair (ahead 2000001) (ahead 1))
+          ∷ verifyOpening exclusive (pair (ahead 1000000) (ahead 1)) (pair (ahead 1000000) (ahead 1000002))
+          ∷ verifyOpening exclusive (pair (ahead 1000000) (ahead 1)) (pair (ahead 2000000) (ahead 1000001))
+          ∷ [];
+      expected =
+          got 0 (ahead 1000000) (ahead 1) 0 0 0 0 0 []
+          ∷ got 17 (ahead 1000000) (ahead 1) 0 0 0 0 0 []
+          ∷ got 17 (ahead 1000000) (ahead 1) 0 0 0 0 0 []
+          ∷ got 0 (ahead 2000000) (ahead 1000001) 0 0 0 0 0 []
+          ∷ [];
+    }
+
+-- A verifier and an update pair on a fresh card: accepted, and stored as told; or malformed, and the command after it meets a card without stamps.
+abbrev pub trialPairs : ℕ → Pair → Pair → ℕ → ℕ → Trial
+trialPairs mode p opened s x = record { start = empty; sent = verifyOpening mode p opened ∷ []; expected = got 0 s x 0 0 0 0 0 [] ∷ [] }
+
+abbrev pub trialNoPairs : ℕ → Pair → Pair → Trial
+trialNoPairs mode p opened =
+    record {
+      start = empty;
+      sent = verifyOpening mode p opened ∷ verify shared stamp1 0 ∷ [];
+      expected = got 1 0 0 0 0 0 0 0 [] ∷ got 0 stamp1 0 0 0 0 0 0 [] ∷ [];
+    }
+
+abbrev pub trialsOfPairs : List Trial
+trialsOfPairs =
+    -- the verifier again, above it by one, and half of it none
+    trialPairs exclusive (pair stamp1 stamp1) (pair stamp1 stamp1) stamp1 stamp1
+    ∷ trialPairs exclusive (pair below2 below2) (pair stamp2 stamp2) stamp2 stamp2
+    ∷ trialPairs shared noPair (pair stamp2 0) stamp2 0
+    ∷ trialPairs exclusive noPair (pair 0 stamp2) 0 stamp2
+    -- half of it none is not all of it none: it does not reach the verifier
+    ∷ trialNoPairs exclusive (pair stamp1 stamp1) (pair 0 stamp2)
+    ∷ trialNoPairs shared (pair stamp1 stamp1) (pair stamp2 0)
+    -- below the verifier by one, in s and in x
+    ∷ trialNoPairs exclusive (pair stamp2 stamp1) (pair below2 stamp3)
+    ∷ trialNoPairs exclusive (pair stamp1 stamp2) (pair stamp3 below2)
+    -- an update stamp without a desk, a verifier's stamp without one
+    ∷ trialNoPairs exclusive noPair (pair (stamp 1 0 0) stamp1)
+    ∷ trialNoPairs exclusive noPair (pair stamp1 (stamp 1 0 0))
+    ∷ trialNoPairs exclusive (pair (stamp 0 0 5) 0) (pair stamp1 stamp1)
+    ∷ trialNoPairs exclusive (pair 0 (stamp 0 0 5)) (pair stamp1 stamp1)
+    -- the mode's own stamp is none in the update pair; in the verifier, where that is the update pair
+    ∷ trialNoPairs shared noPair (pair 0 stamp2)
+    ∷ trialNoPairs exclusive noPair (pair stamp2 0)
+    ∷ trialNoPairs shared (pair 0 stamp2) noPair
+    ∷ trialNoPairs exclusive (pair stamp2 0) noPair
+    ∷ []
+
 -- Number 1: no act has number 0. Number 2: with one card there is no card 1. Number 9: an image that is not there.
 abbrev pub trialMalformed : Trial
 trialMalformed = record { start = empty; sent = request 0 shared (pair stamp1 0) 0 [] (long 2) ∷ []; expected = got 1 0 0 0 0 0 0 0 (long 2) ∷ [] }
@@ -493,7 +635,11 @@ trials =
     ∷ trialMalformed
     ∷ trialNoCard
     ∷ trialUnsound
-    ∷ []
+    ∷ trialOpens
+    ∷ trialNoS
+    ∷ trialLateVerifier
+    ∷ trialFarUpdate
+    ∷ trialsOfPairs
 
 -- The claim: each row gets exactly what it must, whole lists of answers, fields and reply buffers.
 abbrev pub Trials : Type 0

@@ -30,7 +30,7 @@ use Rattle.model.specs.Words.{
   OneSession,
   intrudes,
 }
-use Rattle.model.specs.Cases.{sentA, sentD}
+use Rattle.model.specs.Cases.{sentA, sentD, sentHidden, sentLifted}
 
 -- What is sent is bytes: each element is below 256, and nothing else.
 pub record SentBytes (s : Sent) : Type 0 where
@@ -100,11 +100,15 @@ pub record Intruded (log : List Event) : Type 0 where
   pub intruder : intrudes 0 b e ≡ true
 
 -- The premise is neither empty nor idle: it holds of trial a's list and fails of trial d's, in
--- whose log sessions are not isolated.
+-- whose log sessions are not isolated. It reads update pairs: a list in which only these break it, and there too sessions are not isolated;
+-- and one in which only verifiers would.
 pub record PremiseTells : Type 0 where
   pub holds : premise 0 sentA ≡ true
   pub fails : premise 0 sentD ≡ false
   pub without : Intruded (logOf 1 16 sentD)
+  pub hidden : premise 0 sentHidden ≡ false
+  pub hidden-without : Intruded (logOf 1 16 sentHidden)
+  pub lifted : premise 0 sentLifted ≡ true
 
 -- Demand 2: each number exactly when its row applies and none above it, and 0 exactly when none applies.
 pub record Given (image command reply : List ℕ) : Type 0 where

@@ -61,7 +61,7 @@ pub record Proper (n : ℕ) (e : Event) : Type 0 where
   pub wellFormed : formed (e .sent .command) ≡ true
   pub exists : ltb (commandOf e .card) n ≡ true
 
--- An accepted command for card k whose pair has a larger s, or a larger x.
+-- An accepted command for card k whose update pair has a larger s, or a larger x, than a command's verifier (rule 9.2).
 abbrev pub largerS : ℕ → Command → Event → Bool
 largerS k c e = accepted k e && ltb (verifier c .s) (update (commandOf e) .s)
 
@@ -98,7 +98,7 @@ outdated t before k = none (wrote (translation t) k) (since (wrote original k) b
 abbrev pub lastText : Language → List Event → ℕ → List ℕ
 lastText l before k = last (wrote l k) (λ e. payload (e .sent .command)) [] before
 
--- Rule 9.5: a shared command carries another desk's exclusive stamp.
+-- Rule 9.5: a shared command carries another desk's exclusive stamp, in its update pair.
 abbrev pub carries : Command → Bool
 carries c =
     eqb (c .mode) shared

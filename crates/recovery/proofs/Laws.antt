@@ -8,7 +8,7 @@ use mathlib.Core.Bool.{Bool, true, false, not, _&&_, _||_}
 use borrow.Author.Tests.{eq-eqb, ne-eqb, le-ltb}
 use lib.ListN.{length, List·getD-eq-default}
 use lib.Dec.{leb, eqb, lit<}
-use Rattle.lists.specs.Parts.{Bytes, part, zeros, table}
+use Rattle.lists.specs.Parts.{Bytes, part, table}
 use Rattle.lists.specs.Le.{le, field}
 use Rattle.lists.proofs.Tests.{to-T, or-left, or-right}
 use Rattle.lists.proofs.Bytes.{Bytes-nil}
@@ -117,7 +117,7 @@ module _ (image : List ℕ) (c : Command) (text : List ℕ) (e : sound image ≡
   unfolding formed
   serve-bad w =
       serve-malformed image (commandBytes c text) [] e
-      (and-out (eqb (length (commandBytes c text)) (fixed + field 50 2 (commandBytes c text)) && zeros (part 20 16 (commandBytes c text))) (ap wellFormed (fields-command c text f) ∙ w))
+      (and-out (eqb (length (commandBytes c text)) (fixed + field 50 2 (commandBytes c text))) (ap wellFormed (fields-command c text f) ∙ w))
     where
       and-out : (a : Bool) {b : Bool} → b ≡ false → (a && b) ≡ false
       and-out true h = h

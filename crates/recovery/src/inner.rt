@@ -152,11 +152,13 @@ fn write_of(pair: Pair, e: Entry, body: &[u8]) -> Command
 {
     let mark = e.mark;
     let size = body.len() - 3;
+    let none = Pair { s: 0, x: 0 };
     Command {
         act: act_of(body[2]),
         mode: 2,
         card: le::read_u16(body, 0),
         pair: pair,
+        opened: none,
         expected: mark,
         next: mark,
         edition: edition_of(body[2], e.edition),

@@ -24,6 +24,7 @@ recovery-cases =
     record {
       cases = ((refl, refl, refl, refl), ((refl, refl, refl, refl), ((refl, refl, refl, refl), ((refl, refl, refl, refl), ((refl, refl, refl, refl), ((refl, refl, refl, refl), ((refl, refl, refl, refl), ((refl, refl, refl, refl), ((refl, refl, refl, refl), ((refl, refl, refl, refl), ((refl, refl, refl, refl), ((refl, refl, refl, refl), ((refl, refl, refl, refl), ((refl, refl, refl, refl), tt))))))))))))));
       mark = refl;
+      plain = refl;
       cut49 = (refl, refl);
       cut50 = (refl, refl);
       cut99 = (refl, refl);

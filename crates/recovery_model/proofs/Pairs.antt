@@ -8,7 +8,7 @@ use mathlib.Core.Bool.{Bool, true, false}
 use lib.ListN.{length}
 use Rattle.lists.specs.Parts.{Bytes}
 use Rattle.lists.proofs.Tests.{to-T}
-use Rattle.commands.specs.Command.{update, FitsCommand}
+use Rattle.commands.specs.Command.{verifier, update, FitsCommand}
 use Rattle.commands.specs.declared.Command.{Command}
 use Rattle.commands.proofs.CommandBytes.{fields-command}
 use Rattle.image.specs.Image.{Cards, encode, decode}
@@ -24,8 +24,9 @@ under-one : (pairs : Pairs) (image : List ℕ) (r : LogRecord) → FitsCommand (
     → AllUnder pairs (recoveryStep i (recoverySent pairs image r) q .sent)
 unfolding recoveryStep recoverySent
 under-one pairs image r f i q u =
-    let e = fields-command (writeOf pairs image r) (recordText r) f in (
-      (ap (λ (c : Command). c .mode) e, ap update e ∙ sym (ap (λ (c : Command). recoveryPair pairs (c .card)) e)),
+    let e = fields-command (writeOf pairs image r) (recordText r) f in
+    let given = sym (ap (λ (c : Command). recoveryPair pairs (c .card)) e) in (
+      (ap (λ (c : Command). c .mode) e, ap verifier e ∙ given, ap update e ∙ given),
       u,
     )
 

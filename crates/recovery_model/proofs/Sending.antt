@@ -65,6 +65,7 @@ fits-write pairs image r p e b h =
       mode = lit< tt;
       card = le-part-bound 0 2 (r .body) b;
       pair = record { s = p .s (recordCard r); x = p .x (recordCard r) };
+      opened = record { s = lit< tt; x = lit< tt };
       expected = e .mark;
       next = e .mark;
       edition = named (eqb (recordSide r) 1);

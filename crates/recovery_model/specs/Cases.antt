@@ -6,8 +6,10 @@ use mathlib.Core.List.{List, [], _∷_}
 use lib.ListN.{length, take, replicate}
 use Rattle.commands.specs.Command.{original, translation}
 use Rattle.commands.specs.Bytes.{commandBytes}
+use Rattle.stamps.specs.Stamp.{noPair}
 use Rattle.image.specs.Image.{fresh, sound}
 use Rattle.model.specs.Serve.{serve}
+use Rattle.model.specs.Cases.{stamp1, writeOriginal}
 use Rattle.redo_log.specs.Log.{LogRecord}
 use Rattle.redo_log_claims.specs.Claims.{cutAfter}
 use Rattle.redo_log_claims.specs.Cases.{beginOf, updateOf, commitOf, syncedOf, emptyLog}
@@ -47,6 +49,7 @@ markedImage =
       mode = 2;
       card = 0;
       pair = record { s = 8590065664; x = 8590065664 };
+      opened = noPair;
       expected = record { desk = 0; transaction = 0 };
       next = record { desk = 5; transaction = 7 };
       edition = 0;
@@ -116,6 +119,8 @@ recoveredCut k = recovered pairs1 (cutAfter k (emptyLog 64) twoTransactions) bla
 pub record RecoveryCases : Type 0 where
   pub cases : AllRecover recoveryCases
   pub mark : entryFor (recovering pairs2 (beginOf 1 ∷ updateOf 0 1 text1 ∷ commitOf 1 ∷ []) markedImage 3 .image) 0 .mark ≡ record { desk = 5; transaction = 7 }
+  -- what is sent is the plain write under the given pair, with no update pair of its own
+  pub plain : recovering pairs1 (beginOf 1 ∷ updateOf 0 1 text1 ∷ commitOf 1 ∷ []) blankImage 3 .sent ≡ writeOriginal stamp1 stamp1 text1 ∷ []
   -- cut one store before the end of the first commit, at its end, one store before the end of the second, at its end
   pub cut49 : (recoveredCut 49 .number ≡ 0) × (textIn (recoveredCut 49 .image) original 0 ≡ [])
   pub cut50 : (recoveredCut 50 .number ≡ 0) × (textIn (recoveredCut 50 .image) original 0 ≡ text1)

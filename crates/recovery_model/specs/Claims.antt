@@ -18,7 +18,7 @@ use Rattle.redo_log.specs.Log.{LogRecord, recordCard, recordSide, recordText, g
 use Rattle.redo_log.specs.Append.{appendNumber, appended}
 use Rattle.redo_log_claims.specs.Claims.{admittedOf, wholly, cutAfter, BytesOfRecords}
 use Rattle.stamps.specs.Stamp.{exclusive}
-use Rattle.commands.specs.Command.{update}
+use Rattle.commands.specs.Command.{verifier, update}
 use Rattle.commands.specs.Bytes.{fieldsOf}
 use Rattle.recovery_model.specs.Recovery.{Pairs, FitsPairs, Recovery, recordIn, due, recoveryPair, recovered}
 
@@ -80,11 +80,14 @@ pub record Mixed (n c : ℕ) (deeds : List Deed) : Type 0 where
 abbrev pub Demand3Mixed : Type 0
 Demand3Mixed = (n c : ℕ) → T (shapeOk n c) → (deeds : List Deed) → FitsDeeds deeds → Mixed n c deeds
 
--- Every request is exclusive and under the pair given for its card.
+-- Every request is exclusive and under the pair given for its card, as verifier and as update pair.
 abbrev pub AllUnder : Pairs → List Sent → Type 0
 AllUnder pairs [] = Unit {0}
 AllUnder pairs (s ∷ sent) =
-    ((fieldsOf (s .command) .mode ≡ exclusive) × (update (fieldsOf (s .command)) ≡ recoveryPair pairs (fieldsOf (s .command) .card))) × AllUnder pairs sent
+    ((fieldsOf (s .command) .mode ≡ exclusive)
+    × (verifier (fieldsOf (s .command)) ≡ recoveryPair pairs (fieldsOf (s .command) .card))
+    × (update (fieldsOf (s .command)) ≡ recoveryPair pairs (fieldsOf (s .command) .card)))
+    × AllUnder pairs sent
 
 abbrev pub Under : Type 0
 Under =

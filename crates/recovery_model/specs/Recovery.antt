@@ -6,7 +6,7 @@ use mathlib.Core.Bool.{Bool, cond, not, _&&_}
 use lib.ListN.{length, getD}
 use lib.Dec.{leb, eqb}
 use Rattle.lists.specs.Table.{settled}
-use Rattle.stamps.specs.Stamp.{exclusive}
+use Rattle.stamps.specs.Stamp.{exclusive, noPair}
 use Rattle.stamps.specs.declared.Pair.{Pair}
 use Rattle.commands.specs.declared.Command.{Command}
 use Rattle.commands.specs.Bytes.{commandBytes}
@@ -55,7 +55,8 @@ recoveryPair pairs k = record { s = getD (pairs .s) k 0; x = getD (pairs .x) k 0
 abbrev pub entryFor : List ℕ → ℕ → Entry
 entryFor image k = view 0 (getD (decode image .cards) k noCard)
 
--- An exclusive write under the pair: it expects the stored mark and leaves it, and a translation names the stored edition.
+-- An exclusive write under the pair, which is its verifier and its update pair: it expects the stored mark and leaves it, and a translation names the
+-- stored edition.
 abbrev pub writeBy : Pair → Entry → LogRecord → Command
 writeBy pair e r =
     record {
@@ -63,6 +64,7 @@ writeBy pair e r =
       mode = exclusive;
       card = recordCard r;
       pair = pair;
+      opened = noPair;
       expected = e .mark;
       next = e .mark;
       edition = cond (eqb (recordSide r) 1) 0 (e .edition);

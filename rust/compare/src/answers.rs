@@ -6,6 +6,7 @@ use second::stamp::{time, MOST_AHEAD};
 use second::{Act, Command, CommandFields, Entry, Language, Layout, Pair};
 
 use crate::coverage::{Kind, Run};
+use crate::pairs;
 use crate::proved::{self, Answer};
 use crate::run::{bytes, same, Compared};
 
@@ -87,7 +88,8 @@ fn off_by_one(random: &mut Random, image: &[u8]) -> Vec<u8> {
 }
 
 /// A fitting command with stamps near the limit above the stored ones: on one
-/// side or on both, on a card of which some keep no stamp.
+/// side or on both, on a card of which some keep no stamp; in its one pair, or
+/// in an update pair whose verifier is the stored pair.
 fn near_limit(random: &mut Random, image: &[u8]) -> Vec<u8> {
     let command = generate::fitting_command(random, image);
     let (Some(mut fields), Some((_, stored))) =
@@ -102,10 +104,14 @@ fn near_limit(random: &mut Random, image: &[u8]) -> Vec<u8> {
         generate::ahead(random, s, more),
         generate::ahead(random, x, more),
     );
-    fields.pair = match random.below(3) {
+    let far = match random.below(3) {
         0 => Pair::new(far_s, own(fields.pair.x, x)),
         1 => Pair::new(own(fields.pair.s, s), far_x),
         _ => Pair::new(far_s, far_x),
+    };
+    (fields.pair, fields.update) = match random.below(3) {
+        0 => (stored.pair, far),
+        _ => (far, Pair::default()),
     };
     fields.followed_by(&command[52..])
 }
@@ -129,6 +135,8 @@ pub fn singles(run: &mut Run, random: &mut Random) -> Compared<()> {
             note_edges(run, &before, &command, lent.len());
             note_bits(run, &command, told.number);
             note_ahead(run, &before, &command, told.number);
+            let about = about(&before, &command);
+            pairs::note(run, &command, about.map(|(_, stored)| stored), told.number);
         }
     }
     Ok(())
@@ -170,13 +178,13 @@ fn note_edges(run: &mut Run, image: &[u8], command: &[u8], lent: usize) {
     note(
         run,
         Kind::SharedStamps,
-        command.pair.s,
+        command.verifier.s,
         &near(stored.pair.s),
     );
     note(
         run,
         Kind::ExclusiveStamps,
-        command.pair.x,
+        command.verifier.x,
         &near(stored.pair.x),
     );
 }
@@ -189,11 +197,11 @@ fn note_ahead(run: &mut Run, image: &[u8], bytes: &[u8], number: u8) {
     };
     let above = |new: u64, old: u64| i64::from(time(new)) - i64::from(time(old));
     let (s, x) = (
-        above(command.pair.s, stored.pair.s),
-        above(command.pair.x, stored.pair.x),
+        above(command.update.s, stored.pair.s),
+        above(command.update.x, stored.pair.x),
     );
     let most = i64::from(MOST_AHEAD);
-    let stale = command.mode.is_below(command.pair, stored.pair);
+    let stale = command.mode.is_below(command.verifier, stored.pair);
     if stale {
         if s > most || x > most {
             run.seen_at(Kind::AheadOrder, 0);
@@ -220,6 +228,13 @@ fn note_ahead(run: &mut Run, image: &[u8], bytes: &[u8], number: u8) {
     if number == 0 && s < -most {
         run.seen(Kind::FarBelow);
     }
+    let opens = command.update != command.verifier;
+    if opens && number == 17 && !command.verifier.is_too_far_ahead(stored.pair) {
+        run.seen_at(Kind::AheadUpdates, 0);
+    }
+    if opens && number == 0 && (s == most || x == most) {
+        run.seen_at(Kind::AheadUpdates, 1);
+    }
 }
 
 /// Counts top bits that are accepted, and payloads of non-writes.
@@ -232,7 +247,8 @@ fn note_bits(run: &mut Run, bytes: &[u8], number: u8) {
         run.seen(Kind::Carrying);
     }
     let marks = [fields.expected, fields.next];
-    let stamps = [fields.pair.s, fields.pair.x];
+    let update = fields.update_pair();
+    let stamps = [fields.pair.s, fields.pair.x, update.s, update.x];
     let tops = [
         marks.iter().any(|mark| mark.transaction >> 31 == 1),
         marks.iter().any(|mark| mark.desk >> 15 == 1),

@@ -19,7 +19,7 @@ macro_rules! kinds {
 }
 
 kinds! {
-    Trials 18 "trials a to n, case P, slips 1 to 3"
+    Trials 19 "trials a to n, case P, slips 1 to 3, commands with two pairs"
     Singles 1 "single commands on sound images"
     Editions 4 ".. on a card of edition 0, 1, 65,534, 65,535"
     TextsRead 3 ".. reading a text that is empty, one short of C, C"
@@ -32,11 +32,18 @@ kinds! {
     AheadBoth 3 ".. in time, .. above the stored s and x"
     AheadFreshShared 3 ".. in time, .. on a card that keeps no s"
     AheadFreshExclusive 3 ".. in time, .. on a card that keeps no x"
+    AheadUpdates 2 ".. with two pairs, too far ahead by the update pair alone, accepted with 1,000,000 above"
     AheadOrder 2 ".. too far ahead: stale as well, refused with 17 though the mark is wrong too"
     FarBelow 1 ".. accepted, with an s more than 1,000,000 below the stored one"
     Replies 4 ".. reading into a buffer of no bytes, one short of the text, as long, one past"
     TopBits 4 ".. accepted, with the top bit of a transaction, commit desk, stamp's T, stamp's desk"
     Carrying 1 ".. refused with 1, non-writes that carry a payload"
+    Updates 3 ".. with two pairs: the verifier again, one stamp above it, both above"
+    UpdateSteps 2 ".. with two pairs: s one above the verifier's, x one above"
+    Openings 4 ".. accepted with a verifier of no stamps, shared without s, exclusive without x, of two older stamps"
+    LateVerifiers 2 ".. refused with 3 by the verifier's x, its s, where the update pair would not be"
+    NoUpdates 7 ".. refused with 1 by the update pair alone: s, x one below the verifier's; s, x none; s, x without a desk; none of the mode's own"
+    NoVerifiers 2 ".. refused with 1 by the verifier alone: s, x without a desk"
     EveryReply 2 "every reply buffer from 0 to one past the text: 8, accepted"
     Largest 9 "commands on images at the limits, by shape"
     HeaderBytes 16 "images not sound by one header byte"
@@ -53,6 +60,7 @@ kinds! {
     Lists 4 "lists from a fresh image, by strict desks, by loose desks, by anyone, by desks whose clocks jump"
     Listed 1 "commands in these lists"
     LargeLists 3 "lists from fresh images at the limits: demand 3, beside the history engine, with recoveries"
+    ListedOpenings 2 ".. accepted that open a session: shared, exclusive"
     Late 2 "demand 3: commands that come late, and that do not"
     Ahead 2 "demand 3: commands in time from too far ahead, and that are not"
     AheadRead 2 "demand 3: .. reads of a translation that is behind, and that is not, left out as too far ahead"
@@ -86,7 +94,8 @@ kinds! {
     SystemSteps 7 ".. steps: starts, proposals, asks, leaves, queues lost, commands, lessons"
     SystemPremise 2 ".. cards of which the premise speaks, and holds; of which it is silent"
     SystemIsolated 1 ".. pairs of one session, isolated outright"
-    BrokenRules 13 "systems with one rule broken, and the premise with it, by the rule"
+    SystemOpenings 1 ".. commands accepted that open a session"
+    BrokenRules 14 "systems with one rule broken, and the premise with it, by the rule"
     LostIsolation 1 ".. in which a session was not isolated"
     Walks 2 "walks of a stream, to its end, to a cut"
     EveryCut 1 "streams cut at every byte"
@@ -123,6 +132,7 @@ kinds! {
     HistoryLists 1 "history: lists beside the store, from a fresh image"
     HistoryFull 3 "history: refused with 22 by the count, by the payload bytes, by both"
     HistoryEdges 4 "history: the 200th kept, the 201st refused, 32,768 payload bytes kept, one more refused"
+    HistoryOpenings 1 "history: kept with an update pair above the verifier"
     HistoryOrder 1 "history: full, and refused by an earlier row"
     HistoryFirst 1 "history: the first 22, where the store accepts"
     HistoryAfter 2 "history: after the first 22, refused, accepted"
@@ -197,7 +207,7 @@ impl Run {
             let each: Vec<String> = counts.iter().map(u64::to_string).collect();
             let more = match size {
                 1 => String::new(),
-                2..=9 | 13 => format!(": {}", each.join(", ")),
+                2..=9 | 13 | 14 => format!(": {}", each.join(", ")),
                 _ => format!(": each of {size}, {least} times or more"),
             };
             let _ = writeln!(table, "{sum:>12}  {text}{more}");

@@ -65,23 +65,25 @@ impl<'a> List<'a> {
         accepted.filter(move |command| command.card == card)
     }
 
-    /// A command comes late if an earlier accepted one for its card has a
-    /// larger x or, where it is exclusive, a larger s.
+    /// A command comes late if the update pair of an earlier accepted one for
+    /// its card has a larger x than its verifier or, where it is exclusive, a
+    /// larger s.
     fn late(&self, at: usize, command: &Command) -> bool {
         self.earlier(at, command.card).any(|before| {
-            let larger_s = before.pair.s > command.pair.s;
-            before.pair.x > command.pair.x || command.mode == Mode::Exclusive && larger_s
+            let (before, verifier) = (before.update, command.verifier);
+            let larger_s = before.s > verifier.s;
+            before.x > verifier.x || command.mode == Mode::Exclusive && larger_s
         })
     }
 
-    /// Whether a stamp of the command that is not zero has a T more than
+    /// Whether a stamp of the update pair that is not zero has a T more than
     /// 1,000,000 above the largest T that was accepted before for its card on
     /// that side, which is 0 where there was none.
     fn far_ahead(&self, at: usize, command: &Command) -> bool {
         let far = |side: fn(Pair) -> u64| {
             let before = self.earlier(at, command.card);
-            let largest = before.map(|before| side(before.pair) >> 32).max();
-            let own = side(command.pair);
+            let largest = before.map(|before| side(before.update) >> 32).max();
+            let own = side(command.update);
             own != 0 && own >> 32 > largest.unwrap_or(0) + 1_000_000
         };
         far(|pair| pair.s) || far(|pair| pair.x)
@@ -129,10 +131,11 @@ impl<'a> List<'a> {
         places.filter(of_card).collect()
     }
 
-    /// The exclusive commands for a card under a stamp, refused ones too.
+    /// The exclusive commands for a card under a stamp, by their update pairs,
+    /// refused ones too.
     fn under(&self, card: u16, stamp: u64) -> impl Iterator<Item = &Command<'a>> {
         self.sent_for(card)
-            .filter(move |other| other.mode == Mode::Exclusive && other.pair.x == stamp)
+            .filter(move |other| other.mode == Mode::Exclusive && other.update.x == stamp)
     }
 
     /// Whether the premise holds for a card, and whether any command carries
@@ -140,16 +143,17 @@ impl<'a> List<'a> {
     fn premise(&self, card: u16) -> (bool, bool) {
         let mut carried = self.sent_for(card).filter(|command| carries(command));
         let holds = carried.all(|shared| {
-            self.under(card, shared.pair.x)
-                .all(|other| shared.pair.s > other.pair.s)
+            self.under(card, shared.update.x)
+                .all(|other| shared.update.s > other.update.s)
         });
         (holds, self.sent_for(card).any(carries))
     }
 }
 
-/// A shared command that carries another desk's exclusive stamp.
+/// A shared command that carries another desk's exclusive stamp in its update
+/// pair.
 fn carries(command: &Command) -> bool {
-    let Command { mode, pair, .. } = command;
+    let (mode, pair) = (&command.mode, command.update);
     *mode == Mode::Shared && pair.x != 0 && desk_and_start(pair.x) != desk_and_start(pair.s)
 }
 
@@ -163,7 +167,7 @@ pub fn premise(events: &[Event], card: u16) -> bool {
 pub fn premise_speaks(events: &[Event], card: u16) -> bool {
     let list = List::new(events);
     let mut carried = list.sent_for(card).filter(|command| carries(command));
-    carried.any(|shared| list.under(card, shared.pair.x).next().is_some())
+    carried.any(|shared| list.under(card, shared.update.x).next().is_some())
 }
 
 /// How many pairs of one session there are, if all are isolated, whether the

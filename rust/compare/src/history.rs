@@ -119,6 +119,9 @@ fn note(run: &mut Run, before: &History, command: &[u8], number: u8) {
     let Some(command) = Command::parse(command) else {
         return;
     };
+    if number == 0 && command.update != command.verifier {
+        run.seen(Kind::HistoryOpenings);
+    }
     let payload = before.payload() + command.payload.len();
     let (many, long) = (before.count() >= MOST_KEPT, payload > MOST_PAYLOAD);
     match number {
@@ -154,11 +157,14 @@ fn willing(random: &mut Random, image: &[u8], length: usize) -> Vec<u8> {
     };
     let pair = Pair::new(own(stored.pair.s), own(stored.pair.x));
     let act = random.pick(&[1, 2, 3, 3, 3, 4, 4, 5]);
+    let later = Pair::new(pair.s, generate::later(random, pair.x));
+    let none = Pair::default();
     let fields = CommandFields {
         act,
         mode: 2,
         card,
         pair,
+        update: random.pick(&[none, none, none, pair, later]),
         expected: stored.mark,
         next: random.pick(&[Mark::default(), Mark::new(1, 7), Mark::new(2, 9)]),
         edition: match act {

@@ -11,6 +11,7 @@
 //!   different cards in another order.
 //! - [`proposals`]: what a desk knows and proposes. [`systems`]: random systems
 //!   of desks, queues and a store, by the rules and with one rule broken.
+//! - [`pairs`]: commands with two pairs, edge by edge.
 //! - [`trials`]: the sheet's trials, by both.
 //! - [`sessions`]: lists of commands as desks send them, sessions interleaved.
 //! - [`demand3`]: the sentences of demand 3, over a list of events.
@@ -26,6 +27,7 @@ pub mod images;
 pub mod lapses;
 pub mod lists;
 pub mod logs;
+pub mod pairs;
 pub mod program;
 pub mod proposals;
 pub mod proved;

@@ -4,11 +4,13 @@
 use second::generate;
 use second::random::Random;
 use second::short::fresh;
+use second::Mode;
 
 use crate::answers::{answer, reply_near};
 use crate::coverage::{Kind, Run};
 use crate::demand3::{self, Event};
 use crate::images;
+use crate::pairs;
 use crate::run::{bytes, Compared};
 use crate::sessions::{self, Desks};
 
@@ -55,6 +57,9 @@ pub fn any(run: &mut Run, random: &mut Random) -> Compared<()> {
             let told = answer(run, &mut image, &command, &mut reply)?;
             events.push(Event::new(&command, lent, told, &reply));
             run.seen(Kind::Listed);
+            if let (0, Some(mode)) = (told.number, pairs::opening(&command)) {
+                run.seen_at(Kind::ListedOpenings, usize::from(mode == Mode::Exclusive));
+            }
         }
         sentences(run, cards as u16, &events)?;
         run.seen_at(Kind::Lists, at);

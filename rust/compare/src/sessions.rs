@@ -98,8 +98,30 @@ fn stored(image: &[u8], card: u16) -> Entry {
     entry.unwrap_or_default()
 }
 
-/// A command of a session.
+/// A command of a session: under its pair alone, or with that as its update
+/// pair and a verifier before it.
 pub fn sent(random: &mut Random, image: &[u8], session: Open) -> Vec<u8> {
+    let stored = stored(image, session.card).pair;
+    let mut before = |stored: u64, new: u64| {
+        let older = stored.min(new);
+        random.pick(&[new, older, older, 0])
+    };
+    let verifier = Pair::new(
+        before(stored.s, session.pair.s),
+        before(stored.x, session.pair.x),
+    );
+    let verifier = random.one_in(2).then_some(verifier);
+    sent_by(random, image, session, verifier)
+}
+
+/// A command of a session with this verifier; if there is none, under its pair
+/// alone.
+pub fn sent_by(
+    random: &mut Random,
+    image: &[u8],
+    session: Open,
+    verifier: Option<Pair>,
+) -> Vec<u8> {
     let stored = stored(image, session.card);
     let act = match session.mode {
         1 => random.pick(&[1, 2, 2, 5]),
@@ -115,7 +137,8 @@ pub fn sent(random: &mut Random, image: &[u8], session: Open) -> Vec<u8> {
         act,
         mode: session.mode,
         card: session.card,
-        pair: session.pair,
+        pair: verifier.unwrap_or(session.pair),
+        update: verifier.map_or(Pair::default(), |_| session.pair),
         expected: match random.one_in(10) {
             true => random.pick(&marks),
             false => stored.mark,

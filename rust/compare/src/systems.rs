@@ -13,10 +13,11 @@ use crate::coverage::{Kind, Run};
 use crate::demand3::{self, Event};
 use crate::images;
 use crate::lists::sentences;
+use crate::pairs;
 use crate::proposals::Knowing;
 use crate::queues::turn;
 use crate::run::{bytes, Compared};
-use crate::sessions::{sent, Open};
+use crate::sessions::{sent, sent_by, Open};
 
 /// The rules, each as what is done where it alone is broken.
 #[derive(Clone, Copy, Debug, PartialEq, Eq)]
@@ -25,6 +26,8 @@ enum Wrong {
     StartAgain,
     /// A command under a pair that nobody proposed.
     NeverProposed,
+    /// A command whose verifier was proposed, and whose update pair was not.
+    UpdateNotProposed,
     /// A command in the mode in which its pair was not proposed.
     OtherMode,
     /// A command for a card for which its pair was not proposed.
@@ -49,9 +52,10 @@ enum Wrong {
     UsedQueue,
 }
 
-const WRONGS: [Wrong; 13] = [
+const WRONGS: [Wrong; 14] = [
     Wrong::StartAgain,
     Wrong::NeverProposed,
+    Wrong::UpdateNotProposed,
     Wrong::OtherMode,
     Wrong::OtherCard,
     Wrong::HalfLearnt,
@@ -327,14 +331,28 @@ impl System {
         if !whole && random.one_in(20) {
             command.truncate(random.index(52));
         }
+        self.sends(run, random, open.card, &command)
+    }
+
+    /// A command for a card reaches the store.
+    fn sends(
+        &mut self,
+        run: &mut Run,
+        random: &mut Random,
+        card: u16,
+        command: &[u8],
+    ) -> Compared<()> {
         let length = random.pick(&[0, 16]);
         let lent = random.bytes(length);
         let mut reply = lent.clone();
-        let told = answer(run, &mut self.image, &command, &mut reply)?;
-        self.events.push(Event::new(&command, lent, told, &reply));
+        let told = answer(run, &mut self.image, command, &mut reply)?;
+        self.events.push(Event::new(command, lent, told, &reply));
         let [s, x, ..] = told.fields;
-        self.told.push((open.card, Pair::new(s, x)));
+        self.told.push((card, Pair::new(s, x)));
         self.count(run, 5);
+        if self.counted && told.number == 0 && pairs::opening(command).is_some() {
+            run.seen(Kind::SystemOpenings);
+        }
         Ok(())
     }
 
@@ -367,7 +385,10 @@ impl System {
         let (first, low) = (own(&self.desks[w]), own(&self.desks[r]));
         let early = Pair::new(0, first);
         match rule {
-            Wrong::StartAgain | Wrong::OwnForgotten | Wrong::NeverProposed => {
+            Wrong::StartAgain
+            | Wrong::OwnForgotten
+            | Wrong::NeverProposed
+            | Wrong::UpdateNotProposed => {
                 self.write_then_read(run, random, (w, r))?;
                 let high = self.high(run, h, 0)?;
                 let Desk { desk, start, .. } = self.desks[w];
@@ -375,6 +396,12 @@ impl System {
                     _ if !broken => {}
                     Wrong::StartAgain => self.desks[w] = Desk::new(desk, start),
                     Wrong::OwnForgotten => self.desks[w].cards[0] = Knowing::nothing(desk, start),
+                    Wrong::UpdateNotProposed => {
+                        let (card, mode, pair) = (0, 2, Pair::new(high.s, first));
+                        let open = Open { card, mode, pair };
+                        let command = sent_by(random, &self.image, open, Some(early));
+                        return self.sends(run, random, 0, &command);
+                    }
                     _ => return self.sent_under(run, random, (2, high.s, first)),
                 }
                 self.write(run, random, (w, 0), high)

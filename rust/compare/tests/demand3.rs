@@ -157,3 +157,51 @@ fn the_same_desk_between() {
     let shared = command(VERIFY, SHARED, a_prime());
     assert_eq!(says(&events(&[own.clone(), shared, own])), Ok(()));
 }
+
+/// A verify command with a verifier and an update pair.
+fn opens(mode: u8, verifier: Pair, update: Pair) -> Vec<u8> {
+    let mut fields = fields(VERIFY, mode, verifier);
+    fields.update = update;
+    fields.with_payload(b"")
+}
+
+/// Earlier update pairs are compared with the new verifier.
+#[test]
+fn a_late_verifier_whose_update_pair_is_not_late() {
+    let third = Pair::new(at(3, 3), at(3, 3));
+    let list = [
+        opens(EXCLUSIVE, Pair::default(), b_prime()),
+        opens(EXCLUSIVE, a_prime(), third),
+        opens(EXCLUSIVE, b_prime(), third),
+        opens(SHARED, Pair::new(0, at(3, 3)), third),
+    ];
+    let told = events(&list);
+    let numbers: Vec<u8> = told.iter().map(|event| event.number).collect();
+    assert_eq!(numbers, [0, 3, 0, 0]);
+    assert_eq!(says(&told), Ok(()));
+    for (at, number) in [(1, 0), (2, 3), (3, 3)] {
+        let mut told = told.clone();
+        told[at].number = number;
+        assert!(says(&told).is_err(), "command {at} with {number}");
+    }
+}
+
+/// Trial d with update pairs: the shared command's verifier has desk 1's
+/// stamps. The premise reads update pairs, and is broken; with a larger s in
+/// the update pair alone it is not, and the same answers do not pass.
+#[test]
+fn an_intruder_by_its_update_pair() {
+    let shared = |s| {
+        opens(
+            SHARED,
+            Pair::new(at(0, 1), at(1, 1)),
+            Pair::new(s, at(1, 1)),
+        )
+    };
+    let own = command(VERIFY, EXCLUSIVE, a_prime());
+    let mut events = events(&[own.clone(), shared(at(0, 2)), own]);
+    assert!(events.iter().all(|event| event.number == 0));
+    assert_eq!(says(&events), Ok(()));
+    events[1].command = shared(at(2, 2));
+    assert!(says(&events).is_err());
+}

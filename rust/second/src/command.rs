@@ -1,5 +1,5 @@
 //! A command: its bytes, its fields, and when it is well formed (sheet, "A
-//! command").
+//! command"; request 7, the update pair).
 
 use crate::endian::{put, u16_at, u32_at, u64_at};
 use crate::language::Language;
@@ -55,10 +55,11 @@ pub struct CommandFields {
     pub mode: u8,
     /// Offset 2.
     pub card: u16,
-    /// Offsets 4 and 12.
+    /// Offsets 4 and 12: the verifier.
     pub pair: Pair,
-    /// Offset 20, sixteen zeros in a well-formed command.
-    pub zeros: [u8; 16],
+    /// Offsets 20 and 28: the update pair as it is sent; all zero means the
+    /// same as the verifier.
+    pub update: Pair,
     /// Offsets 36 and 38.
     pub expected: Mark,
     /// Offsets 42 and 44.
@@ -78,12 +79,20 @@ impl CommandFields {
             mode: *bytes.get(1)?,
             card: u16_at(bytes, 2)?,
             pair: Pair::new(u64_at(bytes, 4)?, u64_at(bytes, 12)?),
-            zeros: *bytes.get(20..)?.first_chunk()?,
+            update: Pair::new(u64_at(bytes, 20)?, u64_at(bytes, 28)?),
             expected: Mark::new(u16_at(bytes, 36)?, u32_at(bytes, 38)?),
             next: Mark::new(u16_at(bytes, 42)?, u32_at(bytes, 44)?),
             edition: u16_at(bytes, 48)?,
             length: u16_at(bytes, LENGTH_OFFSET)?,
         })
+    }
+
+    /// The update pair that is meant: the verifier if none is sent.
+    pub fn update_pair(&self) -> Pair {
+        match self.update {
+            Pair { s: 0, x: 0 } => self.pair,
+            sent => sent,
+        }
     }
 
     /// The 52 bytes of these fields. Nothing is checked.
@@ -93,7 +102,8 @@ impl CommandFields {
         put(&mut bytes, 2, &self.card.to_le_bytes());
         put(&mut bytes, 4, &self.pair.s.to_le_bytes());
         put(&mut bytes, 12, &self.pair.x.to_le_bytes());
-        put(&mut bytes, 20, &self.zeros);
+        put(&mut bytes, 20, &self.update.s.to_le_bytes());
+        put(&mut bytes, 28, &self.update.x.to_le_bytes());
         put(&mut bytes, 36, &self.expected.desk.to_le_bytes());
         put(&mut bytes, 38, &self.expected.transaction.to_le_bytes());
         put(&mut bytes, 42, &self.next.desk.to_le_bytes());
@@ -128,9 +138,11 @@ pub struct Command<'a> {
     pub mode: Mode,
     /// The card, from 0.
     pub card: u16,
-    /// The pair it carries.
-    pub pair: Pair,
-    /// Its desk: desk and start in the mode's own stamp.
+    /// The pair that staleness judges; its stamps may be zero.
+    pub verifier: Pair,
+    /// The pair that the stored one is raised by, and that names the session.
+    pub update: Pair,
+    /// Its desk: desk and start in the mode's own stamp of the update pair.
     pub desk: u32,
     /// The commit mark it expects to be stored.
     pub expected: Mark,
@@ -149,9 +161,12 @@ impl<'a> Command<'a> {
         let payload = bytes.get(COMMAND_BYTES..)?;
         let act = Act::from_number(fields.act)?;
         let mode = Mode::from_number(fields.mode)?;
-        let desk = mode.desk(fields.pair)?;
+        let (verifier, update) = (fields.pair, fields.update_pair());
+        let desk = mode.desk(update)?;
         let well_formed = payload.len() == usize::from(fields.length)
-            && fields.zeros == [0; 16]
+            && verifier.is_valid()
+            && update.s >= verifier.s
+            && update.x >= verifier.x
             && fields.expected.is_valid()
             && fields.next.is_valid()
             && fits_act(act, mode, &fields);
@@ -159,7 +174,8 @@ impl<'a> Command<'a> {
             act,
             mode,
             card: fields.card,
-            pair: fields.pair,
+            verifier,
+            update,
             desk,
             expected: fields.expected,
             next: fields.next,
@@ -174,7 +190,7 @@ impl<'a> Command<'a> {
             card: self.card,
             desk: self.desk,
             mode: self.mode,
-            pair: self.pair,
+            pair: self.update,
         }
     }
 }

@@ -87,6 +87,65 @@ fn near_pair(random: &mut Random, mode: u8, stored: Pair) -> Pair {
     pair
 }
 
+/// The two pairs of a command that is to go with this one: half of the time
+/// the pair alone, else a verifier and an update pair near the edges of their
+/// rules.
+fn two_pairs(random: &mut Random, mode: u8, pair: Pair) -> (Pair, Pair) {
+    let none = Pair::default();
+    let Pair { s, x } = pair;
+    let shared = mode == 1;
+    match random.below(24) {
+        // The verifier again; a new pair after it.
+        0 => (pair, pair),
+        1..=2 => (pair, Pair::new(later(random, s), later(random, x))),
+        3 => (pair, Pair::new(later(random, s), x)),
+        4 => (pair, Pair::new(s, later(random, x))),
+        // The pair, opened out of none, or without the mode's own stamp.
+        5..=6 => (none, pair),
+        7 if shared => (Pair::new(0, x), pair),
+        7 => (Pair::new(s, 0), pair),
+        // Half of it none, above none and above something.
+        8 => (random.pick(&[none, pair]), Pair::new(0, later(random, x))),
+        9 => (random.pick(&[none, pair]), Pair::new(later(random, s), 0)),
+        // Off the verifier by one.
+        10 => (
+            pair,
+            Pair::new(random.pick(&[s.wrapping_sub(1), s.wrapping_add(1)]), x),
+        ),
+        11 => (
+            pair,
+            Pair::new(s, random.pick(&[x.wrapping_sub(1), x.wrapping_add(1)])),
+        ),
+        // A stamp without a desk, in either.
+        12 => (pair, Pair::new(without_desk(random), later(random, x))),
+        13 => (pair, Pair::new(later(random, s), without_desk(random))),
+        14 => (
+            Pair::new(1, x),
+            Pair::new(later(random, s), later(random, x)),
+        ),
+        15 => (
+            Pair::new(s, 1),
+            Pair::new(later(random, s), later(random, x)),
+        ),
+        16 => (pair, Pair::new(any_stamp(random), any_stamp(random))),
+        _ => (pair, none),
+    }
+}
+
+/// A stamp with a desk, above this one if there is one.
+pub fn later(random: &mut Random, stamp: u64) -> u64 {
+    let desk = random.pick(&[1, 2, 3, u16::MAX]);
+    let time = (stamp >> 32) as u32;
+    let time = time.saturating_add(random.pick(&[1, 1, 2]));
+    crate::stamp::stamp(time, desk, random.pick(&[0, 0, 1]))
+}
+
+/// A stamp that is not valid, and large.
+fn without_desk(random: &mut Random) -> u64 {
+    let time = random.pick(&[3, 9, u32::MAX]);
+    crate::stamp::stamp(time, 0, random.pick(&[0, 1, u16::MAX]))
+}
+
 /// A mark by the rules.
 fn mark(random: &mut Random) -> Mark {
     match random.below(3) {
@@ -185,6 +244,8 @@ pub fn fitting_command(random: &mut Random, image: &[u8]) -> Vec<u8> {
     let act = random.between(1, 5) as u8;
     let write = act == 3 || act == 4;
     let mode = if write { 2 } else { random.pick(&[1, 2]) };
+    let pair = near_pair(random, mode, stored.pair);
+    let (pair, update) = two_pairs(random, mode, pair);
     let fields = CommandFields {
         act,
         mode,
@@ -193,8 +254,8 @@ pub fn fitting_command(random: &mut Random, image: &[u8]) -> Vec<u8> {
         } else {
             card
         },
-        pair: near_pair(random, mode, stored.pair),
-        zeros: [0; 16],
+        pair,
+        update,
         expected: if random.one_in(8) {
             mark(random)
         } else {
@@ -224,18 +285,21 @@ fn named(random: &mut Random, stored: Entry) -> u16 {
 
 /// A command with any fields.
 pub fn any_command(random: &mut Random) -> Vec<u8> {
-    let mut fields = CommandFields {
+    let fields = CommandFields {
         act: random.between(0, 6) as u8,
         mode: random.between(0, 3) as u8,
         card: random.pick(&[0, 0, 1, 2, 127, 128, u16::MAX]),
         pair: Pair::new(any_stamp(random), any_stamp(random)),
-        zeros: [0; 16],
+        update: match random.below(4) {
+            0 => Pair::new(any_stamp(random), any_stamp(random)),
+            1 => Pair::new(random.number(), random.number()),
+            _ => Pair::default(),
+        },
         expected: any_mark(random),
         next: any_mark(random),
         edition: random.pick(&[0, 0, 1, 2, u16::MAX]),
         length: random.below(70) as u16,
     };
-    fields.zeros[random.index(16)] = random.pick(&[0, 0, 0, 1]);
     let length = random.index(70);
     let payload = random.bytes(length);
     match random.one_in(4) {

@@ -26,9 +26,9 @@ impl Entry {
 
     /// Rows 3, 17 and 4 to 8, in the table's order.
     fn refusal(self, command: &Command, room: usize, reply_length: usize) -> Option<u8> {
-        if command.mode.is_below(command.pair, self.pair) {
+        if command.mode.is_below(command.verifier, self.pair) {
             Some(STALE)
-        } else if command.pair.is_too_far_ahead(self.pair) {
+        } else if command.update.is_too_far_ahead(self.pair) {
             Some(TOO_FAR_AHEAD)
         } else if !command.expected.passes(self.mark) {
             Some(MARK_DIFFERS)
@@ -65,7 +65,7 @@ impl Entry {
     /// The entry after an accepted command.
     fn accepted(self, command: &Command) -> Entry {
         let mut entry = self;
-        entry.pair = self.pair.larger(command.pair);
+        entry.pair = self.pair.larger(command.update);
         entry.mark = command.next;
         let length = u16::try_from(command.payload.len()).unwrap_or(u16::MAX);
         match command.act {

@@ -77,7 +77,7 @@ impl History {
     /// A card's entry, as the kept commands have made it.
     pub fn entry(&self, card: u16) -> Entry {
         let length = |language| u16::try_from(self.text(card, language).len());
-        let pairs = self.about(card).map(|(fields, _)| fields.pair);
+        let pairs = self.about(card).map(|(fields, _)| fields.update_pair());
         let translated = self.writes(card, Language::Translation).next();
         let editions = self.writes(card, Language::Original).count();
         Entry {

@@ -1,6 +1,7 @@
 //! The trials a to n, case P and the three slips, as data (sheet, "Trials at
-//! the desk", "Streams and the program", "Three slips we have seen"), and what
-//! runs them on any implementation. Where no act is named it is verify.
+//! the desk", "Streams and the program", "Three slips we have seen"), commands
+//! with two pairs (request 7), and what runs them on any implementation. Where
+//! no act is named it is verify.
 
 // Nothing here is part of the store: a trial that is written wrong stops the
 // test.
@@ -135,9 +136,9 @@ impl Trial {
 }
 
 /// All that is tried.
-pub const NAMES: [&str; 18] = [
+pub const NAMES: [&str; 19] = [
     "a", "b", "c", "d", "e", "f", "g", "h", "i", "j", "k", "l", "m", "n", "P", "slip 1", "slip 2",
-    "slip 3",
+    "slip 3", "pairs",
 ];
 
 /// Verify commands, and the number of each.
@@ -158,6 +159,7 @@ pub fn trials(room: u64) -> Vec<Trial> {
     }
     all.push(Trial::new("P", case_p_steps()));
     all.extend(slips());
+    all.extend(two_pairs());
     all
 }
 
@@ -300,6 +302,114 @@ fn slips() -> Vec<Trial> {
         Trial::new("slip 2", larger_of_each),
         Trial::new("slip 3", short_raises_nothing),
     ]
+}
+
+/// A verify command with a verifier and an update pair, that gets this number.
+fn opens(mode: u8, verifier: Pair, update: Pair, number: u8) -> Step {
+    let mut fields = fields(VERIFY, mode, verifier);
+    fields.update = update;
+    step(fields.with_payload(b""), number)
+}
+
+/// Sessions opened inside a command: out of no stamps and out of an older
+/// pair, which then is late.
+fn sessions_opened() -> Vec<Step> {
+    let newer = Pair::new(at(1, 1), at(2, 1));
+    let mut first = fields(WRITE_ORIGINAL, EXCLUSIVE, Pair::default());
+    first.update = a_prime();
+    vec![
+        step(first.with_payload(b"205"), 0).all_fields([at(1, 1), at(1, 1), 0, 0, 1, 0, 0]),
+        step(write_translation(a_prime(), 1, b"401"), 0),
+        opens(EXCLUSIVE, a_prime(), newer, 0).all_fields([at(1, 1), at(2, 1), 0, 0, 1, 1, 0]),
+        step(command(VERIFY, EXCLUSIVE, newer), 0),
+        step(command(VERIFY, EXCLUSIVE, a_prime()), 3),
+    ]
+}
+
+/// Shared verifiers without s; the larger of each stamp is kept.
+fn without_s() -> Vec<Step> {
+    let verifier = Pair::new(0, at(1, 1));
+    let low = Pair::new(at(0, 3), at(1, 1));
+    let opened = |update| {
+        let step = opens(SHARED, verifier, update, 0);
+        step.field(S, at(2, 2)).field(X, at(1, 1))
+    };
+    vec![
+        step(command(VERIFY, EXCLUSIVE, a_prime()), 0),
+        opened(b()),
+        opened(low),
+    ]
+}
+
+/// Verifiers that come late, though their update pair would not.
+fn late_verifiers() -> Vec<Step> {
+    let newest = Pair::new(at(3, 3), at(3, 3));
+    let (old_x, old_s) = (b(), Pair::new(at(1, 1), at(2, 2)));
+    vec![
+        step(command(VERIFY, EXCLUSIVE, b_prime()), 0),
+        opens(EXCLUSIVE, old_x, newest, 3).field(X, at(2, 2)),
+        opens(SHARED, old_x, newest, 3).field(S, at(2, 2)),
+        opens(EXCLUSIVE, old_s, newest, 3),
+        opens(SHARED, old_s, newest, 0).field(S, at(3, 3)),
+    ]
+}
+
+/// Commands with two pairs on a fresh card.
+fn two_pairs() -> Vec<Trial> {
+    let trial = |steps| Trial::new("pairs", steps);
+    let none = Pair::default();
+    let accepted = [
+        (EXCLUSIVE, a_prime(), a_prime()),
+        (EXCLUSIVE, Pair::new(at(2, 2) - 1, at(2, 2) - 1), b_prime()),
+        (SHARED, none, Pair::new(at(2, 2), 0)),
+        (EXCLUSIVE, none, Pair::new(0, at(2, 2))),
+    ];
+    let accepted = accepted.map(|(mode, verifier, update)| {
+        let step = opens(mode, verifier, update, 0);
+        trial(vec![step.field(S, update.s).field(X, update.x)])
+    });
+    let malformed = malformed_pairs().map(|(mode, verifier, update)| {
+        // What is malformed raises nothing.
+        let next = step(command(VERIFY, SHARED, a()), 0);
+        let next = next.field(S, at(1, 1)).field(X, 0);
+        trial(vec![opens(mode, verifier, update, 1), next])
+    });
+    let without_s = Trial {
+        // 0.3.0 is not above the s of the exclusive command under 1.1.0.
+        premise: false,
+        ..trial(without_s())
+    };
+    let mut all = vec![trial(sessions_opened()), without_s, trial(late_verifiers())];
+    all.extend(accepted);
+    all.extend(malformed);
+    all
+}
+
+/// Modes, verifiers and update pairs that make a command malformed.
+fn malformed_pairs() -> impl Iterator<Item = (u8, Pair, Pair)> {
+    let (none, below) = (Pair::default(), at(2, 2) - 1);
+    let third = at(3, 3);
+    [
+        // Half of it zero is not all of it zero.
+        (EXCLUSIVE, a_prime(), Pair::new(0, at(2, 2))),
+        (SHARED, a_prime(), Pair::new(at(2, 2), 0)),
+        // Below the verifier by one.
+        (EXCLUSIVE, b_prime(), Pair::new(below, third)),
+        (EXCLUSIVE, b_prime(), Pair::new(third, below)),
+        (SHARED, b_prime(), Pair::new(below, third)),
+        (SHARED, b_prime(), Pair::new(third, below)),
+        // Stamps without a desk, in the update pair and in the verifier.
+        (EXCLUSIVE, none, Pair::new(1 << 32, at(1, 1))),
+        (EXCLUSIVE, none, Pair::new(at(1, 1), 1 << 32)),
+        (EXCLUSIVE, Pair::new(5, 0), a_prime()),
+        (EXCLUSIVE, Pair::new(0, 5), a_prime()),
+        // No stamp of the mode's own, where either pair is the update pair.
+        (SHARED, none, Pair::new(0, at(2, 2))),
+        (EXCLUSIVE, none, Pair::new(at(2, 2), 0)),
+        (SHARED, Pair::new(0, at(2, 2)), none),
+        (EXCLUSIVE, Pair::new(at(2, 2), 0), none),
+    ]
+    .into_iter()
 }
 
 /// The commands of case P and their lines.

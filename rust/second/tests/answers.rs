@@ -238,6 +238,31 @@ fn row_3_a_zero_stamp_is_below_every_other() {
     assert_eq!(judged(verify, b""), 3);
 }
 
+/// The number for a verify command with this verifier and the stored pair, one
+/// T later each, as its update pair.
+fn opening(mode: u8, verifier: Pair) -> u8 {
+    let Pair { s, x } = stored_pair();
+    let mut verify = accepted(VERIFY, mode);
+    verify.pair = verifier;
+    verify.update = Pair::new(s + (1 << 32), x + (1 << 32));
+    judged(verify, b"")
+}
+
+#[test]
+fn row_3_looks_at_the_verifier_alone() {
+    let Pair { s, x } = stored_pair();
+    for mode in [SHARED, EXCLUSIVE] {
+        assert_eq!(opening(mode, Pair::new(s, x)), 0);
+        assert_eq!(opening(mode, Pair::new(s, x - 1)), 3);
+        assert_eq!(opening(mode, Pair::new(s, 0)), 3);
+        assert_eq!(opening(mode, Pair::default()), 3);
+    }
+    for (verifier, number) in [(s - 1, 3), (0, 3), (s, 0)] {
+        assert_eq!(opening(EXCLUSIVE, Pair::new(verifier, x)), number);
+        assert_eq!(opening(SHARED, Pair::new(verifier, x)), 0);
+    }
+}
+
 #[test]
 fn row_3_stamps_with_the_top_bit_are_large() {
     let top = at(u32::MAX, u16::MAX);

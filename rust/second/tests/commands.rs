@@ -108,12 +108,52 @@ fn the_own_stamp_is_nonzero() {
     all_break(|fields| fields.pair = Pair::default());
 }
 
+/// The pair, and this one as the update pair.
+fn opens(fields: &mut CommandFields, verifier: Pair, update: Pair) {
+    (fields.pair, fields.update) = (verifier, update);
+}
+
 #[test]
-fn the_sixteen_zeros() {
-    for place in 0..16 {
-        for byte in [1, 0x80, 0xff] {
-            all_break(|fields| fields.zeros[place] = byte);
-        }
+fn the_update_pair_reaches_the_verifier() {
+    let (one, two) = (b_prime(), Pair::new(at(3, 3), at(3, 3)));
+    all_stay(|fields| opens(fields, one, one));
+    all_stay(|fields| opens(fields, one, two));
+    all_stay(|fields| opens(fields, Pair::default(), one));
+    all_stay(|fields| opens(fields, Pair::new(one.s, one.x - 1), one));
+    all_stay(|fields| opens(fields, Pair::new(one.s - 1, one.x), one));
+    all_break(|fields| opens(fields, one, Pair::new(one.s - 1, two.x)));
+    all_break(|fields| opens(fields, one, Pair::new(two.s, one.x - 1)));
+    all_break(|fields| opens(fields, two, one));
+}
+
+/// Half of the sixteen bytes zero is not all of them zero.
+#[test]
+fn half_an_update_pair() {
+    all_break(|fields| fields.update = Pair::new(0, at(3, 3)));
+    let half_s = |fields: &mut CommandFields| opens(fields, a(), Pair::new(at(3, 3), 0));
+    let half_x = |fields: &mut CommandFields| {
+        let verifier = Pair::new(0, at(1, 1));
+        opens(fields, verifier, Pair::new(0, at(3, 3)));
+    };
+    let shared = [false, false, false, false, false, true, true, true];
+    assert_eq!(after(half_s), shared);
+    assert_eq!(after(half_x), shared.map(|stays| !stays));
+}
+
+/// The nonzero rule of each mode falls on the update pair; a verifier may be
+/// zero, and is valid.
+#[test]
+fn the_rules_of_each_pair() {
+    let (one, none) = (b_prime(), Pair::default());
+    for bad in [1, 0xffff, 1 << 32, 1 << 63, 0xffff_ffff_0000_0000] {
+        let high = Pair::new(u64::MAX, u64::MAX);
+        all_break(|fields| opens(fields, none, Pair::new(bad, one.x)));
+        all_break(|fields| opens(fields, none, Pair::new(one.s, bad)));
+        all_break(|fields| opens(fields, Pair::new(bad, 0), high));
+        all_break(|fields| opens(fields, Pair::new(0, bad), high));
+    }
+    for verifier in [none, Pair::new(0, one.x), Pair::new(one.s, 0)] {
+        all_stay(|fields| opens(fields, verifier, one));
     }
 }
 
@@ -207,7 +247,7 @@ fn a_command_to_the_byte() {
         mode: 2,
         card: 0x0201,
         pair: Pair::new(0x1817_1615_1413_1211, 0x2827_2625_2423_2221),
-        zeros: [0; 16],
+        update: Pair::new(0x9897_9695_9493_9291, 0xa8a7_a6a5_a4a3_a2a1),
         expected: Mark::new(0x3231, 0x4443_4241),
         next: Mark::new(0x5251, 0x6463_6261),
         edition: 0x7271,
@@ -216,7 +256,8 @@ fn a_command_to_the_byte() {
     let mut expected = vec![4, 2, 1, 2];
     expected.extend(0x11..=0x18);
     expected.extend(0x21..=0x28);
-    expected.extend([0; 16]);
+    expected.extend(0x91..=0x98);
+    expected.extend(0xa1..=0xa8);
     expected.extend([0x31, 0x32, 0x41, 0x42, 0x43, 0x44]);
     expected.extend([0x51, 0x52, 0x61, 0x62, 0x63, 0x64]);
     expected.extend([0x71, 0x72, 3, 0]);
@@ -236,4 +277,32 @@ fn a_parsed_command_and_its_session() {
         assert_eq!((session.mode, session.pair), (mode, pair));
         assert_eq!(mode.number(), number);
     }
+}
+
+/// Sessions and desks are named by the update pair.
+#[test]
+fn the_session_of_an_update_pair() {
+    let (verifier, update) = (a_prime(), Pair::new(at(2, 2), at(3, 3)));
+    for (number, desk) in [(1, 2 << 16), (2, 3 << 16)] {
+        let mut verify = fields(VERIFY, number, verifier);
+        verify.update = update;
+        let bytes = verify.with_payload(b"");
+        let command = Command::parse(&bytes).expect("well formed");
+        assert_eq!((command.verifier, command.update), (verifier, update));
+        let session = command.session();
+        assert_eq!((session.desk, session.pair), (desk, update));
+    }
+}
+
+/// The second example of rule 3.4 in docs/RULES.md, to the byte.
+#[test]
+fn the_example_of_two_pairs() {
+    let mut bytes = vec![5, 1, 0, 0, 0, 0, 0, 0, 0, 0, 0, 0];
+    bytes.extend([0, 0, 1, 0, 1, 0, 0, 0]);
+    bytes.extend([0, 0, 2, 0, 2, 0, 0, 0]);
+    bytes.extend([0, 0, 1, 0, 1, 0, 0, 0]);
+    bytes.extend([0; 16]);
+    let command = Command::parse(&bytes).expect("well formed");
+    assert_eq!(command.verifier, Pair::new(0, at(1, 1)));
+    assert_eq!((command.update, command.desk), (b(), 2 << 16));
 }

@@ -51,6 +51,20 @@ fn an_entry_is_worked_out() {
     assert_eq!(history.entry(2), Entry::default());
 }
 
+/// A kept command counts by its update pair.
+#[test]
+fn an_update_pair_is_worked_out() {
+    let mut history = History::default();
+    let opened = CommandFields {
+        update: Pair::new(at(2, 2), at(1, 1)),
+        ..common::fields(VERIFY, SHARED, Pair::new(0, 0))
+    };
+    let told = history.answer(1, 16, &opened.with_payload(&[]), &mut []);
+    assert_eq!((told.number, told.fields.pair), (0, b()));
+    assert_eq!(history.entry(0).pair, b());
+    assert_eq!(history.answer(1, 16, &again(), &mut []).number, 3);
+}
+
 #[test]
 fn two_hundred_and_no_more() {
     let mut history = History::default();

@@ -184,6 +184,10 @@ fn parsing_any_bytes() {
             let session = command.session();
             let own = session.mode.own_stamp(session.pair);
             assert!(own != 0 && session.desk == desk_and_start(own));
+            let Command {
+                verifier, update, ..
+            } = command;
+            assert_eq!(update, verifier.larger(update));
         }
     }
     assert!(well_formed > 30_000);
@@ -207,7 +211,7 @@ fn an_entry_takes_any_command() {
         let room = random.pick(&[0, 16, usize::MAX]);
         match entry.take(&command, room, random.pick(&[0, 16, usize::MAX])) {
             Ok(now) => {
-                assert!(now.pair.s >= entry.pair.s.max(command.pair.s));
+                assert_eq!(now.pair, entry.pair.larger(command.update));
                 assert!(now.edition >= entry.edition);
             }
             Err(number) => assert!(matches!(number, 3..=8 | 17)),

@@ -1,7 +1,6 @@
 -- Too few bytes are no command; else the one test decides. Assumes nothing.
 use borrow.Author.Needs.{needs}
 use mathlib.Core.Path.{sym, ap, _∙_}
-use Rattle.lists.specs.Parts.{part}
 use Rattle.commands.specs.declared.Parsed.the-variants.{Formed}
 use Rattle.commands.proofs.CommandBytes.{parsed-formed, parsed-malformed, formed-short, formed-by}
 use Rattle.commands.proofs.parse.Statement.{statement}
@@ -19,31 +18,17 @@ cast-if2 c = search needs
 add-if2 : tie.Need-add-if2
 add-if2 c = search needs
 
-sub-all-zero : tie.Need-sub-all-zero
-sub-all-zero c = search needs
-
-part-all-zero-start : tie.Need-part-all-zero-start
-part-all-zero-start c = search needs
-
-part-all-zero-end : tie.Need-part-all-zero-end
-part-all-zero-end c = search needs
-
-all-zero-requires : tie.Need-all-zero-requires
-all-zero-requires c κs = search needs
-
 well-formed-requires : tie.Need-well-formed-requires
 well-formed-requires c κs = search needs
 
 returns-2 : tie.Need-returns-2
-unfolding part
 returns-2 c =
-    ap Formed (c .before .before .before .before .before .fields .ensures)
-    ∙ sym (parsed-formed _ (formed-by _ (c .before .before .before .before .before .fields .ensures) (c .before .before .all-zero .ensures) (c .before .well-formed .ensures) ∙ c .if2 .taken))
+    ap Formed (c .before .before .before .fields .ensures)
+    ∙ sym (parsed-formed _ (formed-by _ (c .before .before .before .fields .ensures) (c .before .well-formed .ensures) ∙ c .if2 .taken))
 
 returns-3 : tie.Need-returns-3
-unfolding part
 returns-3 c =
-    sym (parsed-malformed _ (formed-by _ (c .before .before .before .before .before .fields .ensures) (c .before .before .all-zero .ensures) (c .before .well-formed .ensures) ∙ c .if2 .left))
+    sym (parsed-malformed _ (formed-by _ (c .before .before .before .fields .ensures) (c .before .well-formed .ensures) ∙ c .if2 .left))
 
 pub parse-spec : {M : Type 1} → statement M
 parse-spec =
@@ -53,10 +38,6 @@ parse-spec =
     fields-requires
     cast-if2
     add-if2
-    sub-all-zero
-    part-all-zero-start
-    part-all-zero-end
-    all-zero-requires
     well-formed-requires
     returns-2
     returns-3)

@@ -4,7 +4,8 @@ ghost use Prim.Native.Nat.{_+_, _≤_};
 ghost use lib.ListN.{length};
 ghost use Rattle.lists.specs.Parts.{splice};
 ghost use Rattle.image.specs.Layout.{entryPlace};
-ghost use Rattle.image.specs.Bytes.{entryPair, entryMark, entryCounts, entryBytes, pad};
+ghost use Rattle.commands.specs.Bytes.{pairBytes};
+ghost use Rattle.image.specs.Bytes.{entryMark, entryCounts, entryBytes, pad};
 use crate::inner::layout;
 use guard::Entry;
 use slices::inner::fixed_width as le;
@@ -14,7 +15,7 @@ use stamps::Pair;
 // Writes a pair at `at`: s u64, x u64.
 fn write_pair(image: &mut [u8], at: usize, pair: Pair)
     requires { ⌜ at + 16 ≤ length (now image) ⌝ }
-    ensures { λ _. ⌜ now (image .exit) ≡ splice at (entryPair pair) (now (image .entry)) ⌝ }
+    ensures { λ _. ⌜ now (image .exit) ≡ splice at (pairBytes pair) (now (image .entry)) ⌝ }
 {
     le::write_u64(image, at, pair.s);
     le::write_u64(image, at + 8, pair.x);

@@ -68,8 +68,8 @@ fn accepted(
     let command = Command::parse(bytes).expect("accepted");
     let card = command.card;
     let mut expected = stored;
-    expected.pair.s = stored.pair.s.max(command.pair.s);
-    expected.pair.x = stored.pair.x.max(command.pair.x);
+    expected.pair.s = stored.pair.s.max(command.update.s);
+    expected.pair.x = stored.pair.x.max(command.update.x);
     expected.mark = command.next;
     let mut originals = text(layout, before, card, Language::Original);
     let mut translations = text(layout, before, card, Language::Translation);

@@ -16,8 +16,14 @@ edition-named-requires c κs = search needs
 payload-written-requires : tie.Need-payload-written-requires
 payload-written-requires c κs = search needs
 
+update-requires : tie.Need-update-requires
+update-requires c κs = search needs
+
 session-ok-requires : tie.Need-session-ok-requires
 session-ok-requires c κs = search needs
+
+verifier-ok-requires : tie.Need-verifier-ok-requires
+verifier-ok-requires c κs = search needs
 
 mark-whole-requires : tie.Need-mark-whole-requires
 mark-whole-requires c κs = search needs
@@ -30,13 +36,15 @@ returns c =
     rw (
       c .mark-whole2 .ensures,
       c .before .mark-whole .ensures,
-      c .before .before .session-ok .ensures,
-      c .before .before .before .payload-written .ensures,
-      c .before .before .before .before .edition-named .ensures,
-      c .before .before .before .before .before .write-exclusive .ensures,
-      c .before .before .before .before .before .before .act-known .ensures,
+      c .before .before .verifier-ok .ensures,
+      c .before .before .before .session-ok .ensures,
+      c .before .before .before .before .update .ensures,
+      c .before .before .before .before .before .payload-written .ensures,
+      c .before .before .before .before .before .before .edition-named .ensures,
+      c .before .before .before .before .before .before .before .write-exclusive .ensures,
+      c .before .before .before .before .before .before .before .before .act-known .ensures,
     )
-    (sym (by-session (c .before .before .before .before .before .before .before .args .self)))
+    (sym (by-session (c .before .before .before .before .before .before .before .before .before .args .self)))
 
 pub well-formed-spec : {M : Type 1} → statement M
 well-formed-spec =
@@ -46,7 +54,9 @@ well-formed-spec =
     write-exclusive-requires
     edition-named-requires
     payload-written-requires
+    update-requires
     session-ok-requires
+    verifier-ok-requires
     mark-whole-requires
     mark-whole-requires-2
     returns)

@@ -12,8 +12,11 @@ shared-slice-read-t5 c = search needs
 read-u16-requires : tie.Need-read-u16-requires
 read-u16-requires c κs = search needs
 
-pair-of-requires : tie.Need-pair-of-requires
-pair-of-requires c κs = search needs
+pair-at-requires : tie.Need-pair-at-requires
+pair-at-requires c κs = search needs
+
+pair-at-requires-2 : tie.Need-pair-at-requires-2
+pair-at-requires-2 c κs = search needs
 
 mark-at-requires : tie.Need-mark-at-requires
 mark-at-requires c κs = search needs
@@ -35,8 +38,9 @@ returns c =
       c .before .read-u162 .ensures,
       c .before .before .mark-at2 .ensures,
       c .before .before .before .mark-at .ensures,
-      c .before .before .before .before .pair-of .ensures,
-      c .before .before .before .before .before .read-u16 .ensures,
+      c .before .before .before .before .pair-at2 .ensures,
+      c .before .before .before .before .before .pair-at .ensures,
+      c .before .before .before .before .before .before .read-u16 .ensures,
     )
 
 pub fields-spec : {M : Type 1} → statement M
@@ -46,7 +50,8 @@ fields-spec =
     shared-slice-read-t3
     shared-slice-read-t5
     read-u16-requires
-    pair-of-requires
+    pair-at-requires
+    pair-at-requires-2
     mark-at-requires
     mark-at-requires-2
     read-u16-requires-2

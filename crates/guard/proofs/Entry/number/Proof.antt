@@ -21,7 +21,7 @@ past-2 : (c : tie.Else2) → let s = c .before .before .before .before in left 0
 past-2 c = past-1 (c .before .before) ∙ rw (sym (c .before .stale .ensures) ∙ c .if2 .left)
 
 past-3 : (c : tie.Else3) → let s = c .before .before .before .before .before .before in left 0 s ≡ left 3 s
-past-3 c = past-2 (c .before .before) ∙ rw (sym (c .before .too-far .ensures) ∙ c .if3 .left)
+past-3 c = past-2 (c .before .before) ∙ rw (sym (c .before .far-ahead .ensures) ∙ c .if3 .left)
 
 past-4 : (c : tie.Else4) → let s = c .before .before .before .before .before .before .before .before in left 0 s ≡ left 4 s
 past-4 c = past-3 (c .before .before) ∙ rw (ap not (sym (c .before .mark-fits .ensures)) ∙ c .if4 .left)
@@ -50,11 +50,11 @@ stale-requires c κs = search needs
 returns-2 : tie.Need-returns-2
 returns-2 c = sym (past-1 (c .before .before) ∙ rw (sym (c .before .stale .ensures) ∙ c .if2 .taken))
 
-too-far-requires : tie.Need-too-far-requires
-too-far-requires c κs = search needs
+far-ahead-requires : tie.Need-far-ahead-requires
+far-ahead-requires c κs = search needs
 
 returns-3 : tie.Need-returns-3
-returns-3 c = sym (past-2 (c .before .before) ∙ rw (sym (c .before .too-far .ensures) ∙ c .if3 .taken))
+returns-3 c = sym (past-2 (c .before .before) ∙ rw (sym (c .before .far-ahead .ensures) ∙ c .if3 .taken))
 
 mark-fits-requires : tie.Need-mark-fits-requires
 mark-fits-requires c κs = search needs
@@ -94,7 +94,7 @@ number-spec =
     returns
     stale-requires
     returns-2
-    too-far-requires
+    far-ahead-requires
     returns-3
     mark-fits-requires
     returns-4

@@ -26,8 +26,8 @@ shared-slice-read-edition-of c = search needs
 edition-of-requires : tie.Need-edition-of-requires
 edition-of-requires c κs = search needs
 
-cast-t14 : tie.Need-cast-t14
-cast-t14 c = search needs
+cast-t15 : tie.Need-cast-t15
+cast-t15 c = search needs
 
 returns : tie.Need-returns
 returns c = rw (c .edition-of .ensures, c .before .before .read-u16 .ensures, c .before .before .before .act-of .ensures, length-drop)
@@ -42,5 +42,5 @@ write-of-spec =
     read-u16-requires
     shared-slice-read-edition-of
     edition-of-requires
-    cast-t14
+    cast-t15
     returns)

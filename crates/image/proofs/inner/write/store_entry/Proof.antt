@@ -1,5 +1,6 @@
 -- The three groups end to end. Assumes nothing.
-use Rattle.image.specs.Bytes.{entryBytes, entryPair, entryMark, entryCounts}
+use Rattle.commands.specs.Bytes.{pairBytes}
+use Rattle.image.specs.Bytes.{entryBytes, entryMark, entryCounts}
 use native.Mathlib.Omega.{arith}
 use Rattle.lists.specs.Le.{toLe}
 use Rattle.image.proofs.Written.{splice-three}
@@ -37,7 +38,7 @@ returns c = let e = c .before .before .before .before .before .before .before .b
       c .before .before .before .before .before .before .before .before .before .before .write-pair .ensures,
       c .before .before .before .before .before .before .before .before .before .before .before .before .entry-place .ensures,
     )
-    (splice-three _ (entryPair (e .pair)) (entryMark (e .mark)) (entryCounts e) _ (omega arith))
+    (splice-three _ (pairBytes (e .pair)) (entryMark (e .mark)) (entryCounts e) _ (omega arith))
 
 pub store-entry-spec : {M : Type 1} → statement M
 store-entry-spec =
