@@ -1,5 +1,7 @@
 //! Single commands: on sound images near every edge, and malformed.
 
+use std::collections::BTreeSet;
+
 use second::generate;
 use second::random::Random;
 use second::{Act, Command, CommandFields, Entry, Language, Layout, Pair};
@@ -154,7 +156,8 @@ fn note_edges(run: &mut Run, image: &[u8], command: &[u8], lent: usize) {
     );
 }
 
-/// Counts top bits that are accepted, and payloads of non-writes.
+/// Counts top bits and stamps of different bytes that are accepted, and
+/// payloads of non-writes.
 fn note_bits(run: &mut Run, bytes: &[u8], number: u8) {
     let Some(fields) = CommandFields::from_bytes(bytes) else {
         return;
@@ -177,6 +180,12 @@ fn note_bits(run: &mut Run, bytes: &[u8], number: u8) {
         .filter(|(_, top)| **top && number == 0)
     {
         run.seen_at(Kind::TopBits, at);
+    }
+    for (at, stamp) in stamps.into_iter().enumerate() {
+        let different: BTreeSet<u8> = stamp.to_le_bytes().into();
+        if number == 0 && different.len() == 8 {
+            run.seen_at(Kind::StampBytes, at);
+        }
     }
 }
 

@@ -29,6 +29,7 @@ kinds! {
     ExclusiveStamps 3 ".. with the stored x, one below, one above"
     Replies 4 ".. reading into a buffer of no bytes, one short of the text, as long, one past"
     TopBits 4 ".. accepted, with the top bit of a transaction, commit desk, stamp's T, stamp's desk"
+    StampBytes 2 ".. accepted, with eight different bytes in s, in x"
     Carrying 1 ".. refused with 1, non-writes that carry a payload"
     EveryReply 2 "every reply buffer from 0 to one past the text: 8, accepted"
     Largest 1 "commands on images of the largest shapes"
