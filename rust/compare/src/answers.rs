@@ -1,5 +1,7 @@
 //! Single commands: on sound images near every edge, and malformed.
 
+use std::collections::BTreeSet;
+
 use second::generate;
 use second::random::Random;
 use second::stamp::{time, MOST_AHEAD};
@@ -237,7 +239,8 @@ fn note_ahead(run: &mut Run, image: &[u8], bytes: &[u8], number: u8) {
     }
 }
 
-/// Counts top bits that are accepted, and payloads of non-writes.
+/// Counts top bits and stamps of different bytes that are accepted, and
+/// payloads of non-writes.
 fn note_bits(run: &mut Run, bytes: &[u8], number: u8) {
     let Some(fields) = CommandFields::from_bytes(bytes) else {
         return;
@@ -261,6 +264,12 @@ fn note_bits(run: &mut Run, bytes: &[u8], number: u8) {
         .filter(|(_, top)| **top && number == 0)
     {
         run.seen_at(Kind::TopBits, at);
+    }
+    for (at, stamp) in stamps.into_iter().enumerate() {
+        let different: BTreeSet<u8> = stamp.to_le_bytes().into();
+        if number == 0 && different.len() == 8 {
+            run.seen_at(Kind::StampBytes, at);
+        }
     }
 }
 

@@ -37,6 +37,7 @@ kinds! {
     FarBelow 1 ".. accepted, with an s more than 1,000,000 below the stored one"
     Replies 4 ".. reading into a buffer of no bytes, one short of the text, as long, one past"
     TopBits 4 ".. accepted, with the top bit of a transaction, commit desk, stamp's T, stamp's desk"
+    StampBytes 4 ".. accepted, with eight different bytes in the verifier's s, x, the update pair's s, x"
     Carrying 1 ".. refused with 1, non-writes that carry a payload"
     Updates 3 ".. with two pairs: the verifier again, one stamp above it, both above"
     UpdateSteps 2 ".. with two pairs: s one above the verifier's, x one above"

@@ -53,8 +53,10 @@ fn stamp_of(random: &mut Random, times: &[u32]) -> u64 {
 
 /// A stamp that is valid: none or one with a desk.
 fn stored_stamp(random: &mut Random) -> u64 {
-    match random.below(4) {
-        0 => 0,
+    match random.below(16) {
+        0..=3 => 0,
+        // One of any bits, with a desk.
+        4 => random.number() | 0x1_0000,
         _ => valid_stamp(random),
     }
 }

@@ -1,16 +1,33 @@
--- What `read` ensures, of four bytes. Assumes nothing.
+-- Two numbers of two bytes, joined. Assumes nothing.
+use native.Mathlib.Omega.{arith}
+use Rattle.slices.proofs.Joined.{joined}
 use borrow.Author.Needs.{needs}
 use Rattle.slices.proofs.inner.fixed_width.read_u32.Statement.{statement}
 use Rattle.slices.proofs.inner.fixed_width.read_u32.Tie as tie
 
-read-requires : tie.Need-read-requires
-read-requires c κs = search needs
+add-read-u16 : tie.Need-add-read-u16
+add-read-u16 c = search needs
+
+read-u16-requires : tie.Need-read-u16-requires
+read-u16-requires c κs = search needs
 
 cast-result : tie.Need-cast-result
 cast-result c = search needs
 
+mul-result : tie.Need-mul-result
+mul-result c = search needs
+
+read-u16-requires-2 : tie.Need-read-u16-requires-2
+read-u16-requires-2 c κs = search needs
+
+cast-result-2 : tie.Need-cast-result-2
+cast-result-2 c = search needs
+
+add-result : tie.Need-add-result
+add-result c = search needs
+
 returns : tie.Need-returns
-returns c = c .read .ensures .0
+returns c = rw (c .before .read-u16 .ensures, c .read-u162 .ensures) (joined (c .before .before .before .args .at) 2 2 _ (omega arith))
 
 pub read-u32-spec : {M : Type 1} → statement M
-read-u32-spec = tie.close (tie.spec read-requires cast-result returns)
+read-u32-spec = tie.close (tie.spec add-read-u16 read-u16-requires cast-result mul-result read-u16-requires-2 cast-result-2 add-result returns)

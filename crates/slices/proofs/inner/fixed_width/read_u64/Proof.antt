@@ -1,13 +1,33 @@
--- What `read` ensures, of eight bytes. Assumes nothing.
+-- Two numbers of four bytes, joined. Assumes nothing.
+use native.Mathlib.Omega.{arith}
+use Rattle.slices.proofs.Joined.{joined}
 use borrow.Author.Needs.{needs}
 use Rattle.slices.proofs.inner.fixed_width.read_u64.Statement.{statement}
 use Rattle.slices.proofs.inner.fixed_width.read_u64.Tie as tie
 
-read-requires : tie.Need-read-requires
-read-requires c κs = search needs
+add-read-u32 : tie.Need-add-read-u32
+add-read-u32 c = search needs
+
+read-u32-requires : tie.Need-read-u32-requires
+read-u32-requires c κs = search needs
+
+cast-result : tie.Need-cast-result
+cast-result c = search needs
+
+mul-result : tie.Need-mul-result
+mul-result c = search needs
+
+read-u32-requires-2 : tie.Need-read-u32-requires-2
+read-u32-requires-2 c κs = search needs
+
+cast-result-2 : tie.Need-cast-result-2
+cast-result-2 c = search needs
+
+add-result : tie.Need-add-result
+add-result c = search needs
 
 returns : tie.Need-returns
-returns c = c .read .ensures .0
+returns c = rw (c .before .read-u32 .ensures, c .read-u322 .ensures) (joined (c .before .before .before .args .at) 4 4 _ (omega arith))
 
 pub read-u64-spec : {M : Type 1} → statement M
-read-u64-spec = tie.close (tie.spec read-requires returns)
+read-u64-spec = tie.close (tie.spec add-read-u32 read-u32-requires cast-result mul-result read-u32-requires-2 cast-result-2 add-result returns)
