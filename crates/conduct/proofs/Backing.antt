@@ -10,7 +10,8 @@ use lib.Dec.{eqb, ltb}
 use Rattle.lists.proofs.Tests.{cases}
 use Rattle.stamps.specs.Stamp.{exclusive, largerOfEach, noPair}
 use Rattle.stamps.specs.declared.Pair.{Pair}
-use Rattle.model.proofs.Meaning.{Among, among-here, among-later}
+use Rattle.model.specs.Meaning.{Among}
+use Rattle.model.proofs.Meaning.{among-here, among-later}
 use Rattle.conduct.specs.System.{Made, with}
 
 module _ {A : Type 0} where

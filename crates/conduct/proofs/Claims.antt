@@ -19,7 +19,8 @@ use Rattle.model.specs.Serve.{serve}
 use Rattle.lists.specs.Search.{any}
 use Rattle.model.specs.Words.{Sent, Event, imageAfter, sentFor, carries, under, premise}
 use Rattle.model.specs.Claims.{SentBytes, AllBytes}
-use Rattle.model.proofs.Meaning.{Among, among-here, among-later, among-right, carries-means, premise-means}
+use Rattle.model.specs.Meaning.{Among}
+use Rattle.model.proofs.Meaning.{among-here, among-later, among-right, carries-means, premise-means}
 use Rattle.model.proofs.Cases.{image-first}
 use Rattle.model.proofs.Demand.{demand3}
 use Rattle.proposals.specs.Propose.{proposed}

@@ -23,7 +23,8 @@ use Rattle.lists.specs.Search.{any}
 use Rattle.model.specs.Words.{Sent, Event, eventOf, imageAfter, history, commandOf, accepted}
 use Rattle.model.specs.Claims.{SentBytes, AllBytes}
 use Rattle.model.specs.Pairs.{largestPair}
-use Rattle.model.proofs.Meaning.{Among, among-here, among-later, any-means, accepted-means}
+use Rattle.model.specs.Meaning.{Among}
+use Rattle.model.proofs.Meaning.{among-here, among-later, any-means, accepted-means}
 use Rattle.model.proofs.Pairs.{Shows, shows-history, accepted-formed}
 use Rattle.lock_queue.specs.Queue.{State, emptyQueue}
 use Rattle.lock_queue.specs.declared.Waiting.{Waiting}

@@ -17,7 +17,8 @@ use Rattle.model.specs.Words.{Sent, Event, commandOf, accepted, Proper, 
 use Rattle.lists.specs.Search.{any, none}
 use Rattle.commands.proofs.Rules.{CommandRules}
 use Rattle.model.proofs.Formed.{formed-rules}
-use Rattle.model.proofs.Meaning.{Among, among-here, among-right, among-reverse, among-map, none-means, premise-means, accepted-means, Intruder, intrudes-means}
+use Rattle.model.specs.Meaning.{Among, Intruder}
+use Rattle.model.proofs.Meaning.{among-here, among-right, among-reverse, among-map, none-means, premise-means, accepted-means, intrudes-means}
 
 -- What an accepted event is known to be by the events before it: it is proper, and not late.
 pub record Timely (n : ℕ) (e : Event) (before : List Event) : Type 0 where

@@ -11,3 +11,4 @@ pub mod Pairs
 pub mod Premise
 pub mod Sound
 pub mod Cases
+pub mod Words

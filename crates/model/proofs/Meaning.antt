@@ -15,14 +15,9 @@ use Rattle.commands.specs.declared.Command.{Command}
 use Rattle.stamps.specs.declared.Pair.{Pair}
 use Rattle.model.specs.Words.{Sent, Event, commandOf, accepted, largerS, largerX, late, inReach, outOfReach, farAhead, sentFor, carries, under, breaks, premise, deskIn, intrudes}
 use Rattle.lists.specs.Search.{any, none, since, last}
+use Rattle.model.specs.Meaning.{Among, Nearest, Overtakes, Beyond, Carries, Ordered, Intruder}
 
 module _ {A : Type 0} where
-  -- The element stands in the list.
-  pub record Among (a : A) (l : List A) : Type 0 where
-    pub front : List A
-    pub back : List A
-    pub split : l ≡ front ++ a ∷ back
-
   pub among-here : (a : A) (l : List A) → Among a (a ∷ l)
   among-here a l = record { front = []; back = l; split = refl }
 
@@ -57,18 +52,12 @@ module _ {A : Type 0} where
         ∙ any-append (m .front) (a ∷ m .back)
         ∙ or-right (any p (m .front)) (or-left (any p (m .back)) e)
 
-    -- The first element of the list that is so: it is so, and none in front of it is. (Of events, latest first, it is the last one.)
-    pub record Nearest (a : A) (l : List A) : Type 0 where
-      pub among : Among a l
-      pub holds : p a ≡ true
-      pub alone : none p (among .front) ≡ true
-
-    pub nearest : (l : List A) → any p l ≡ true → (a : A) × Nearest a l
+    pub nearest : (l : List A) → any p l ≡ true → (a : A) × Nearest p a l
     unfolding among-here among-later
     nearest [] e = absurd (never-both e refl)
     nearest (a ∷ l) e = go (cases (p a)) (nearest l)
       where
-        go : (p a ≡ true) ⊎ (p a ≡ false) → (any p l ≡ true → (b : A) × Nearest b l) → (b : A) × Nearest b (a ∷ l)
+        go : (p a ≡ true) ⊎ (p a ≡ false) → (any p l ≡ true → (b : A) × Nearest p b l) → (b : A) × Nearest p b (a ∷ l)
         go (inl h) rest = (a, record { among = among-here a l; holds = h; alone = refl })
         go (inr h) rest =
             let found = rest (sym (ap (λ (b : Bool). b || any p l) h) ∙ e) in (
@@ -115,7 +104,7 @@ module _ {A : Type 0} where
         let both = or-fails (p b) (any p s) (not-true (p b || any p s) e) in
         rw (both .0) (ap (λ (r : List A). b ∷ r) (since-at s a l (not-in (both .1)) h))
 
-    pub since-means : {a : A} (l : List A) (m : Nearest a l) → since p l ≡ m .among .front
+    pub since-means : {a : A} (l : List A) (m : Nearest p a l) → since p l ≡ m .among .front
     since-means {a} l m = ap (since p) (m .among .split) ∙ since-at (m .among .front) a (m .among .back) (m .alone) (m .holds)
 
     -- Where none is so, it is the default; else what f says of the nearest.
@@ -132,7 +121,7 @@ module _ {A : Type 0} where
           let both = or-fails (p b) (any p s) (not-true (p b || any p s) e) in
           rw (both .0) (last-at s a l (not-in (both .1)) h)
 
-      pub last-means : {a : A} (l : List A) (m : Nearest a l) → last p f d l ≡ f a
+      pub last-means : {a : A} (l : List A) (m : Nearest p a l) → last p f d l ≡ f a
       last-means {a} l m =
           ap (last p f d) (m .among .split) ∙ last-at (m .among .front) a (m .among .back) (m .alone) (m .holds)
 
@@ -148,15 +137,6 @@ module _ {A B : Type 0} (f : A → B) where
         back = map f (m .back);
         split = ap (map f) (m .split) ∙ map-append (m .front) (a ∷ m .back);
       }
-
--- The premise: of every two well-formed commands of the list for the card, in any order, where one carries another desk's exclusive stamp and
--- the other is exclusive under that stamp, the first one's s is above the other's.
-abbrev pub Ordered : ℕ → List Sent → Type 0
-Ordered k sent =
-    (a b : Sent) → Among a sent → Among b sent → sentFor k a ≡ true → sentFor k b ≡ true
-    → carries (fieldsOf (a .command)) ≡ true
-    → under (update (fieldsOf (a .command)) .x) (fieldsOf (b .command)) ≡ true
-    → update (fieldsOf (b .command)) .s < update (fieldsOf (a .command)) .s
 
 module _ (k : ℕ) (sent : List Sent) where
   -- The test of one command against another, and of one against the whole list.
@@ -204,12 +184,6 @@ module _ (k : ℕ) (sent : List Sent) where
                   absurd (pair a (found .0) m (found .1) (and-left (sentFor k a) (any (against a) sent) e) (found .2))
 
 -- ---- the words on events
-
--- A command comes late: an earlier accepted command for its card has a larger x, or, where it is exclusive itself, a larger s.
-pub record Overtakes (c : Command) (e : Event) : Type 0 where
-  pub accepted : e .answer .number ≡ 0
-  pub card : commandOf e .card ≡ c .card
-  pub larger : (verifier c .x < update (commandOf e) .x) ⊎ ((c .mode ≡ exclusive) × (verifier c .s < update (commandOf e) .s))
 
 pub accepted-means : (k : ℕ) (e : Event) → (accepted k e ≡ true) ↔ ((e .answer .number ≡ 0) × (commandOf e .card ≡ k))
 accepted-means k e = (
@@ -265,15 +239,6 @@ late-means before c = (out, λ h. back (h .0) (h .1) (h .2) (h .2 .larger))
         (any-here (largerS (c .card) c) m
         (and-in (accepted-means (c .card) e .1 (o .accepted, o .card)) (lt-ltb (verifier c .s) (update (commandOf e) .s) (y .1)))))
 
--- On one side the T of a command is more than 1,000,000 above zero, so that there is a stamp, and above the T of each earlier accepted command for its
--- card, so above the largest.
-pub record Beyond (side : Pair → ℕ) (before : List Event) (c : Command) : Type 0 where
-  pub some : side (update c) ≡ 0 → ⊥
-  pub nothing : mostAhead < stampT (side (update c))
-  pub each :
-      (e : Event) → Among e before → e .answer .number ≡ 0 → commandOf e .card ≡ c .card
-      → stampT (side (update (commandOf e))) + mostAhead < stampT (side (update c))
-
 reach-means : (side : Pair → ℕ) (before : List Event) (c : Command) → (outOfReach side before c ≡ true) ↔ Beyond side before c
 reach-means side before c = (out, back)
   where
@@ -322,12 +287,6 @@ far-means before c = (λ h. out (or-cases (outOfReach (λ (p : Pair). p .s) befo
 pub desk-and-start : (m n : ℕ) → (deskStart m ≡ deskStart n) ↔ ((deskNumber m ≡ deskNumber n) × (m % 65536 ≡ n % 65536))
 desk-and-start m n = (λ e. omega arith, λ h. omega arith)
 
--- A shared command carries another desk's exclusive stamp: "its x is nonzero and differs from its s in desk or start".
-pub record Carries (c : Command) : Type 0 where
-  pub mode : c .mode ≡ shared
-  pub some : update c .x ≡ 0 → ⊥
-  pub other : (deskNumber (update c .x) ≡ deskNumber (update c .s)) × (update c .x % 65536 ≡ update c .s % 65536) → ⊥
-
 pub carries-means : (c : Command) → (carries c ≡ true) ↔ Carries c
 carries-means c = (out, back)
   where
@@ -354,13 +313,6 @@ carries-means c = (out, back)
     back r =
         and-in (and-in (eq-eqb (c .mode) shared (r .mode)) (not-in (ne-eqb (update c .x) 0 (r .some))))
         (not-in (ne-eqb (deskStart (update c .x)) (deskStart (update c .s)) (λ e. r .other (desk-and-start (update c .x) (update c .s) .0 e))))
-
--- An event intrudes: accepted for the card, of another desk or start than b's, and one of the two is exclusive.
-pub record Intruder (k : ℕ) (b e : Event) : Type 0 where
-  pub accepted : e .answer .number ≡ 0
-  pub card : commandOf e .card ≡ k
-  pub desk : deskOf (commandOf e .mode) (update (commandOf e)) ≡ deskOf (commandOf b .mode) (update (commandOf b)) → ⊥
-  pub mixed : (commandOf b .mode ≡ exclusive) ⊎ (commandOf e .mode ≡ exclusive)
 
 pub intrudes-means : (k : ℕ) (b e : Event) → (intrudes k b e ≡ true) ↔ Intruder k b e
 intrudes-means k b e = (out, back)

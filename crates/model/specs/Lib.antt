@@ -3,3 +3,4 @@ pub mod Words
 pub mod Claims
 pub mod Pairs
 pub mod Cases
+pub mod Meaning
