@@ -1,4 +1,5 @@
-/* The card store, proved: the functions of libcapi.a (x86-64). */
+/* The card store, proved: the functions of libcapi.a (x86-64). Rules are those of docs/RULES.md, numbers those of its
+   section 5. Every function takes any values; what it writes is said, and a refusal writes nothing but what is said. */
 #ifndef LUPANIELE_H
 #define LUPANIELE_H
 
@@ -6,32 +7,36 @@
 #include <stddef.h>
 #include <stdint.h>
 
-/* Makes a fresh image: 0, or 14 and nothing written. */
+/* Makes a fresh image of `cards` cards (N) with room `room` (C) in the whole of image (rules 2.2 and 2.7): 0; or 14, and
+   nothing is written. */
 uint8_t lupaniele_make(uint8_t *image, size_t image_length, uint64_t cards, uint64_t room);
 
-/* Whether the bytes are a sound image. */
+/* Whether the bytes are a sound image (rule 2.6). */
 bool lupaniele_sound(const uint8_t *image, size_t image_length);
 
-/* One request: the number, 0 to 9 or 17. fields: s, x, commit desk, transaction, edition, translated-from, length.
-   The text of an accepted read stands in the first `length` bytes of reply. command: as rule 3.1 lays it out, the
-   verifier at 4, the update pair at 20 (rule 3.4). */
+/* One request (rule 4.1): the number, 0 to 9 or 17. image: any bytes, written where the number is 0 (rules 4.4 and 4.5).
+   fields (rule 4.8): s, x, commit desk, transaction, edition, translated-from, length.
+   reply: the text of an accepted read stands in its first `length` bytes (rule 4.7), else it stays. command: as rule 3.1
+   lays it out, the verifier at 4, the update pair at 20 (rule 3.4). */
 uint8_t lupaniele_answer(uint8_t *image, size_t image_length, const uint8_t *command, size_t command_length,
                          uint8_t *reply, size_t reply_length, uint64_t fields[7]);
 
-/* The lock queue of one card (rules 7.1 to 7.16): the mode, the s and the x of each place, of which the first `places`
-   are lent; kept: count, largest s, largest x. An empty queue is made by three zeros in kept, whatever the places hold.
-   fields: holds (1 or 0), largest s, largest x, entries looked at. Asking: 0, 10, 1, 12, 11 or 13; a desk that stands
-   shared and asks for exclusive upgrades. Leaving: 0, 10 or 15. */
+/* The lock queue of one card (rules 7.1 to 7.16). modes, s, x: the mode and the pair of each place (rule 7.2), of which the
+   first `places` are lent; kept: count, largest s, largest x (rule 7.1). An empty queue is made by three zeros in kept,
+   whatever the places hold (rule 7.3). fields (rule 7.14): holds (1 or 0), largest s, largest x, entries looked at.
+   Asking, with a mode and a pair (rules 7.6 to 7.10): 0, 10, 1, 12, 11 or 13; a desk that stands shared and asks for
+   exclusive upgrades. Leaving, by desk and start (desk * 65,536 + start; rules 7.12 and 7.13): 0, 10 or 15. */
 uint8_t lupaniele_ask(uint8_t modes[32], uint64_t s[32], uint64_t x[32], uint64_t kept[3], uint64_t places,
                       uint8_t mode, uint64_t asked_s, uint64_t asked_x, uint64_t fields[4]);
 uint8_t lupaniele_leave(uint8_t modes[32], uint64_t s[32], uint64_t x[32], uint64_t kept[3], uint64_t places,
                         uint32_t desk, uint64_t fields[4]);
 
 /* A desk that fell silent (rules 13.1 to 13.9), by its desk and start, leaves the queue once its lease is over: period and
-   drift are its lease term, begin and now the times since when it is held failed, and now; any values at all.
-   0, 10, 21, 15 or 25; all else is as for leaving. */
+   drift are its lease term (rule 13.3), begin and now the time since when it is held failed and the time now (rule 13.4).
+   0, 10, 21, 15 or 25 (rule 13.5); all else is as for leaving. */
 uint8_t lupaniele_lapse(uint8_t modes[32], uint64_t s[32], uint64_t x[32], uint64_t kept[3], uint64_t places,
                         uint32_t desk, double period, double drift, double begin, double now, uint64_t fields[4]);
+
 /* What a desk knows of one card (rules 10.1 and 10.2): known is the largest s and the largest x that it has heard of,
    zeros when it starts. It learns the pair (s, x) of an answer for that card. */
 void lupaniele_learn(uint64_t known[2], uint64_t s, uint64_t x);
@@ -40,30 +45,33 @@ void lupaniele_learn(uint64_t known[2], uint64_t s, uint64_t x);
    pair and learnt in known; or 1 or 16, and neither array is written. */
 uint8_t lupaniele_propose(uint16_t desk, uint16_t start, uint64_t known[2], uint8_t mode, uint64_t pair[2]);
 
-/* The text that a desk shows: 0 and in count how many first bytes of the buffer asked for are the text, or 8 or 6
-   and none. asked: 0 the original, 1 the translation; any other gets 1. */
+/* The text that a desk shows (rules 6.1 to 6.3). original, translation: its two buffers, with their sizes; the lengths,
+   edition and from (translated-from) as it says. asked: 0 the original, 1 the translation; any other gets 1. 0, and in
+   count how many first bytes of the buffer asked for are the text; or 8, 6 or 1, and 0 in count. */
 uint8_t lupaniele_shown(const uint8_t *original, size_t original_size, const uint8_t *translation,
                         size_t translation_size, uint64_t original_length, uint64_t translation_length,
                         uint16_t edition, uint16_t from, uint8_t asked, uint64_t *count);
 
-/* Whether a whole command stands at a place of a stream; end: the place behind it, or the place itself. */
+/* Whether a whole command stands at the place `at` of a stream (rule 8.1); end: the place behind it, or the place itself. */
 bool lupaniele_next(const uint8_t *stream, size_t stream_length, uint64_t at, uint64_t *end);
 
-/* The byte where the first command of a stream that is not whole begins, or the stream's end. */
+/* The byte where the first command of a stream that is not whole begins, or the stream's end (rule 8.2). */
 uint64_t lupaniele_end(const uint8_t *stream, size_t stream_length);
 
-/* Whether two structured texts say the same drops (docs/RULES.md, 12): 0 if they agree, 18 if the first is ill formed, 19 if the second is, 20 if they
-   differ. place: with 20 the byte of the first text where the first unmatched step begins, or just past the section in which the second has a step more;
-   else 0. */
+/* Whether two structured texts say the same drops (rules 12.8 and 12.9): 0 if they agree, 18 if the first is ill formed, 19 if
+   the second is, 20 if they differ. place (rule 12.10): with 20 the byte of the first text where the first unmatched step
+   begins, or just past the section in which the second has a step more; else 0. */
 uint8_t lupaniele_agree(const uint8_t *first, size_t first_length, const uint8_t *second, size_t second_length,
                         uint64_t *place);
+
 /* One request to the history engine, for `cards` cards with this room (rules 14.1 to 14.9): the number, 0 to 8, 17 or 22. history: the
    accepted commands end to end in its first *used bytes, at first none; any bytes and any *used do. fields and reply: as for
    lupaniele_answer. A refusal leaves history, *used and reply as they were. */
 uint8_t lupaniele_history_answer(uint8_t history[43168], uint64_t *used, uint16_t cards, uint16_t room,
                                  const uint8_t *command, size_t command_length, uint8_t *reply, size_t reply_length,
                                  uint64_t fields[7]);
-/* A desk's redo log, docs/RULES.md section 11. Whether the bytes are a good log: 0, or 23 (rules 11.5, 11.6). */
+
+/* Whether the bytes are a good redo log of a desk: 0, or 23 (rules 11.1 to 11.8). */
 uint8_t lupaniele_log_check(const uint8_t *log, size_t log_length);
 
 /* Appends a record as far as the first `stores` stores of one byte go (rules 11.9 to 11.12): 0, or 23 or 24 and nothing stored, or
