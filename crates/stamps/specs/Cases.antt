@@ -33,9 +33,9 @@ distances =
     ∷ distance lowPair (stamp 1000007 1 0) (stamp 1000009 1 0) false
     ∷ distance lowPair (stamp 1000008 1 0) (stamp 1000009 1 0) true
     ∷ distance lowPair (stamp 1000007 1 0) (stamp 1000010 1 0) true
-    -- T alone is compared: the largest stamp of a T in reach, the smallest of one that is not, against the largest of the stored T
+    -- T alone is compared: the largest stamp of the last T in reach; the smallest of the T after it, where the largest stamp of T 7 is stored
     ∷ distance lowPair (stamp 1000007 65535 65535) (stamp 9 1 0) false
-    ∷ distance (record { s = stamp 7 65535 65535; x = 0 }) (stamp 1000008 0 1) 0 true
+    ∷ distance (record { s = stamp 7 65535 65535; x = 0 }) (stamp 1000008 1 0) 0 true
     -- each stamp against the stored one of its own side
     ∷ distance splitPair (stamp 2000009 1 0) (stamp 1000010 1 0) true
     ∷ distance splitPair (stamp 3000009 1 0) (stamp 9 1 0) false
