@@ -6,18 +6,14 @@ use super::svg::Svg;
 use crate::checks::formed::formed;
 use crate::scene::{Scene, Who};
 
-/// The width of a column and of the names beside the lanes.
-pub const COLUMN: usize = 34;
-/// See [`COLUMN`].
+/// The width of the names beside the lanes.
 pub const LEFT: usize = 118;
 /// How many columns stand in one band.
 pub const BAND: usize = 30;
-/// The heights of a card's row, of a log's row and of a card's strip.
-pub const ROW: usize = 40;
-/// See [`ROW`].
-pub const LOG: usize = 26;
-/// See [`ROW`].
-pub const STRIP: usize = 30;
+/// The heights of a log's row and of a card's strip.
+const LOG: usize = 28;
+/// See [`LOG`].
+const STRIP: usize = 30;
 const GAP: usize = 8;
 
 /// The lane of a desk: a row for each card, and one for its log.
@@ -37,6 +33,10 @@ pub struct Layout {
     strips: BTreeMap<u16, usize>,
     /// The height of all.
     pub height: usize,
+    /// The width of a column.
+    pub column: usize,
+    /// Whether there is room for the pair of each session.
+    pub words: bool,
 }
 
 /// The desk that a scene is about; 0 for a malformed command.
@@ -93,7 +93,13 @@ impl Layout {
                 logs.insert(desk);
             }
         }
-        let mut layout = Layout::default();
+        let words = scenes.len() <= BAND;
+        let (column, row) = if words { (46, 62) } else { (34, 42) };
+        let mut layout = Layout {
+            column,
+            words,
+            ..Layout::default()
+        };
         let mut y = 4;
         for (desk, cards) in rows {
             let mut lane = Lane {
@@ -102,8 +108,8 @@ impl Layout {
             };
             let cards = if cards.is_empty() { BTreeSet::from([0]) } else { cards };
             for card in cards {
-                lane.rows.insert(card, y + ROW / 2);
-                y += ROW;
+                lane.rows.insert(card, y + row - 22);
+                y += row;
             }
             if logs.contains(&desk) {
                 lane.log = Some(y + LOG / 2);
@@ -123,7 +129,12 @@ impl Layout {
 
     /// The middle of a column.
     pub fn x(&self, column: usize) -> usize {
-        COLUMN * column + COLUMN / 2
+        self.column * column + self.column / 2
+    }
+
+    /// The width of so many columns in one band.
+    pub fn wide(&self, columns: usize) -> usize {
+        (self.column * columns.min(BAND)).max(540)
     }
 
     /// The middle of a desk's row for a card.
@@ -154,7 +165,7 @@ impl Layout {
 
     /// The grounds of the lanes.
     pub fn lanes(&self, svg: &mut Svg, columns: usize) {
-        let wide = COLUMN * columns.max(18) + 20;
+        let wide = (self.column * columns).max(540);
         for lane in self.desks.values() {
             let size = (wide, lane.bottom - lane.top);
             svg.rect((0, lane.top), size, "fill=\"#f4f5f7\"");
@@ -174,7 +185,7 @@ impl Layout {
                 0 => "malformed".into(),
                 desk => format!("desk {desk}"),
             };
-            svg.text((12, top + lane.top + 24), "font-weight=\"bold\"", &name);
+            svg.text((12, top + self.y(*desk, None) + 4), "font-weight=\"bold\"", &name);
             let small = "font-size=\"10\" fill=\"#555\" text-anchor=\"end\"";
             for (card, y) in &lane.rows {
                 if *desk != 0 {

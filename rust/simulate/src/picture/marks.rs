@@ -1,14 +1,14 @@
 //! What is drawn into the lanes.
 
-use super::layout::{card_of, desk_of, Layout, COLUMN};
+use super::layout::{card_of, desk_of, Layout};
 use super::svg::Svg;
 use super::{colour, letter, Bar};
 use crate::checks::formed::formed;
 use crate::scene::{Judged, Scene, Who};
-use crate::text::pair_words;
+use crate::text::stamp_words;
 
 /// The height of the legend.
-pub const LEGEND: usize = 74;
+pub const LEGEND: usize = 84;
 
 /// Hatchings: a translation that is behind, and a desk that is down.
 pub const PATTERNS: &str = "<defs>\
@@ -21,16 +21,17 @@ const MIDDLE: &str = "text-anchor=\"middle\"";
 const REFUSED: &str = "#c0182b";
 
 /// A session's bar, and its pair where there is room for words.
-pub fn bar(svg: &mut Svg, layout: &Layout, bar: &Bar, words: bool) {
+pub fn bar(svg: &mut Svg, layout: &Layout, bar: &Bar) {
     let (desk, card, mode, pair) = bar.session;
     let y = layout.y(Who::of(desk.into()).desk, Some(card));
     let (from, to) = (layout.x(bar.from), layout.x(bar.to));
     let style = bar_style(card, mode);
     svg.rect((from - 13, y - 12), (to - from + 26, 24), &style);
-    if words {
+    if layout.words {
         let style = format!("font-size=\"9\" fill=\"{}\"", colour(card));
-        let clear = if bar.from == bar.to { 2 } else { 13 };
-        svg.text((from - clear, y - 14), &style, &pair_words(pair));
+        let (s, x) = (stamp_words(pair.s), stamp_words(pair.x));
+        svg.text((from - 13, y - 25), &style, &format!("s {s}"));
+        svg.text((from - 13, y - 15), &style, &format!("x {x}"));
     }
 }
 
@@ -98,7 +99,7 @@ pub fn cards(svg: &mut Svg, layout: &Layout, scenes: &[&Scene]) {
             strip(svg, (from, layout.x(at)), y, entry);
             (from, entry) = (layout.x(at), now);
         }
-        strip(svg, (from, COLUMN * scenes.len().max(1)), y, entry);
+        strip(svg, (from, layout.column * scenes.len().max(1)), y, entry);
     }
 }
 
@@ -150,12 +151,12 @@ pub fn scene(svg: &mut Svg, layout: &Layout, at: usize, scene: &Scene) {
             let (top, bottom) = layout.lane(desk);
             flash(svg, (x, top), bottom - top);
         }
-        Scene::Started { who } => word(svg, (x, layout.lane(desk).0 + 10), &format!("start {}", who.start)),
-        Scene::Silent { .. } => word(svg, (x, layout.lane(desk).0 + 10), "silent"),
+        Scene::Started { who } => pill(svg, (x, y), "#333", &format!("start {}", who.start)),
+        Scene::Silent { .. } => pill(svg, (x, y), "#333", "silent"),
         Scene::Recovered { number, .. } => done(svg, (x, layout.y(desk, None)), *number),
         Scene::QueueLost { card } => {
             let strip = layout.strips().find(|(other, _)| other == card);
-            word(svg, (x, strip.map_or(y, |(_, y)| y + 4)), "queue lost");
+            pill(svg, (x, strip.map_or(y, |(_, y)| y)), REFUSED, "queue lost");
         }
         _ => {}
     }
@@ -184,7 +185,7 @@ fn command(svg: &mut Svg, (x, y): (usize, usize), judged: &Judged) {
     if judged.number == 0 && !text.is_empty() {
         let style = format!("{MIDDLE} font-size=\"9\"");
         let short: String = text.chars().take(7).collect();
-        svg.text((x, y + 20), &style, &short);
+        svg.text((x, y + 21), &style, &short);
     }
 }
 
@@ -194,11 +195,16 @@ fn small(svg: &mut Svg, (x, y): (usize, usize), sign: &str, number: u8) {
         0 => ("#444", sign.into()),
         number => (REFUSED, format!("{sign}{number}")),
     };
+    pill(svg, (x, y), ink, &words);
+}
+
+/// Words with a border.
+fn pill(svg: &mut Svg, (x, y): (usize, usize), ink: &str, words: &str) {
     let style = format!("rx=\"7\" fill=\"#fff\" stroke=\"{ink}\"");
-    let half = 7 + 2 * words.len();
+    let half = (5 + 3 * words.len()).min(x);
     svg.rect((x - half, y - 7), (2 * half, 14), &style);
     let style = format!("{MIDDLE} font-size=\"10\" fill=\"{ink}\"");
-    svg.text((x, y + 4), &style, &words);
+    svg.text((x, y + 4), &style, words);
 }
 
 /// A record of a log: its first letter, hollow where it was cut or refused.
@@ -211,12 +217,16 @@ fn logged(svg: &mut Svg, (x, y): (usize, usize), record: &str, number: u8, cut: 
     let style = format!("fill=\"{fill}\" stroke=\"{}\"", if number == 0 { fill } else { ink });
     svg.rect((x - 8, y - 8), (16, 16), &style);
     svg.text((x, y + 4), &format!("{MIDDLE} font-size=\"10\" fill=\"{ink}\""), &first);
-    if cut.is_some() {
-        svg.stroke((x - 10, y + 10), (x + 10, y - 10), &format!("stroke=\"{REFUSED}\" stroke-width=\"2\""));
-    } else if number != 0 {
-        let style = format!("font-size=\"9\" fill=\"{REFUSED}\"");
-        svg.text((x + 9, y + 9), &style, &number.to_string());
-    }
+    let style = format!("stroke=\"{REFUSED}\" stroke-width=\"2\"");
+    let words = match cut {
+        Some(stores) => {
+            svg.stroke((x - 10, y + 10), (x + 10, y - 10), &style);
+            format!("at {stores}")
+        }
+        None if number != 0 => number.to_string(),
+        None => return,
+    };
+    svg.text((x + 11, y + 4), &format!("font-size=\"9\" fill=\"{REFUSED}\""), &words);
 }
 
 /// The power is cut: a flash through the lane.
@@ -243,18 +253,14 @@ fn done(svg: &mut Svg, (x, y): (usize, usize), number: u8) {
     svg.text((x, y + 4), &style, &words);
 }
 
-fn word(svg: &mut Svg, (x, y): (usize, usize), words: &str) {
-    let style = format!("{MIDDLE} font-size=\"9\" font-weight=\"bold\" fill=\"#333\"");
-    svg.text((x, y), &style, words);
-}
-
 /// What the signs mean.
 pub fn legend(svg: &mut Svg, top: usize) {
     let small = "font-size=\"10\" fill=\"#333\"";
     let lines = [
-        "o, t read original, translation   O, T write them   v verify   filled: accepted   red: refused, with its number",
-        "square bar: exclusive session   round dashed bar: shared session   (s, x) its pair   + asks   - leaves   L taken out by lease",
-        "in store: edition; hatched: the translation is behind; green: it is current   log: b begin, u update, c commit, s synced; struck: cut",
+        "o, t: reads original, translation; O, T: writes them; v: verifies. Filled: accepted. Red: refused, with its number.",
+        "Square bar: exclusive session; round, dashed: shared; s, x: its pair. Queue: + asks, - leaves, L taken out by lease.",
+        "In store: the edition; hatched: the translation is behind; green: it is current. Log: begin, update, commit, synced.",
+        "Flash: power cut or crash, and hatched until the next start. A struck record was cut at that store.",
     ];
     for (at, line) in lines.iter().enumerate() {
         svg.text((12, top + 14 + 17 * at), small, line);

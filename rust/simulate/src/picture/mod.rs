@@ -10,7 +10,7 @@ use second::{CommandFields, Pair};
 
 use crate::checks::formed::formed;
 use crate::scene::{Judged, Scene};
-use layout::{Layout, BAND, COLUMN, LEFT};
+use layout::{Layout, BAND, LEFT};
 use svg::Svg;
 
 /// The colour of a card.
@@ -66,10 +66,10 @@ pub fn draw(title: &str, scenes: &[Scene]) -> String {
     let mut all = Svg::default();
     layout.lanes(&mut all, drawn.len());
     marks::absences(&mut all, &layout, &drawn);
-    for bar in bars(&drawn) {
-        marks::bar(&mut all, &layout, &bar, drawn.len() <= BAND);
-    }
     marks::recoveries(&mut all, &layout, &drawn);
+    for bar in bars(&drawn) {
+        marks::bar(&mut all, &layout, &bar);
+    }
     marks::cards(&mut all, &layout, &drawn);
     for (at, scene) in drawn.iter().enumerate() {
         marks::scene(&mut all, &layout, at, scene);
@@ -81,7 +81,8 @@ pub fn draw(title: &str, scenes: &[Scene]) -> String {
 /// of the lanes beside each.
 fn framed(title: &str, layout: &Layout, all: &Svg, columns: usize) -> String {
     let bands = columns.div_ceil(BAND).max(1);
-    let width = LEFT + COLUMN * columns.clamp(18, BAND) + 20;
+    let wide = layout.wide(columns);
+    let width = LEFT + wide + 12;
     let (head, high) = (34, layout.height + 18);
     let height = head + bands * high + marks::LEGEND;
     let mut out = Svg::default();
@@ -97,7 +98,7 @@ fn framed(title: &str, layout: &Layout, all: &Svg, columns: usize) -> String {
     out.line("</g></defs>");
     for band in 0..bands {
         let top = head + band * high;
-        let (from, wide) = (COLUMN * BAND * band, width - LEFT);
+        let from = layout.column * BAND * band;
         layout.names(&mut out, top);
         let high = layout.height;
         out.line(&format!(

@@ -10,7 +10,7 @@ use second::Pair;
 use crate::scene::Who;
 
 pub use read::read;
-pub use write::{command_words, pair_words, record_words, write};
+pub use write::{command_words, pair_words, record_words, stamp_words, write};
 
 /// A line that cannot be read.
 #[derive(Clone, Debug, PartialEq, Eq)]

@@ -8,7 +8,7 @@ use super::{Line, List};
 use crate::checks::store::Store;
 
 /// A stamp, as in 1.1.0; none for 0.
-fn stamp_words(stamp: u64) -> String {
+pub fn stamp_words(stamp: u64) -> String {
     match stamp {
         0 => "none".into(),
         _ => format!("{}.{}.{}", stamp >> 32, stamp >> 16 & 65_535, stamp & 65_535),

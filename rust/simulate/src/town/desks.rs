@@ -169,7 +169,7 @@ impl<L: Library> Town<'_, L> {
         self.tally.fault(Fault::NewStart);
         self.knew_something(at);
         self.tell(|| Scene::Started { who });
-        self.read_log(at)
+        self.after_start(at)
     }
 
     /// A desk proposes, and asks in the queue.

@@ -28,23 +28,31 @@ impl<L: Library> Town<'_, L> {
         let number = self.library.append(&mut desk.log, kind, body, stores);
         let who = desk.who;
         self.tally.number(Operation::Append, number);
-        let made = &mut self.tally.made;
-        checked(made, &before, (kind, body, stores), number, &desk.log)?;
         self.tell(|| Scene::Logged {
             who,
             record: record_words(kind, body),
             number,
             cut: cut.filter(|_| number == 26),
         });
+        let (made, log) = (&mut self.tally.made, &self.desks[at].log);
+        checked(made, &before, (kind, body, stores), number, log)?;
         self.tally.fault_if(number == 24, Fault::FullLog);
         if number == 26 {
-            self.tally.fault(Fault::CutAppend);
-            self.tally
-                .fault_if(stores >= body.len() as u64 && stores > 0, Fault::CutEveryStore);
-            self.desks[at].cut = true;
-            self.crash(at)?;
+            self.cut_append(at, body.len() as u64, stores)?;
         }
         Ok(number == 0)
+    }
+
+    /// The power was cut after so many stores of an append.
+    fn cut_append(&mut self, at: usize, body: u64, stores: u64) -> Checked {
+        self.tally.fault(match stores {
+            0 => Fault::CutBefore,
+            stores if stores < body => Fault::CutInBody,
+            stores if stores < body + 11 => Fault::CutInLine,
+            _ => Fault::CutBeforeCount,
+        });
+        self.desks[at].cut = true;
+        self.crash(at)
     }
 
     /// A desk that came back reads its log: what is due is to be recovered.
@@ -59,6 +67,16 @@ impl<L: Library> Town<'_, L> {
         Ok(())
     }
 
+    /// A desk that came back reads its log, and now and then recovers at once,
+    /// whether something is due or not.
+    pub(super) fn after_start(&mut self, at: usize) -> Checked {
+        self.read_log(at)?;
+        match self.one_in(3) {
+            true => self.recover(at),
+            false => Ok(()),
+        }
+    }
+
     /// A desk goes on with its log: it logs what is synced, writes out or
     /// recovers what is due, and else works on a transaction.
     pub(super) fn log_work(&mut self, at: usize, card: usize) -> Checked {
@@ -67,7 +85,8 @@ impl<L: Library> Town<'_, L> {
         }
         match self.desks[at].due.first().cloned() {
             None => self.transact(at, card),
-            Some(_) if self.one_in(3) => self.recover(at),
+            Some(_) if self.one_in(3) => self.transact(at, card),
+            Some(_) if self.one_in(2) => self.recover(at),
             Some(update) => self.write_out(at, &update),
         }
     }

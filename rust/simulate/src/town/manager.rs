@@ -35,6 +35,29 @@ impl Keeper {
     }
 }
 
+/// A request to a queue and its answer, as a scene.
+fn told(card: u16, turn: Turn, answer: &QueueAnswer) -> Scene {
+    let number = answer.number;
+    let left = |desk: u32, lease: bool| Scene::Left {
+        who: Who::of(desk.into()),
+        card,
+        number,
+        lease,
+    };
+    match turn {
+        Turn::Ask(mode, pair) => Scene::Asked {
+            who: Who::of(own(mode, pair)),
+            card,
+            mode,
+            pair,
+            number,
+            holds: answer.fields[0] == 1,
+        },
+        Turn::Leave(desk) => left(desk, false),
+        Turn::Lapse(desk, _) => left(desk, true),
+    }
+}
+
 impl<L: Library> Town<'_, L> {
     /// A request reaches a queue.
     pub(super) fn turn(&mut self, card: usize, turn: Turn) -> Checked<QueueAnswer> {
@@ -48,6 +71,8 @@ impl<L: Library> Town<'_, L> {
             }
         };
         self.tally.number(operation, answer.number);
+        self.tell(|| told(card as u16, turn, &answer));
+        let queue = &self.keepers[card].queue;
         turned(&mut self.tally.made, &before, turn, &answer, queue)?;
         Ok(answer)
     }
@@ -63,7 +88,7 @@ impl<L: Library> Town<'_, L> {
     ) -> Checked {
         let stood = place(&self.keepers[card].queue, who.number());
         let answer = self.turn(card, Turn::Ask(mode, pair))?;
-        let (number, [holds, s, x, _]) = (answer.number, answer.fields);
+        let (number, [_, s, x, _]) = (answer.number, answer.fields);
         let keeper = &mut self.keepers[card];
         if denied == Some(keeper.accepted) && self.rule.is_none() {
             let made = &mut self.tally.made;
@@ -71,19 +96,11 @@ impl<L: Library> Town<'_, L> {
         }
         keeper.accepted += u64::from(number == 0);
         let accepted = keeper.accepted;
+        self.tally.fault_if(number == 11, Fault::Denied);
         if stood.is_some() && mode == 2 {
             self.tally.fault_if(number == 0, Fault::Upgrade);
             self.tally.fault_if(number == 11, Fault::UpgradeDenied);
         }
-        let holds = holds == 1;
-        self.tell(|| Scene::Asked {
-            who,
-            card: card as u16,
-            mode,
-            pair,
-            number,
-            holds,
-        });
         let told = Body::Stands(mode, number, Pair::new(s, x), accepted);
         self.answer_to(desk, who, card, told);
         Ok(())
@@ -93,12 +110,6 @@ impl<L: Library> Town<'_, L> {
     pub(super) fn leaves(&mut self, desk: usize, who: Who, card: usize) -> Checked {
         let answer = self.turn(card, Turn::Leave(who.number()))?;
         let (number, [_, s, x, _]) = (answer.number, answer.fields);
-        self.tell(|| Scene::Left {
-            who,
-            card: card as u16,
-            number,
-            lease: false,
-        });
         let accepted = self.keepers[card].accepted;
         let told = Body::Stands(0, number, Pair::new(s, x), accepted);
         self.answer_to(desk, who, card, told);
@@ -164,13 +175,6 @@ impl<L: Library> Town<'_, L> {
         };
         let answer = self.turn(card, Turn::Lapse(desk, lease))?;
         let number = answer.number;
-        let who = Who::of(desk.into());
-        self.tell(|| Scene::Left {
-            who,
-            card: card as u16,
-            number,
-            lease: true,
-        });
         let keeper = &mut self.keepers[card];
         if number == 0 {
             keeper.lapsed.push(desk);

@@ -81,7 +81,7 @@ impl Shape {
             desks: 3,
             places: 3,
             log: 2_600,
-            steps: 150,
+            steps: 220,
             storm: 3,
             worn: false,
         }
@@ -291,6 +291,13 @@ impl<'a, L: Library> Town<'a, L> {
             .library
             .propose((who.desk, who.start), &mut known, mode, &mut pair);
         self.tally.number(Operation::Propose, number);
+        self.tell(|| Scene::Proposed {
+            who,
+            card: card as u16,
+            mode,
+            pair: Pair::new(pair[0], pair[1]),
+            number,
+        });
         let after = Proposal { number, known, pair };
         let made = &mut self.tally.made;
         proposed(made, (who.desk, who.start), mode, before, after)?;
@@ -303,13 +310,6 @@ impl<'a, L: Library> Town<'a, L> {
         }
         let pair = self.proposed_wrong(at, (card, mode), before.known, Pair::new(pair[0], pair[1]));
         self.desks[at].at[card].open[usize::from(mode) - 1] = Some(pair);
-        self.tell(|| Scene::Proposed {
-            who,
-            card: card as u16,
-            mode,
-            pair,
-            number,
-        });
         Ok(Some(pair))
     }
 

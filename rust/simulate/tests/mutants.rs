@@ -1,0 +1,421 @@
+//! Wrong answers, put between the town and the library one at a time: each stops
+//! the simulation, and the check that stops it is the one that is named here.
+//! `docs/RELIABILITY.md` has this table.
+
+use second::Pair;
+use simulate::checks::Check;
+use simulate::library::{Answer, Held, Lease, Library, Proved, Queue, QueueAnswer};
+use simulate::run::run;
+use simulate::tally::Tally;
+
+/// A wrong answer, by what is wrong.
+#[derive(Clone, Copy, Debug, PartialEq, Eq)]
+enum Mutant {
+    StalenessIgnored,
+    SharedAlwaysFresh,
+    PairReplaced,
+    PairNotRaisedByReads,
+    UpdatePairIgnored,
+    MarkIgnored,
+    MarkNotKept,
+    EditionNotCounted,
+    BehindServed,
+    OldTextShown,
+    RaisedThenShort,
+    RefusedWritesAByte,
+    RefusedWritesReply,
+    ReplyClearedBehindText,
+    BodyNotCleared,
+    FieldsBefore,
+    DenialIgnored,
+    GrantedTwice,
+    UpgradeKeepsPlace,
+    FreedPlaceKept,
+    LeaseEarly,
+    DriftForgotten,
+    LearnsHalf,
+    ProposalNotAbove,
+    ProposalNotLearnt,
+    CountFirst,
+    LineBeforeBody,
+    CutLooksWhole,
+    OrderUnlooked,
+    UncommittedApplied,
+    SyncedIgnored,
+    RecoveryHidesRefusal,
+    RecoveryWrongLine,
+    RecoveryForgetsMark,
+    BehindShown,
+}
+
+use Mutant::*;
+
+/// Each mutant, and the check that stops it.
+const ALL: &[(Mutant, Check)] = &[
+    (StalenessIgnored, Check::Late),
+    (SharedAlwaysFresh, Check::Late),
+    (PairReplaced, Check::Fields),
+    (PairNotRaisedByReads, Check::Fields),
+    (UpdatePairIgnored, Check::Fields),
+    (MarkIgnored, Check::Number),
+    (MarkNotKept, Check::Fields),
+    (EditionNotCounted, Check::Fields),
+    (BehindServed, Check::Behind),
+    (OldTextShown, Check::Shows),
+    (RaisedThenShort, Check::RefusedStore),
+    (RefusedWritesAByte, Check::RefusedStore),
+    (RefusedWritesReply, Check::RefusedStore),
+    (ReplyClearedBehindText, Check::Reply),
+    (BodyNotCleared, Check::Image),
+    (FieldsBefore, Check::Fields),
+    (DenialIgnored, Check::QueueNumber),
+    (GrantedTwice, Check::QueueHolds),
+    (UpgradeKeepsPlace, Check::QueuePlaces),
+    (FreedPlaceKept, Check::QueuePlaces),
+    (LeaseEarly, Check::QueueNumber),
+    (DriftForgotten, Check::QueueNumber),
+    (LearnsHalf, Check::Learnt),
+    (ProposalNotAbove, Check::Proposed),
+    (ProposalNotLearnt, Check::Proposed),
+    (CountFirst, Check::ReadBack),
+    (LineBeforeBody, Check::LogBytes),
+    (CutLooksWhole, Check::ReadBack),
+    (OrderUnlooked, Check::AppendNumber),
+    (UncommittedApplied, Check::Recovered),
+    (SyncedIgnored, Check::Recovered),
+    (RecoveryHidesRefusal, Check::RecoveryNumber),
+    (RecoveryWrongLine, Check::RecoveryNumber),
+    (RecoveryForgetsMark, Check::Image),
+    (BehindShown, Check::ShownPart),
+];
+
+/// The proved library with one wrong answer.
+struct Wrong(Mutant);
+
+/// Where the entry of a command's card stands, if the image has it.
+fn entry_at(image: &[u8], command: &[u8]) -> Option<usize> {
+    let card = usize::from(*command.get(2)?) + 256 * usize::from(*command.get(3)?);
+    let cards = usize::from(image[6]) + 256 * usize::from(image[7]);
+    (card < cards).then_some(16 + 32 * card)
+}
+
+fn number_at(bytes: &[u8], at: usize) -> u64 {
+    u64::from_le_bytes(bytes[at..at + 8].try_into().unwrap())
+}
+
+fn put(bytes: &mut [u8], at: usize, number: u64) {
+    bytes[at..at + 8].copy_from_slice(&number.to_le_bytes());
+}
+
+/// A command whose stamps, in both pairs, are at least those stored.
+fn freshened(image: &[u8], command: &[u8]) -> Vec<u8> {
+    let mut fresh = command.to_vec();
+    let Some(entry) = entry_at(image, command) else {
+        return fresh;
+    };
+    let same = command[20..36] == [0; 16];
+    for at in [0, 8] {
+        let stored = number_at(image, entry + at);
+        let verifier = number_at(command, 4 + at).max(stored);
+        put(&mut fresh, 4 + at, verifier);
+        if !same {
+            put(&mut fresh, 20 + at, number_at(command, 20 + at).max(stored));
+        }
+    }
+    fresh
+}
+
+impl Wrong {
+    fn is(&self, mutant: Mutant) -> bool {
+        self.0 == mutant
+    }
+
+    /// What is wrong with a refusal.
+    fn refused(&self, image: &mut [u8], command: &[u8], reply: &mut [u8], told: Answer) -> Answer {
+        let Some(entry) = entry_at(image, command) else {
+            return told;
+        };
+        let exclusive = command[1] == 2;
+        match (self.0, told.number) {
+            (StalenessIgnored, 3) => Proved.answer(image, &freshened(image, command), reply),
+            (SharedAlwaysFresh, 3) if !exclusive => {
+                Proved.answer(image, &freshened(image, command), reply)
+            }
+            (MarkIgnored, 4) => {
+                let mut right = command.to_vec();
+                right[36..38].copy_from_slice(&image[entry + 16..entry + 18]);
+                right[38..42].copy_from_slice(&image[entry + 20..entry + 24]);
+                Proved.answer(image, &right, reply)
+            }
+            (BehindServed, 6) if command[0] == 2 => {
+                let mut told = told;
+                told.number = 0;
+                told
+            }
+            (RaisedThenShort, 8) => {
+                let old = number_at(image, entry);
+                put(image, entry, old.max(number_at(command, 4)) + (1 << 32));
+                told
+            }
+            (RefusedWritesAByte, 3) => {
+                image[entry + 24] ^= 1;
+                told
+            }
+            (RefusedWritesReply, 4 | 6) if !reply.is_empty() => {
+                reply[0] ^= 1;
+                told
+            }
+            _ => told,
+        }
+    }
+
+    /// What is wrong with an accepted command.
+    fn accepted(
+        &self,
+        before: &[u8],
+        image: &mut [u8],
+        command: &[u8],
+        reply: &mut [u8],
+        mut told: Answer,
+    ) -> Answer {
+        let Some(entry) = entry_at(image, command) else {
+            return told;
+        };
+        let old = &before[entry..entry + 32];
+        match self.0 {
+            PairReplaced => {
+                let at = if command[20..36] == [0; 16] { 4 } else { 20 };
+                put(image, entry, number_at(command, at));
+                told.fields[0] = number_at(command, at);
+            }
+            PairNotRaisedByReads if command[0] <= 2 => {
+                image[entry..entry + 16].copy_from_slice(&old[..16]);
+                told.fields[0] = number_at(old, 0);
+                told.fields[1] = number_at(old, 8);
+            }
+            UpdatePairIgnored => {
+                for at in [0, 1] {
+                    let verifier = number_at(command, 4 + 8 * at);
+                    let raised = verifier.max(number_at(old, 8 * at));
+                    put(image, entry + 8 * at, raised);
+                    told.fields[at] = raised;
+                }
+            }
+            MarkNotKept => {
+                image[entry + 16..entry + 24].copy_from_slice(&old[16..24]);
+                told.fields[2] = u64::from(u16::from_le_bytes([old[16], old[17]]));
+                told.fields[3] = u64::from(u32::from_le_bytes(old[20..24].try_into().unwrap()));
+            }
+            EditionNotCounted if command[0] == 3 && old[24..26] != [0, 0] => {
+                image[entry + 24..entry + 26].copy_from_slice(&old[24..26]);
+                told.fields[4] -= 1;
+            }
+            OldTextShown if command[0] <= 2 && told.fields[6] > 0 => reply[0] ^= 1,
+            ReplyClearedBehindText if command[0] <= 2 => {
+                reply[told.fields[6] as usize..].fill(0);
+            }
+            BodyNotCleared if command[0] == 3 => {
+                let end = image.len();
+                image[end - 1] ^= 1;
+            }
+            FieldsBefore => {
+                told.fields[0] = number_at(old, 0);
+                told.fields[1] = number_at(old, 8);
+            }
+            _ => {}
+        }
+        told
+    }
+}
+
+impl Library for Wrong {
+    fn make(&mut self, image: &mut [u8], cards: u64, room: u64) -> u8 {
+        Proved.make(image, cards, room)
+    }
+
+    fn sound(&mut self, image: &[u8]) -> bool {
+        Proved.sound(image)
+    }
+
+    fn answer(&mut self, image: &mut [u8], command: &[u8], reply: &mut [u8]) -> Answer {
+        let before = image.to_vec();
+        let told = Proved.answer(image, command, reply);
+        match told.number {
+            0 => self.accepted(&before, image, command, reply, told),
+            1 | 2 | 9 => told,
+            _ => self.refused(image, command, reply, told),
+        }
+    }
+
+    fn ask(&mut self, queue: &mut Queue, mode: u8, pair: Pair) -> QueueAnswer {
+        let before = *queue;
+        let mut told = Proved.ask(queue, mode, pair);
+        if self.is(DenialIgnored) && told.number == 11 {
+            let [_, s, x] = queue.kept;
+            return Proved.ask(queue, mode, Pair::new(pair.s.max(s), pair.x.max(x)));
+        }
+        if self.is(GrantedTwice) && told.number == 0 {
+            told.fields[0] = 1;
+        }
+        if self.is(UpgradeKeepsPlace) && told.number == 0 && queue.kept[0] == before.kept[0] {
+            let last = queue.kept[0] as usize - 1;
+            queue.modes[..=last].rotate_right(1);
+            queue.s[..=last].rotate_right(1);
+            queue.x[..=last].rotate_right(1);
+        }
+        told
+    }
+
+    fn leave(&mut self, queue: &mut Queue, desk: u32) -> QueueAnswer {
+        let told = Proved.leave(queue, desk);
+        if self.is(FreedPlaceKept) && told.number == 0 {
+            queue.modes[queue.kept[0] as usize] = 1;
+        }
+        told
+    }
+
+    fn lapse(&mut self, queue: &mut Queue, desk: u32, mut lease: Lease) -> QueueAnswer {
+        if self.is(DriftForgotten) && lease.drift >= 0.0 {
+            lease.drift = 0.0;
+        }
+        if self.is(LeaseEarly) && lease.period > 1.0 && lease.period < 86_400.0 {
+            lease.period -= 1.0;
+        }
+        Proved.lapse(queue, desk, lease)
+    }
+
+    fn learn(&mut self, known: &mut [u64; 2], pair: Pair) {
+        let pair = if self.is(LearnsHalf) { Pair::new(0, pair.x) } else { pair };
+        Proved.learn(known, pair);
+    }
+
+    fn propose(
+        &mut self,
+        who: (u16, u16),
+        known: &mut [u64; 2],
+        mode: u8,
+        pair: &mut [u64; 2],
+    ) -> u8 {
+        let before = *known;
+        let number = Proved.propose(who, known, mode, pair);
+        if self.is(ProposalNotAbove) && number == 0 && mode == 1 && before[0] >> 32 > 0 {
+            pair[0] -= 1 << 32;
+            known[0] = pair[0];
+        }
+        if self.is(ProposalNotLearnt) {
+            *known = before;
+        }
+        number
+    }
+
+    fn shown(&mut self, held: &Held, asked: u8) -> (u8, u64) {
+        match Proved.shown(held, asked) {
+            (6, _) if self.is(BehindShown) && held.lengths[1] > 0 => (0, held.lengths[1]),
+            told => told,
+        }
+    }
+
+    fn check_log(&mut self, log: &[u8]) -> u8 {
+        Proved.check_log(log)
+    }
+
+    fn append(&mut self, log: &mut [u8], kind: u8, body: &[u8], stores: u64) -> u8 {
+        let before = log.to_vec();
+        let number = Proved.append(log, kind, body, stores);
+        match (self.0, number) {
+            (CountFirst, 26) if stores > 0 => log[0] = before[0] + 1,
+            (LineBeforeBody, 26) => {
+                let mut whole = before.clone();
+                Proved.append(&mut whole, kind, body, 1 << 20);
+                let line = 1 + 11 * usize::from(before[0]);
+                log.copy_from_slice(&before);
+                let first = (stores as usize).min(11);
+                log[line..line + first].copy_from_slice(&whole[line..line + first]);
+            }
+            (CutLooksWhole, 26) => return Proved.append(log, kind, body, 1 << 20),
+            (OrderUnlooked, 23) if before[0] <= 200 => return 0,
+            _ => {}
+        }
+        number
+    }
+
+    fn recover(&mut self, log: &[u8], image: &mut [u8], s: &[u64], x: &[u64]) -> (u8, u64) {
+        let before = image.to_vec();
+        let wrong = match self.0 {
+            UncommittedApplied => committed(log),
+            SyncedIgnored => unsynced(log),
+            _ => log.to_vec(),
+        };
+        let told = Proved.recover(&wrong, image, s, x);
+        if wrong != log && told.0 != 0 {
+            image.copy_from_slice(&before);
+            return Proved.recover(log, image, s, x);
+        }
+        let (number, line) = told;
+        match self.0 {
+            RecoveryHidesRefusal if number == 3 => (0, 0),
+            RecoveryWrongLine if line > 0 => (number, line - 1),
+            RecoveryForgetsMark if number == 0 && before != image => {
+                image[16 + 16..16 + 24].fill(0);
+                told
+            }
+            _ => told,
+        }
+    }
+}
+
+/// A log whose last transaction is committed, begun or not.
+fn committed(log: &[u8]) -> Vec<u8> {
+    let mut wrong = log.to_vec();
+    let read = simulate::checks::log::read(log);
+    let begun = read.and_then(|read| {
+        let begun = read.records.iter().rev().find(|record| record.0 == 1);
+        begun.map(|record| record.1.to_vec())
+    });
+    if let Some(transaction) = begun {
+        Proved.append(&mut wrong, 3, &transaction, 1 << 20);
+    }
+    wrong
+}
+
+/// A log whose synced records name transaction 0, and so stand for nothing.
+fn unsynced(log: &[u8]) -> Vec<u8> {
+    let mut wrong = log.to_vec();
+    let good = Proved.check_log(log) == 0;
+    for line in 0..if good { usize::from(log[0]) } else { 0 } {
+        let at = 1 + 11 * line;
+        if log[at] == 4 {
+            let four = |at: usize| u32::from_le_bytes(log[at..at + 4].try_into().unwrap());
+            let body = four(at + 1) as usize;
+            let gone: u32 = log[body + 2..body + 6].iter().map(|byte| u32::from(*byte)).sum();
+            wrong[body + 2..body + 6].fill(0);
+            wrong[at + 7..at + 11].copy_from_slice(&(four(at + 7) - gone).to_le_bytes());
+        }
+    }
+    wrong
+}
+
+/// The steps within which each must be stopped.
+const STEPS: u64 = 2_000_000;
+
+#[test]
+fn the_library_as_it_is_goes_through() {
+    let mut tally = Tally::default();
+    let stop = run(&mut Proved, &mut tally, 9, 100_000, false).err();
+    assert!(stop.is_none(), "{stop:?}");
+}
+
+#[test]
+fn each_wrong_answer_stops_the_simulation() {
+    let mut told = Vec::new();
+    for (mutant, check) in ALL {
+        let mut tally = Tally::default();
+        let stop = run(&mut Wrong(*mutant), &mut tally, 9, STEPS, false).err();
+        match stop {
+            Some(stop) if stop.breach.check == *check && !stop.last.is_empty() => {}
+            Some(stop) => told.push(format!("{mutant:?}: {:?}", stop.breach.check)),
+            None => told.push(format!("{mutant:?}: nothing")),
+        }
+    }
+    assert!(told.is_empty(), "stopped by another check: {told:#?}");
+}
