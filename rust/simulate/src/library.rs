@@ -227,9 +227,7 @@ impl Library for Proved {
         // SAFETY: each pointer is that of an array of its own.
         let number = unsafe {
             let (kept, places) = (&mut queue.kept, queue.places);
-            exported::lupaniele_ask(
-                modes, s, x, kept, places, mode, pair.s, pair.x, &mut fields,
-            )
+            exported::lupaniele_ask(modes, s, x, kept, places, mode, pair.s, pair.x, &mut fields)
         };
         QueueAnswer { number, fields }
     }

@@ -49,22 +49,29 @@ pub struct Stop {
     pub last: Vec<String>,
 }
 
+/// What a run is to do.
+#[derive(Clone, Copy, Debug, PartialEq, Eq)]
+pub struct Plan {
+    /// The seed.
+    pub seed: u64,
+    /// The least number of steps.
+    pub steps: u64,
+    /// The first town: town 0 wears out a card.
+    pub first: u64,
+    /// Whether it says how far it is.
+    pub progress: bool,
+}
+
 /// Runs towns until so many steps are made, or up to the first breach.
-pub fn run<L: Library>(
-    library: &mut L,
-    tally: &mut Tally,
-    seed: u64,
-    steps: u64,
-    progress: bool,
-) -> Result<(), Box<Stop>> {
+pub fn run<L: Library>(library: &mut L, tally: &mut Tally, plan: Plan) -> Result<(), Box<Stop>> {
     let started = Instant::now();
     let mut shown = 5;
-    let mut town = 0;
-    while tally.steps < steps {
-        one(library, tally, seed, town)?;
+    let mut town = plan.first;
+    while tally.steps < plan.steps {
+        one(library, tally, plan.seed, town)?;
         town += 1;
         let seconds = started.elapsed().as_secs();
-        if progress && seconds >= shown {
+        if plan.progress && seconds >= shown {
             let (steps, rate) = (grouped(tally.steps), grouped(tally.steps / seconds));
             println!("simulate: {steps} steps, {seconds} s, {rate} steps a second");
             shown = seconds + 5;

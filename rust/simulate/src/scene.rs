@@ -148,18 +148,54 @@ fn mode_words(mode: u8) -> &'static str {
     }
 }
 
+/// A judged command in words.
+fn judged_words(judged: &Judged) -> String {
+    let by = if judged.recovery { "recovery: " } else { "" };
+    let (number, words) = (judged.number, command_words(&judged.command));
+    let told = meaning(number);
+    match judged.shown.is_empty() {
+        true => format!("{by}{words}: {number}, {told}"),
+        false => {
+            let shown = String::from_utf8_lossy(&judged.shown);
+            format!("{by}{words}: {number}, {told}, {shown:?}")
+        }
+    }
+}
+
+/// A scene at a queue in words: asking and leaving; else nothing.
+fn queue_words(scene: &Scene) -> String {
+    match scene {
+        Scene::Asked {
+            who,
+            card,
+            mode,
+            pair,
+            number,
+            holds,
+        } => {
+            let (mode, pair) = (mode_words(*mode), pair_words(*pair));
+            let holds = if *holds { ", and holds" } else { "" };
+            let told = meaning(*number);
+            format!("{who} asks {mode} {pair} in queue {card}: {number}, {told}{holds}")
+        }
+        Scene::Left {
+            who,
+            card,
+            number,
+            lease,
+        } => {
+            let how = if *lease { "is taken out of" } else { "leaves" };
+            format!("{who} {how} queue {card}: {number}, {}", meaning(*number))
+        }
+        Scene::QueueLost { card } => format!("queue {card} is lost and begins empty"),
+        _ => String::new(),
+    }
+}
+
 impl fmt::Display for Scene {
     fn fmt(&self, to: &mut fmt::Formatter) -> fmt::Result {
         match self {
-            Scene::Judged(judged) => {
-                let by = if judged.recovery { "recovery: " } else { "" };
-                let (number, words) = (judged.number, command_words(&judged.command));
-                write!(to, "{by}{words}: {number}, {}", meaning(number))?;
-                match judged.shown.is_empty() {
-                    true => Ok(()),
-                    false => write!(to, ", {:?}", String::from_utf8_lossy(&judged.shown)),
-                }
-            }
+            Scene::Judged(judged) => to.write_str(&judged_words(judged)),
             Scene::Proposed {
                 who,
                 card,
@@ -170,48 +206,25 @@ impl fmt::Display for Scene {
                 let (mode, pair) = (mode_words(*mode), pair_words(*pair));
                 write!(to, "{who} proposes {mode} {pair} for card {card}: {number}")
             }
-            Scene::Asked {
-                who,
-                card,
-                mode,
-                pair,
-                number,
-                holds,
-            } => {
-                let (mode, pair) = (mode_words(*mode), pair_words(*pair));
-                let holds = if *holds { ", and holds" } else { "" };
-                let told = meaning(*number);
-                write!(to, "{who} asks {mode} {pair} in queue {card}: {number}, {told}{holds}")
-            }
-            Scene::Left {
-                who,
-                card,
-                number,
-                lease,
-            } => {
-                let how = if *lease { "is taken out of" } else { "leaves" };
-                write!(to, "{who} {how} queue {card}: {number}, {}", meaning(*number))
-            }
-            Scene::QueueLost { card } => write!(to, "queue {card} is lost and begins empty"),
             Scene::Logged {
                 who,
                 record,
                 number,
                 cut,
             } => {
-                write!(to, "{who} logs {record}")?;
-                if let Some(stores) = cut {
-                    write!(to, ", and the power is cut after {stores} stores")?;
-                }
-                write!(to, ": {number}, {}", meaning(*number))
+                let cut = cut.map(|stores| format!(", cut after {stores} stores"));
+                let (cut, told) = (cut.unwrap_or_default(), meaning(*number));
+                write!(to, "{who} logs {record}{cut}: {number}, {told}")
             }
             Scene::Down { who } => write!(to, "{who} goes down"),
             Scene::Silent { who } => write!(to, "{who} falls silent"),
             Scene::Started { who } => write!(to, "{who} starts"),
             Scene::Recovered { who, number, line } => {
-                write!(to, "{who} recovers: {number}, {}, line {line}", meaning(*number))
+                let told = meaning(*number);
+                write!(to, "{who} recovers: {number}, {told}, line {line}")
             }
             Scene::Said(words) => to.write_str(words),
+            queue => to.write_str(&queue_words(queue)),
         }
     }
 }

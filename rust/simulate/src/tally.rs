@@ -129,7 +129,7 @@ pub fn grouped(count: u64) -> String {
     let digits = count.to_string();
     let mut out = String::new();
     for (at, digit) in digits.chars().enumerate() {
-        if at > 0 && (digits.len() - at) % 3 == 0 {
+        if at > 0 && (digits.len() - at).is_multiple_of(3) {
             out.push(',');
         }
         out.push(digit);
@@ -208,7 +208,11 @@ impl Tally {
         for operation in Operation::ALL {
             let counts = self.numbers[*operation as usize].iter().enumerate();
             for (number, count) in counts.filter(|(_, count)| **count > 0) {
-                row(&mut table, *count, &format!("{} {number}", operation.words()));
+                row(
+                    &mut table,
+                    *count,
+                    &format!("{} {number}", operation.words()),
+                );
             }
         }
         table.push_str("checks\n");

@@ -40,7 +40,10 @@ fn the_premise_is_seen_in_either_order() {
         }
     }
     let own = verify(1, stamp(1, 1), stamp(1, 1));
-    assert_eq!(Lists::default().sent(&formed::formed(&own).unwrap()), (true, false));
+    assert_eq!(
+        Lists::default().sent(&formed::formed(&own).unwrap()),
+        (true, false)
+    );
 }
 
 /// Accepted commands in a row: what is said of the last.
@@ -85,7 +88,10 @@ fn a_log_reads_back_and_says_what_is_due() {
     assert_eq!(append(BEGIN, &[7, 0, 0, 0]), 23);
     assert_eq!(append(BEGIN, &[8, 0, 0, 0]), 0);
     assert_eq!(append(UPDATE, &[1, 0, 2]), 0);
-    let lines: Vec<u64> = due(&read(&log).unwrap().records).iter().map(|at| at.line).collect();
+    let lines: Vec<u64> = due(&read(&log).unwrap().records)
+        .iter()
+        .map(|at| at.line)
+        .collect();
     assert_eq!(lines, [1]);
     let (_, synced) = appended(&log, SYNCED, &[0, 0, 9, 0, 0, 0], 1_000);
     assert_eq!(due(&read(&synced).unwrap().records), []);
@@ -108,13 +114,18 @@ fn a_check_that_fails_says_so() {
         .judged(&mut made, &command, (&[], &[]), &wrong, &image)
         .unwrap_err();
     assert_eq!(breach.check, Check::Late);
-    store.judged(&mut made, &command, (&[], &[]), &told, &image).unwrap();
+    store
+        .judged(&mut made, &command, (&[], &[]), &told, &image)
+        .unwrap();
     assert_eq!(made.0[Check::Late as usize], 2);
 }
 
 #[test]
 fn trials_a_and_b() {
-    let top = concat!(env!("CARGO_MANIFEST_DIR"), "/../../docs/pictures/late-exclusive.txt");
+    let top = concat!(
+        env!("CARGO_MANIFEST_DIR"),
+        "/../../docs/pictures/late-exclusive.txt"
+    );
     let list = text::read(&std::fs::read_to_string(top).unwrap()).unwrap();
     let mut store = simulate::checks::store::Store::new(1, 16, true);
     let numbers = list.lines.iter().map(|(_, line)| match line {

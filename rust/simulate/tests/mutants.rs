@@ -5,7 +5,7 @@
 use second::Pair;
 use simulate::checks::Check;
 use simulate::library::{Answer, Held, Lease, Library, Proved, Queue, QueueAnswer};
-use simulate::run::run;
+use simulate::run::{run, Plan};
 use simulate::tally::Tally;
 
 /// A wrong answer, by what is wrong.
@@ -50,43 +50,163 @@ enum Mutant {
 
 use Mutant::*;
 
-/// Each mutant, and the check that stops it.
-const ALL: &[(Mutant, Check)] = &[
-    (StalenessIgnored, Check::Late),
-    (SharedAlwaysFresh, Check::Late),
-    (PairReplaced, Check::Fields),
-    (PairNotRaisedByReads, Check::Fields),
-    (UpdatePairIgnored, Check::Fields),
-    (MarkIgnored, Check::Number),
-    (MarkNotKept, Check::Fields),
-    (EditionNotCounted, Check::Fields),
-    (BehindServed, Check::Behind),
-    (OldTextShown, Check::Shows),
-    (RaisedThenShort, Check::RefusedStore),
-    (RefusedWritesAByte, Check::RefusedStore),
-    (RefusedWritesReply, Check::RefusedStore),
-    (ReplyClearedBehindText, Check::Reply),
-    (BodyNotCleared, Check::Image),
-    (FieldsBefore, Check::Fields),
-    (DenialIgnored, Check::QueueNumber),
-    (GrantedTwice, Check::QueueHolds),
-    (UpgradeKeepsPlace, Check::QueuePlaces),
-    (FreedPlaceKept, Check::QueuePlaces),
-    (LeaseEarly, Check::QueueNumber),
-    (DriftForgotten, Check::QueueNumber),
-    (LearnsHalf, Check::Learnt),
-    (ProposalNotAbove, Check::Proposed),
-    (ProposalNotLearnt, Check::Proposed),
-    (CountFirst, Check::ReadBack),
-    (LineBeforeBody, Check::LogBytes),
-    (CutLooksWhole, Check::ReadBack),
-    (OrderUnlooked, Check::AppendNumber),
-    (UncommittedApplied, Check::Recovered),
-    (SyncedIgnored, Check::Recovered),
-    (RecoveryHidesRefusal, Check::RecoveryNumber),
-    (RecoveryWrongLine, Check::RecoveryNumber),
-    (RecoveryForgetsMark, Check::Image),
-    (BehindShown, Check::ShownPart),
+/// Each mutant in words, and the check that stops it.
+const ALL: &[(Mutant, &str, Check)] = &[
+    (StalenessIgnored, "staleness is not looked at", Check::Late),
+    (
+        SharedAlwaysFresh,
+        "a shared command is never stale",
+        Check::Late,
+    ),
+    (
+        PairReplaced,
+        "the stored s is the command's, not the larger of both",
+        Check::Fields,
+    ),
+    (
+        PairNotRaisedByReads,
+        "a read does not raise the stored pair",
+        Check::Fields,
+    ),
+    (
+        UpdatePairIgnored,
+        "the stored pair is raised by the verifier, not by the update pair",
+        Check::Fields,
+    ),
+    (
+        MarkIgnored,
+        "the commit mark is not looked at",
+        Check::Number,
+    ),
+    (MarkNotKept, "the next mark is not stored", Check::Fields),
+    (
+        EditionNotCounted,
+        "the edition is not counted",
+        Check::Fields,
+    ),
+    (
+        BehindServed,
+        "a translation that is behind is read",
+        Check::Behind,
+    ),
+    (OldTextShown, "a read shows another text", Check::Shows),
+    (
+        RaisedThenShort,
+        "the pair is raised, and then the reply buffer is too short",
+        Check::RefusedStore,
+    ),
+    (
+        RefusedWritesAByte,
+        "a refusal writes a byte of the image",
+        Check::RefusedStore,
+    ),
+    (
+        RefusedWritesReply,
+        "a refusal writes a byte of the reply buffer",
+        Check::RefusedStore,
+    ),
+    (
+        ReplyClearedBehindText,
+        "the reply buffer is cleared behind the text",
+        Check::Reply,
+    ),
+    (
+        BodyNotCleared,
+        "a byte behind a text is not zero",
+        Check::Image,
+    ),
+    (
+        FieldsBefore,
+        "the reply fields are those before the command",
+        Check::Fields,
+    ),
+    (
+        DenialIgnored,
+        "a denied ask is accepted",
+        Check::QueueNumber,
+    ),
+    (GrantedTwice, "the lock is granted twice", Check::QueueHolds),
+    (
+        UpgradeKeepsPlace,
+        "an upgrade goes to the front",
+        Check::QueuePlaces,
+    ),
+    (
+        FreedPlaceKept,
+        "a freed place is not cleared",
+        Check::QueuePlaces,
+    ),
+    (
+        LeaseEarly,
+        "a lease ends a second early",
+        Check::QueueNumber,
+    ),
+    (
+        DriftForgotten,
+        "a lease is not lengthened by the drift",
+        Check::QueueNumber,
+    ),
+    (
+        LearnsHalf,
+        "a desk learns the x without the s",
+        Check::Learnt,
+    ),
+    (
+        ProposalNotAbove,
+        "a shared proposal is not above what is known",
+        Check::Proposed,
+    ),
+    (
+        ProposalNotLearnt,
+        "a proposal is not learnt",
+        Check::Proposed,
+    ),
+    (
+        CountFirst,
+        "an append stores the count first",
+        Check::ReadBack,
+    ),
+    (
+        LineBeforeBody,
+        "an append stores the line before the body",
+        Check::LogBytes,
+    ),
+    (CutLooksWhole, "a cut append is whole", Check::ReadBack),
+    (
+        OrderUnlooked,
+        "the order of transactions is not looked at",
+        Check::AppendNumber,
+    ),
+    (
+        UncommittedApplied,
+        "recovery writes updates that are not committed",
+        Check::Recovered,
+    ),
+    (
+        SyncedIgnored,
+        "recovery writes updates that are synced",
+        Check::Recovered,
+    ),
+    (
+        RecoveryHidesRefusal,
+        "recovery hides a refusal",
+        Check::RecoveryNumber,
+    ),
+    (
+        RecoveryWrongLine,
+        "recovery names the line before",
+        Check::RecoveryNumber,
+    ),
+    (
+        RecoveryForgetsMark,
+        "recovery clears the commit mark",
+        Check::Image,
+    ),
+    (
+        BehindShown,
+        "a desk shows a translation that is behind",
+        Check::ShownPart,
+    ),
 ];
 
 /// The proved library with one wrong answer.
@@ -169,62 +289,47 @@ impl Wrong {
         }
     }
 
-    /// What is wrong with an accepted command.
-    fn accepted(
-        &self,
-        before: &[u8],
-        image: &mut [u8],
-        command: &[u8],
-        reply: &mut [u8],
-        mut told: Answer,
-    ) -> Answer {
-        let Some(entry) = entry_at(image, command) else {
-            return told;
-        };
-        let old = &before[entry..entry + 32];
+    /// What is wrong with the entry that an accepted command leaves.
+    fn accepted(&self, old: &[u8], entry: &mut [u8], command: &[u8], told: &mut Answer) {
+        let own = if command[20..36] == [0; 16] { 4 } else { 20 };
         match self.0 {
-            PairReplaced => {
-                let at = if command[20..36] == [0; 16] { 4 } else { 20 };
-                put(image, entry, number_at(command, at));
-                told.fields[0] = number_at(command, at);
-            }
-            PairNotRaisedByReads if command[0] <= 2 => {
-                image[entry..entry + 16].copy_from_slice(&old[..16]);
-                told.fields[0] = number_at(old, 0);
-                told.fields[1] = number_at(old, 8);
-            }
+            PairReplaced => put(entry, 0, number_at(command, own)),
+            PairNotRaisedByReads if command[0] <= 2 => entry[..16].copy_from_slice(&old[..16]),
             UpdatePairIgnored => {
-                for at in [0, 1] {
-                    let verifier = number_at(command, 4 + 8 * at);
-                    let raised = verifier.max(number_at(old, 8 * at));
-                    put(image, entry + 8 * at, raised);
-                    told.fields[at] = raised;
+                for at in [0, 8] {
+                    put(
+                        entry,
+                        at,
+                        number_at(command, 4 + at).max(number_at(old, at)),
+                    );
                 }
             }
-            MarkNotKept => {
-                image[entry + 16..entry + 24].copy_from_slice(&old[16..24]);
-                told.fields[2] = u64::from(u16::from_le_bytes([old[16], old[17]]));
-                told.fields[3] = u64::from(u32::from_le_bytes(old[20..24].try_into().unwrap()));
-            }
+            MarkNotKept => entry[16..24].copy_from_slice(&old[16..24]),
             EditionNotCounted if command[0] == 3 && old[24..26] != [0, 0] => {
-                image[entry + 24..entry + 26].copy_from_slice(&old[24..26]);
-                told.fields[4] -= 1;
+                entry[24..26].copy_from_slice(&old[24..26]);
             }
-            OldTextShown if command[0] <= 2 && told.fields[6] > 0 => reply[0] ^= 1,
-            ReplyClearedBehindText if command[0] <= 2 => {
-                reply[told.fields[6] as usize..].fill(0);
-            }
+            _ => {}
+        }
+        let two = |at: usize| u64::from(entry[at]) + 256 * u64::from(entry[at + 1]);
+        told.fields[..2].copy_from_slice(&[number_at(entry, 0), number_at(entry, 8)]);
+        told.fields[2..5].copy_from_slice(&[two(16), two(20) + 65_536 * two(22), two(24)]);
+        if self.is(FieldsBefore) {
+            told.fields[..2].copy_from_slice(&[number_at(old, 0), number_at(old, 8)]);
+        }
+    }
+
+    /// What is wrong with the bytes that an accepted command leaves.
+    fn written(&self, image: &mut [u8], command: &[u8], reply: &mut [u8], told: &Answer) {
+        let length = told.fields[6] as usize;
+        match self.0 {
+            OldTextShown if command[0] <= 2 && length > 0 => reply[0] ^= 1,
+            ReplyClearedBehindText if command[0] <= 2 => reply[length..].fill(0),
             BodyNotCleared if command[0] == 3 => {
                 let end = image.len();
                 image[end - 1] ^= 1;
             }
-            FieldsBefore => {
-                told.fields[0] = number_at(old, 0);
-                told.fields[1] = number_at(old, 8);
-            }
             _ => {}
         }
-        told
     }
 }
 
@@ -239,9 +344,15 @@ impl Library for Wrong {
 
     fn answer(&mut self, image: &mut [u8], command: &[u8], reply: &mut [u8]) -> Answer {
         let before = image.to_vec();
-        let told = Proved.answer(image, command, reply);
+        let mut told = Proved.answer(image, command, reply);
         match told.number {
-            0 => self.accepted(&before, image, command, reply, told),
+            0 => {
+                let at = entry_at(image, command).unwrap();
+                let (old, entry) = (&before[at..at + 32], &mut image[at..at + 32]);
+                self.accepted(old, entry, command, &mut told);
+                self.written(image, command, reply, &told);
+                told
+            }
             1 | 2 | 9 => told,
             _ => self.refused(image, command, reply, told),
         }
@@ -285,7 +396,11 @@ impl Library for Wrong {
     }
 
     fn learn(&mut self, known: &mut [u64; 2], pair: Pair) {
-        let pair = if self.is(LearnsHalf) { Pair::new(0, pair.x) } else { pair };
+        let pair = if self.is(LearnsHalf) {
+            Pair::new(0, pair.x)
+        } else {
+            pair
+        };
         Proved.learn(known, pair);
     }
 
@@ -387,7 +502,10 @@ fn unsynced(log: &[u8]) -> Vec<u8> {
         if log[at] == 4 {
             let four = |at: usize| u32::from_le_bytes(log[at..at + 4].try_into().unwrap());
             let body = four(at + 1) as usize;
-            let gone: u32 = log[body + 2..body + 6].iter().map(|byte| u32::from(*byte)).sum();
+            let gone: u32 = log[body + 2..body + 6]
+                .iter()
+                .map(|byte| u32::from(*byte))
+                .sum();
             wrong[body + 2..body + 6].fill(0);
             wrong[at + 7..at + 11].copy_from_slice(&(four(at + 7) - gone).to_le_bytes());
         }
@@ -396,21 +514,26 @@ fn unsynced(log: &[u8]) -> Vec<u8> {
 }
 
 /// The steps within which each must be stopped.
-const STEPS: u64 = 2_000_000;
+const PLAN: Plan = Plan {
+    seed: 9,
+    steps: 1_000_000,
+    first: 1,
+    progress: false,
+};
 
 #[test]
 fn the_library_as_it_is_goes_through() {
     let mut tally = Tally::default();
-    let stop = run(&mut Proved, &mut tally, 9, 100_000, false).err();
+    let stop = run(&mut Proved, &mut tally, PLAN).err();
     assert!(stop.is_none(), "{stop:?}");
 }
 
 #[test]
 fn each_wrong_answer_stops_the_simulation() {
     let mut told = Vec::new();
-    for (mutant, check) in ALL {
+    for (mutant, _, check) in ALL {
         let mut tally = Tally::default();
-        let stop = run(&mut Wrong(*mutant), &mut tally, 9, STEPS, false).err();
+        let stop = run(&mut Wrong(*mutant), &mut tally, PLAN).err();
         match stop {
             Some(stop) if stop.breach.check == *check && !stop.last.is_empty() => {}
             Some(stop) => told.push(format!("{mutant:?}: {:?}", stop.breach.check)),
@@ -418,4 +541,14 @@ fn each_wrong_answer_stops_the_simulation() {
         }
     }
     assert!(told.is_empty(), "stopped by another check: {told:#?}");
+}
+
+#[test]
+fn the_page_has_this_table() {
+    let page = concat!(env!("CARGO_MANIFEST_DIR"), "/../../docs/RELIABILITY.md");
+    let page = std::fs::read_to_string(page).unwrap();
+    for (_, words, check) in ALL {
+        let row = format!("| {words} | {} |", check.words());
+        assert!(page.contains(&row), "missing: {row}");
+    }
 }

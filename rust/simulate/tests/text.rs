@@ -104,8 +104,14 @@ fn a_bad_line_is_told_by_line_and_column() {
     assert_eq!(with("shared verify of card x"), (3, 23));
     assert_eq!(with("shared verify of card 0 by (1.1, none)"), (3, 29));
     assert_eq!(with("shared verify of card 0 by (1.1.0 none)"), (3, 35));
-    assert_eq!(with("shared verify of card 0 by (1.1.0, 5000000000.1.0)"), (3, 36));
-    assert_eq!(with("shared verify of card 0 by (1.1.0, none) text \"2"), (3, 49));
+    assert_eq!(
+        with("shared verify of card 0 by (1.1.0, 5000000000.1.0)"),
+        (3, 36)
+    );
+    assert_eq!(
+        with("shared verify of card 0 by (1.1.0, none) text \"2"),
+        (3, 49)
+    );
     assert_eq!(with("shared verify of card 0 by (1.1.0, none) so"), (3, 42));
     assert_eq!(with("exclusive verify of card 70000"), (3, 26));
     assert_eq!(with("bytes 0g"), (3, 7));

@@ -53,7 +53,8 @@ fn listed(file: &str) -> Result<(List, String), String> {
         let list = List::from_input(&bytes).ok_or("bad store: the image is cut short")?;
         return Ok((list, file.into()));
     }
-    let text = String::from_utf8(bytes).map_err(|_| format!("{file}: neither text nor an image"))?;
+    let text =
+        String::from_utf8(bytes).map_err(|_| format!("{file}: neither text nor an image"))?;
     let title = text.lines().next().and_then(|line| line.strip_prefix("# "));
     let title = title.unwrap_or(file).to_string();
     Ok((read(&text).map_err(told)?, title))

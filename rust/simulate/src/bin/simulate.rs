@@ -11,7 +11,7 @@ use std::time::{Instant, SystemTime, UNIX_EPOCH};
 
 use simulate::library::Proved;
 use simulate::rule::Rule;
-use simulate::run::{broken, run, small, told, Stop};
+use simulate::run::{broken, run, small, told, Plan, Stop};
 use simulate::tally::{grouped, Tally};
 
 /// The fixed seed, and the fewest steps, in which everything comes.
@@ -37,7 +37,9 @@ fn main() -> ExitCode {
 }
 
 fn usage() -> ExitCode {
-    eprintln!("usage: simulate test | soak STEPS | seed SEED STEPS | broken RULE SEED | --picture SEED");
+    eprintln!(
+        "usage: simulate test | soak STEPS | seed SEED STEPS | broken RULE SEED | --picture SEED"
+    );
     for rule in Rule::ALL {
         eprintln!("  RULE {rule:?}: {}", rule.words());
     }
@@ -55,7 +57,13 @@ fn simulated(seed: u64, steps: u64) -> ExitCode {
     println!("simulate: seed {seed}, {} steps", grouped(steps));
     let mut tally = Tally::default();
     let started = Instant::now();
-    if let Err(stop) = run(&mut Proved, &mut tally, seed, steps, true) {
+    let plan = Plan {
+        seed,
+        steps,
+        first: 0,
+        progress: true,
+    };
+    if let Err(stop) = run(&mut Proved, &mut tally, plan) {
         println!("simulate: seed {seed}, a breach");
         stopped(&stop);
         return ExitCode::FAILURE;
@@ -84,17 +92,23 @@ fn simulated(seed: u64, steps: u64) -> ExitCode {
 /// nothing else did.
 fn rules(seed: u64) -> bool {
     println!("one rule broken: towns, premise broken, session broken");
-    Rule::ALL.iter().all(|rule| match broken(&mut Proved, seed, *rule) {
-        Ok(told) => {
-            let (towns, premise, isolation) = (told.towns, told.premise, told.isolation);
-            println!("{towns:>8} {premise:>6} {isolation:>6}  {}", rule.words());
-            premise > 0
-        }
-        Err(breach) => {
-            println!("simulate: {rule:?}: {}: {}", breach.check.words(), breach.told);
-            false
-        }
-    })
+    Rule::ALL
+        .iter()
+        .all(|rule| match broken(&mut Proved, seed, *rule) {
+            Ok(told) => {
+                let (towns, premise, isolation) = (told.towns, told.premise, told.isolation);
+                println!("{towns:>8} {premise:>6} {isolation:>6}  {}", rule.words());
+                premise > 0
+            }
+            Err(breach) => {
+                println!(
+                    "simulate: {rule:?}: {}: {}",
+                    breach.check.words(),
+                    breach.told
+                );
+                false
+            }
+        })
 }
 
 /// Where a run stopped, and the last steps.
@@ -111,7 +125,10 @@ fn tell(asked: Option<(Rule, u64)>) -> ExitCode {
     let Some((rule, seed)) = asked else {
         return usage();
     };
-    println!("simulate: seed {seed}, with one rule broken: {}", rule.words());
+    println!(
+        "simulate: seed {seed}, with one rule broken: {}",
+        rule.words()
+    );
     match told(&mut Proved, seed, rule) {
         Some(stop) => {
             stopped(&stop);

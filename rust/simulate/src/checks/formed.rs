@@ -32,10 +32,7 @@ pub fn own(mode: u8, pair: Pair) -> u64 {
 
 /// What may be sent in a mode (rule 1.4).
 pub fn sendable(mode: u8, pair: Pair) -> bool {
-    (mode == SHARED || mode == EXCLUSIVE)
-        && valid(pair.s)
-        && valid(pair.x)
-        && own(mode, pair) != 0
+    (mode == SHARED || mode == EXCLUSIVE) && valid(pair.s) && valid(pair.x) && own(mode, pair) != 0
 }
 
 /// Whether a pair is below another one, as its mode sees it (rules 4.2, 7.7).

@@ -19,7 +19,10 @@ pub const BODIES: usize = 2_201;
 
 /// A number of these bytes, the lowest first.
 fn little(bytes: &[u8]) -> u32 {
-    bytes.iter().rev().fold(0, |sum, byte| sum << 8 | u32::from(*byte))
+    bytes
+        .iter()
+        .rev()
+        .fold(0, |sum, byte| sum << 8 | u32::from(*byte))
 }
 
 /// The order of transactions so far (rule 11.5).
@@ -43,10 +46,12 @@ impl Order {
                 let laid_out = body.len() >= 3 && (1..=2).contains(&body[2]);
                 (laid_out && self.open).then_some(self)
             }
-            COMMIT => number().filter(|named| self.open && *named == self.highest).map(|_| Order {
-                open: false,
-                ..self
-            }),
+            COMMIT => number()
+                .filter(|named| self.open && *named == self.highest)
+                .map(|_| Order {
+                    open: false,
+                    ..self
+                }),
             SYNCED => (body.len() == 6).then_some(self),
             _ => None,
         }
@@ -91,7 +96,8 @@ pub fn read(log: &[u8]) -> Option<Read<'_>> {
 
 /// The sum of a body's bytes, modulo 2^32.
 fn sum(body: &[u8]) -> u32 {
-    body.iter().fold(0u32, |sum, byte| sum.wrapping_add((*byte).into()))
+    body.iter()
+        .fold(0u32, |sum, byte| sum.wrapping_add((*byte).into()))
 }
 
 /// An update that a log holds.
@@ -175,7 +181,8 @@ pub fn appended(log: &[u8], kind: u8, body: &[u8], stores: u64) -> (u8, Vec<u8>)
     let line_at = (1 + 11 * read.records.len()..).zip(line);
     let all = body_at.chain(line_at).chain([(0, log[0] + 1)]);
     let whole = body.len() as u64 + 12;
-    all.take(stores.min(whole) as usize).for_each(|(at, byte)| after[at] = byte);
+    all.take(stores.min(whole) as usize)
+        .for_each(|(at, byte)| after[at] = byte);
     (if stores < whole { 26 } else { 0 }, after)
 }
 

@@ -84,7 +84,10 @@ fn texts(
             let expected = last.map_or(&text[..], |update| &update.text);
             let found = text_in(image, before.len(), store.room, card, side);
             made.hold(Check::Recovered, found == expected, || {
-                format!("card {card}, side {}: {found:?}, and {expected:?} was committed", side + 1)
+                format!(
+                    "card {card}, side {}: {found:?}, and {expected:?} was committed",
+                    side + 1
+                )
             })?;
         }
     }

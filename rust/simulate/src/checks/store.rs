@@ -50,7 +50,9 @@ impl Card {
 
     /// The number of a command for this card (rule 4.1).
     fn number(&self, sent: &Sent, room: usize, lent: usize) -> u8 {
-        let read = sent.reads().map_or(0, |language| self.texts[language].len());
+        let read = sent
+            .reads()
+            .map_or(0, |language| self.texts[language].len());
         let rows = [
             (3, self.late(sent)),
             (17, self.far(sent)),
@@ -61,7 +63,9 @@ impl Card {
             (7, sent.act == 3 && self.edition == u16::MAX),
             (8, read > lent),
         ];
-        rows.iter().find(|(_, applies)| *applies).map_or(0, |row| row.0)
+        rows.iter()
+            .find(|(_, applies)| *applies)
+            .map_or(0, |row| row.0)
     }
 
     /// What an accepted command leaves (rules 4.4 and 4.5).
@@ -240,7 +244,10 @@ impl Store {
         self.cards[at].accept(sent);
         self.store(at, sent.writes());
         let card = &self.cards[at];
-        card.fields(sent.reads().map_or(0, |language| card.texts[language].len()))
+        card.fields(
+            sent.reads()
+                .map_or(0, |language| card.texts[language].len()),
+        )
     }
 
     /// A write that recovery sends, judged and taken in as a request with an

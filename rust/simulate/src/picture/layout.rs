@@ -26,6 +26,28 @@ pub struct Lane {
     pub log: Option<usize>,
 }
 
+impl Lane {
+    /// The lane that begins at a height, which then stands below it.
+    fn new(y: &mut usize, row: usize, cards: &BTreeSet<u16>, has_log: bool) -> Lane {
+        let mut lane = Lane {
+            top: *y,
+            ..Lane::default()
+        };
+        let only = BTreeSet::from([0]);
+        for card in if cards.is_empty() { &only } else { cards } {
+            lane.rows.insert(*card, *y + row - 22);
+            *y += row;
+        }
+        if has_log {
+            lane.log = Some(*y + LOG / 2);
+            *y += LOG;
+        }
+        lane.bottom = *y;
+        *y += GAP;
+        lane
+    }
+}
+
 /// Where everything stands.
 #[derive(Clone, Debug, Default)]
 pub struct Layout {
@@ -76,23 +98,37 @@ fn exists(scene: &Scene) -> bool {
     }
 }
 
-impl Layout {
-    /// The lanes that these scenes need.
-    pub fn new(scenes: &[&Scene]) -> Layout {
-        let mut rows: BTreeMap<u16, BTreeSet<u16>> = BTreeMap::new();
-        let mut logs = BTreeSet::new();
-        let mut strips = BTreeSet::new();
+/// What needs a lane: the cards of each desk, the desks with a log, and the
+/// cards in the store.
+#[derive(Default)]
+struct Needed {
+    rows: BTreeMap<u16, BTreeSet<u16>>,
+    logs: BTreeSet<u16>,
+    strips: BTreeSet<u16>,
+}
+
+impl Needed {
+    fn new(scenes: &[&Scene]) -> Needed {
+        let mut needed = Needed::default();
         for scene in scenes {
             let card = card_of(scene);
-            strips.extend(card.filter(|_| exists(scene)));
+            needed.strips.extend(card.filter(|_| exists(scene)));
             let Some(desk) = desk_of(scene) else {
                 continue;
             };
-            rows.entry(desk).or_default().extend(card);
+            needed.rows.entry(desk).or_default().extend(card);
             if matches!(scene, Scene::Logged { .. }) {
-                logs.insert(desk);
+                needed.logs.insert(desk);
             }
         }
+        needed
+    }
+}
+
+impl Layout {
+    /// The lanes that these scenes need.
+    pub fn new(scenes: &[&Scene]) -> Layout {
+        let needed = Needed::new(scenes);
         let words = scenes.len() <= BAND;
         let (column, row) = if words { (46, 62) } else { (34, 42) };
         let mut layout = Layout {
@@ -101,25 +137,12 @@ impl Layout {
             ..Layout::default()
         };
         let mut y = 4;
-        for (desk, cards) in rows {
-            let mut lane = Lane {
-                top: y,
-                ..Lane::default()
-            };
-            let cards = if cards.is_empty() { BTreeSet::from([0]) } else { cards };
-            for card in cards {
-                lane.rows.insert(card, y + row - 22);
-                y += row;
-            }
-            if logs.contains(&desk) {
-                lane.log = Some(y + LOG / 2);
-                y += LOG;
-            }
-            lane.bottom = y;
-            y += GAP;
+        for (desk, cards) in needed.rows {
+            let has_log = needed.logs.contains(&desk);
+            let lane = Lane::new(&mut y, row, &cards, has_log);
             layout.desks.insert(desk, lane);
         }
-        for card in strips {
+        for card in needed.strips {
             layout.strips.insert(card, y + STRIP / 2);
             y += STRIP;
         }
@@ -173,7 +196,11 @@ impl Layout {
                 svg.stroke((0, *y), (wide, *y), "stroke=\"#c3c8d0\"");
             }
             if let Some(y) = lane.log {
-                svg.stroke((0, y), (wide, y), "stroke=\"#c3c8d0\" stroke-dasharray=\"2 3\"");
+                svg.stroke(
+                    (0, y),
+                    (wide, y),
+                    "stroke=\"#c3c8d0\" stroke-dasharray=\"2 3\"",
+                );
             }
         }
     }
@@ -185,7 +212,11 @@ impl Layout {
                 0 => "malformed".into(),
                 desk => format!("desk {desk}"),
             };
-            svg.text((12, top + self.y(*desk, None) + 4), "font-weight=\"bold\"", &name);
+            svg.text(
+                (12, top + self.y(*desk, None) + 4),
+                "font-weight=\"bold\"",
+                &name,
+            );
             let small = "font-size=\"10\" fill=\"#555\" text-anchor=\"end\"";
             for (card, y) in &lane.rows {
                 if *desk != 0 {

@@ -117,11 +117,18 @@ fn strip(svg: &mut Svg, (from, to): (usize, usize), y: usize, (edition, of): (u6
     let (style, words) = match edition {
         0 => ("fill=\"none\" stroke=\"#9aa1ab\"", String::new()),
         _ if of == edition => ("fill=\"#bfe5c8\" stroke=\"#2f7d4f\"", format!("{edition}")),
-        _ => ("fill=\"url(#behind)\" stroke=\"#c98a00\"", format!("{edition}")),
+        _ => (
+            "fill=\"url(#behind)\" stroke=\"#c98a00\"",
+            format!("{edition}"),
+        ),
     };
     svg.rect((from, y - 10), (wide, 20), style);
     if !words.is_empty() && wide > 16 {
-        svg.rect((from + 2, y - 8), (6 + 7 * words.len(), 16), "fill=\"#fff\"");
+        svg.rect(
+            (from + 2, y - 8),
+            (6 + 7 * words.len(), 16),
+            "fill=\"#fff\"",
+        );
         svg.text((from + 5, y + 4), "font-weight=\"bold\"", &words);
     }
 }
@@ -214,9 +221,16 @@ fn logged(svg: &mut Svg, (x, y): (usize, usize), record: &str, number: u8, cut: 
         0 => ("#3b4252", "#fff"),
         _ => ("#fff", REFUSED),
     };
-    let style = format!("fill=\"{fill}\" stroke=\"{}\"", if number == 0 { fill } else { ink });
+    let style = format!(
+        "fill=\"{fill}\" stroke=\"{}\"",
+        if number == 0 { fill } else { ink }
+    );
     svg.rect((x - 8, y - 8), (16, 16), &style);
-    svg.text((x, y + 4), &format!("{MIDDLE} font-size=\"10\" fill=\"{ink}\""), &first);
+    svg.text(
+        (x, y + 4),
+        &format!("{MIDDLE} font-size=\"10\" fill=\"{ink}\""),
+        &first,
+    );
     let style = format!("stroke=\"{REFUSED}\" stroke-width=\"2\"");
     let words = match cut {
         Some(stores) => {
@@ -226,7 +240,11 @@ fn logged(svg: &mut Svg, (x, y): (usize, usize), record: &str, number: u8, cut: 
         None if number != 0 => number.to_string(),
         None => return,
     };
-    svg.text((x + 11, y + 4), &format!("font-size=\"9\" fill=\"{REFUSED}\""), &words);
+    svg.text(
+        (x + 11, y + 4),
+        &format!("font-size=\"9\" fill=\"{REFUSED}\""),
+        &words,
+    );
 }
 
 /// The power is cut: a flash through the lane.
@@ -249,7 +267,11 @@ fn flash(svg: &mut Svg, (x, top): (usize, usize), high: usize) {
 fn done(svg: &mut Svg, (x, y): (usize, usize), number: u8) {
     let ink = if number == 0 { "#5b21b6" } else { REFUSED };
     let style = format!("{MIDDLE} font-size=\"13\" font-weight=\"bold\" fill=\"{ink}\"");
-    let words = if number == 0 { "\u{2713}".into() } else { number.to_string() };
+    let words = if number == 0 {
+        "\u{2713}".into()
+    } else {
+        number.to_string()
+    };
     svg.text((x, y + 4), &style, &words);
 }
 

@@ -91,7 +91,9 @@ fn framed(title: &str, layout: &Layout, all: &Svg, columns: usize) -> String {
          viewBox=\"0 0 {width} {height}\" font-family=\"Helvetica, Arial, 'DejaVu Sans', sans-serif\" font-size=\"11\">"
     ));
     out.line(marks::PATTERNS);
-    out.line(&format!("<rect width=\"{width}\" height=\"{height}\" fill=\"#fff\"/>"));
+    out.line(&format!(
+        "<rect width=\"{width}\" height=\"{height}\" fill=\"#fff\"/>"
+    ));
     out.text((12, 21), "font-size=\"14\" font-weight=\"bold\"", title);
     out.line("<defs><g id=\"all\">");
     out.line(&all.0);

@@ -35,7 +35,9 @@ impl Svg {
     /// A line from one point to another.
     pub fn stroke(&mut self, from: (usize, usize), to: (usize, usize), style: &str) {
         let ((a, b), (c, d)) = (from, to);
-        self.line(&format!("<line x1=\"{a}\" y1=\"{b}\" x2=\"{c}\" y2=\"{d}\" {style}/>"));
+        self.line(&format!(
+            "<line x1=\"{a}\" y1=\"{b}\" x2=\"{c}\" y2=\"{d}\" {style}/>"
+        ));
     }
 
     /// A path.

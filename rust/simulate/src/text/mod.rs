@@ -76,8 +76,12 @@ impl List {
         let (image, mut rest) = input.split_at_checked(16 + 32 * cards + 2 * cards * room)?;
         let mut lines = Vec::new();
         while !rest.is_empty() {
-            let length = rest.get(50..52).map(|at| usize::from(at[0]) + 256 * usize::from(at[1]));
-            let whole = length.map(|length| 52 + length).filter(|whole| *whole <= rest.len());
+            let length = rest
+                .get(50..52)
+                .map(|at| usize::from(at[0]) + 256 * usize::from(at[1]));
+            let whole = length
+                .map(|length| 52 + length)
+                .filter(|whole| *whole <= rest.len());
             let (first, more) = rest.split_at(whole.unwrap_or(rest.len()));
             let line = match whole {
                 Some(_) => Line::Command(first.to_vec()),

@@ -91,10 +91,12 @@ impl Tokens {
 
     /// These words come next.
     pub fn words(&mut self, words: &str) -> Got<()> {
-        words.split(' ').try_for_each(|word| match self.takes(word) {
-            true => Ok(()),
-            false => self.wrong(format!("`{word}` is missing")),
-        })
+        words
+            .split(' ')
+            .try_for_each(|word| match self.takes(word) {
+                true => Ok(()),
+                false => self.wrong(format!("`{word}` is missing")),
+            })
     }
 
     fn sign(&mut self, sign: char) -> Got<()> {

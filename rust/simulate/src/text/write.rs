@@ -11,7 +11,12 @@ use crate::checks::store::Store;
 pub fn stamp_words(stamp: u64) -> String {
     match stamp {
         0 => "none".into(),
-        _ => format!("{}.{}.{}", stamp >> 32, stamp >> 16 & 65_535, stamp & 65_535),
+        _ => format!(
+            "{}.{}.{}",
+            stamp >> 32,
+            stamp >> 16 & 65_535,
+            stamp & 65_535
+        ),
     }
 }
 
@@ -67,7 +72,11 @@ pub fn command_words(bytes: &[u8]) -> String {
         return format!("bytes {}", bytes_words(bytes)).trim_end().into();
     };
     let (mode, act) = (mode_words(fields.mode), act_words(fields.act));
-    let mut words = format!("{mode} {act} of card {} by {}", fields.card, pair_words(fields.pair));
+    let mut words = format!(
+        "{mode} {act} of card {} by {}",
+        fields.card,
+        pair_words(fields.pair)
+    );
     if fields.update != Pair::default() {
         words += &format!(" update {}", pair_words(fields.update));
     }
@@ -99,7 +108,11 @@ pub fn record_words(kind: u8, body: &[u8]) -> String {
             format!("synced card {card} transaction {transaction}")
         }
         (2, 3..) => {
-            let language = if body[2] == 1 { "original" } else { "translation" };
+            let language = if body[2] == 1 {
+                "original"
+            } else {
+                "translation"
+            };
             let text = payload_words(&body[3..]);
             format!("update {language} of card {}{text}", number(&body[..2]))
         }
@@ -116,7 +129,9 @@ fn line_words(line: &Line) -> String {
             body,
             cut,
         } => {
-            let cut = cut.map(|stores| format!(" cut after {stores}")).unwrap_or_default();
+            let cut = cut
+                .map(|stores| format!(" cut after {stores}"))
+                .unwrap_or_default();
             format!("{who} logs {}{cut}", record_words(*kind, body))
         }
         Line::Down(who) => format!("{who} goes down"),
@@ -133,7 +148,11 @@ fn line_words(line: &Line) -> String {
 
 /// The text of a list.
 pub fn write(list: &List) -> String {
-    let number = |at: usize| list.image.get(at..at + 2).map_or(0, |at| usize::from(at[0]) + 256 * usize::from(at[1]));
+    let number = |at: usize| {
+        list.image
+            .get(at..at + 2)
+            .map_or(0, |at| usize::from(at[0]) + 256 * usize::from(at[1]))
+    };
     let (cards, room) = (number(6), number(8));
     let mut text = String::new();
     if Store::new(cards, room, true).image == list.image {

@@ -180,7 +180,11 @@ impl<L: Library> Town<'_, L> {
         };
         let denied = self.desks[at].at[card].denied.take();
         let mode = if self.one_in(40) { 3 } else { mode };
-        self.send(at, card, Body::Ask(mode, pair, denied.filter(|_| mode != 3)));
+        self.send(
+            at,
+            card,
+            Body::Ask(mode, pair, denied.filter(|_| mode != 3)),
+        );
         Ok(())
     }
 
@@ -216,8 +220,8 @@ impl<L: Library> Town<'_, L> {
         self.command_under(at, card, (mode, pair, pair), None)
     }
 
-    /// A command of some act under a pair; a verifier equal to the update pair
-    /// is mostly not said twice.
+    /// A command under a pair is sent: the write of an update, or one of some
+    /// act.
     pub(super) fn command_under(
         &mut self,
         at: usize,
@@ -226,36 +230,15 @@ impl<L: Library> Town<'_, L> {
         write: Option<&Update>,
     ) -> Checked {
         self.tally.step(Step::Send);
-        let desk = &self.desks[at];
-        let (have, who) = (&desk.at[card], desk.who);
-        let act = match mode {
-            1 => self.random.pick(&[1, 2, 2, 5]),
-            _ => self.random.pick(&[1, 2, 3, 3, 4, 4, 5]),
-        };
-        let act = write.map_or(act, |write| 2 + write.side);
-        let (mark, edition) = (have.mark, have.held.edition);
-        let next = match write {
-            Some(write) => Mark::new(who.desk, write.transaction),
-            None => mark,
-        };
-        let mut fields = CommandFields {
-            act,
-            mode,
-            card: card as u16,
-            pair: verifier,
-            update,
-            expected: mark,
-            next,
-            edition: if act == 4 { edition } else { 0 },
-            ..CommandFields::default()
-        };
+        let mut fields = self.command_fields(at, card, mode, write);
+        (fields.pair, fields.update) = (verifier, update);
         if verifier == update && !self.one_in(4) {
             fields.update = Pair::default();
         }
         self.wrong_command(&mut fields, update);
         let payload = match write {
             Some(write) => write.text.clone(),
-            None if act == 3 || act == 4 => self.some_text(),
+            None if fields.act == 3 || fields.act == 4 => self.some_text(),
             None => Vec::new(),
         };
         let lent = if self.one_in(8) { 2 } else { self.shape.room };
@@ -265,6 +248,33 @@ impl<L: Library> Town<'_, L> {
         let card = usize::from(fields.card).min(self.shape.cards - 1);
         self.send(at, card, Body::Command(bytes, lent, line));
         Ok(())
+    }
+
+    /// The numbers of a command but for its pairs, as far as the desk knows.
+    fn command_fields(
+        &mut self,
+        at: usize,
+        card: usize,
+        mode: u8,
+        write: Option<&Update>,
+    ) -> CommandFields {
+        let act = match mode {
+            1 => self.random.pick(&[1, 2, 2, 5]),
+            _ => self.random.pick(&[1, 2, 3, 3, 4, 4, 5]),
+        };
+        let act = write.map_or(act, |write| 2 + write.side);
+        let desk = &self.desks[at];
+        let (have, who) = (&desk.at[card], desk.who);
+        let next = |write: &Update| Mark::new(who.desk, write.transaction);
+        CommandFields {
+            act,
+            mode,
+            card: card as u16,
+            expected: have.mark,
+            next: write.map_or(have.mark, next),
+            edition: if act == 4 { have.held.edition } else { 0 },
+            ..CommandFields::default()
+        }
     }
 
     /// A command as a desk sends it that breaks a rule.
@@ -320,7 +330,11 @@ impl<L: Library> Town<'_, L> {
     /// there, now and then another one.
     pub(super) fn hears(&mut self, desk: usize, who: Who, card: usize, told: Body) -> Checked {
         let elsewhere = self.one_in(12);
-        let at = if elsewhere { self.random.index(self.desks.len()) } else { desk };
+        let at = if elsewhere {
+            self.random.index(self.desks.len())
+        } else {
+            desk
+        };
         let meant = at == desk && self.desks[at].who == who;
         if !self.desks[at].is_up() || !meant && !elsewhere {
             return Ok(());

@@ -1,6 +1,8 @@
 //! Desks and their logs: transactions, power cuts inside an append, recovery
 //! and power cuts inside recovery.
 
+use std::collections::BTreeSet;
+
 use second::{CommandFields, Pair};
 
 use super::Town;
@@ -97,7 +99,11 @@ impl<L: Library> Town<'_, L> {
         let next = self.desks[at].transaction + 1;
         if self.one_in(60) {
             let open = self.desks[at].open;
-            let (kind, number) = if open.is_none() { (COMMIT, next) } else { (BEGIN, 0) };
+            let (kind, number) = if open.is_none() {
+                (COMMIT, next)
+            } else {
+                (BEGIN, 0)
+            };
             return self.append(at, kind, &number.to_le_bytes()).map(|_| ());
         }
         let open = self.desks[at].open;
@@ -126,7 +132,11 @@ impl<L: Library> Town<'_, L> {
     }
 
     fn update(&mut self, at: usize, card: usize, updates: usize) -> Checked {
-        let card = if self.one_in(30) { self.shape.cards } else { card };
+        let card = if self.one_in(30) {
+            self.shape.cards
+        } else {
+            card
+        };
         let side = self.random.pick(&[1u8, 1, 2]);
         let mut body = (card as u16).to_le_bytes().to_vec();
         body.push(side);
@@ -208,16 +218,17 @@ impl<L: Library> Town<'_, L> {
         }
     }
 
-    /// New exclusive pairs for the cards of which something is due.
+    /// New exclusive pairs for the cards of which something is due; now and
+    /// then there are none.
     fn pairs(&mut self, at: usize) -> Checked<[Vec<u64>; 2]> {
         let cards = self.shape.cards + 1;
         let mut pairs = [vec![0; cards], vec![0; cards]];
-        let without = self.one_in(40);
-        for card in 0..cards {
-            let due = &self.desks[at].due;
-            if without || due.iter().all(|due| usize::from(due.card) != card) {
-                continue;
-            }
+        if self.one_in(40) {
+            return Ok(pairs);
+        }
+        let due = self.desks[at].due.iter().map(|due| usize::from(due.card));
+        let due: BTreeSet<usize> = due.collect();
+        for card in due {
             if let Some(Pair { s, x }) = self.propose(at, card, 2)? {
                 (pairs[0][card], pairs[1][card]) = (s, x);
             }
@@ -263,12 +274,7 @@ impl<L: Library> Town<'_, L> {
                 }));
             }
         };
-        let checked = recovery::checked(
-            &mut self.tally.made,
-            &mut self.store,
-            recovery,
-            &mut told,
-        );
+        let checked = recovery::checked(&mut self.tally.made, &mut self.store, recovery, &mut told);
         let who = self.desks[at].who;
         if let Some(scenes) = &mut self.scenes {
             scenes.extend(writes);
@@ -285,7 +291,11 @@ impl<L: Library> Town<'_, L> {
         self.tally.fault_if(after_cut, Fault::RecoveredAfterCut);
         if self.one_in(4) {
             let texts = |town: &Self| -> Vec<_> {
-                town.store.cards.iter().map(|card| card.texts.clone()).collect()
+                town.store
+                    .cards
+                    .iter()
+                    .map(|card| card.texts.clone())
+                    .collect()
             };
             let before = texts(self);
             let (number, _) = self.recover_whole(at, pairs)?;

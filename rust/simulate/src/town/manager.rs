@@ -66,9 +66,7 @@ impl<L: Library> Town<'_, L> {
         let (operation, answer) = match turn {
             Turn::Ask(mode, pair) => (Operation::Ask, self.library.ask(queue, mode, pair)),
             Turn::Leave(desk) => (Operation::Leave, self.library.leave(queue, desk)),
-            Turn::Lapse(desk, lease) => {
-                (Operation::Lapse, self.library.lapse(queue, desk, lease))
-            }
+            Turn::Lapse(desk, lease) => (Operation::Lapse, self.library.lapse(queue, desk, lease)),
         };
         self.tally.number(operation, answer.number);
         self.tell(|| told(card as u16, turn, &answer));
@@ -163,7 +161,11 @@ impl<L: Library> Town<'_, L> {
     /// A desk that is held failed is taken out, once its lease is over.
     fn lapse(&mut self, card: usize, desk: u32, begin: f64) -> Checked {
         let odd = [f64::NAN, -1.0, f64::INFINITY, 86_401.0];
-        let period = if self.one_in(12) { self.random.pick(&odd) } else { 30.0 };
+        let period = if self.one_in(12) {
+            self.random.pick(&odd)
+        } else {
+            30.0
+        };
         let drift = self.random.pick(&[0.0, 0.1, 0.5]);
         let back = if self.one_in(12) { 40.0 } else { 0.0 };
         let now = (self.clock - back).max(0.0);

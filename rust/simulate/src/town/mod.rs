@@ -123,7 +123,9 @@ impl<'a, L: Library> Town<'a, L> {
         let mut image = vec![0xee; store.image.len()];
         let number = library.make(&mut image, shape.cards as u64, shape.room as u64);
         tally.number(Operation::Make, number);
-        tally.made.same(Check::Made, (number, &image), (0, &store.image))?;
+        tally
+            .made
+            .same(Check::Made, (number, &image), (0, &store.image))?;
         let mut town = Town {
             library,
             tally,
@@ -132,7 +134,9 @@ impl<'a, L: Library> Town<'a, L> {
             rule,
             image,
             store,
-            keepers: (0..shape.cards).map(|_| Keeper::new(shape.places)).collect(),
+            keepers: (0..shape.cards)
+                .map(|_| Keeper::new(shape.places))
+                .collect(),
             stamps: vec![Stamps::default(); shape.cards + 1],
             desks: Vec::new(),
             post: Vec::new(),
@@ -286,7 +290,11 @@ impl<'a, L: Library> Town<'a, L> {
         let mut known = self.desks[at].known[card];
         let mut pair = [0x5a5a, 0xa5a5];
         let number = 0;
-        let before = Proposal { number, known, pair };
+        let before = Proposal {
+            number,
+            known,
+            pair,
+        };
         let number = self
             .library
             .propose((who.desk, who.start), &mut known, mode, &mut pair);
@@ -298,7 +306,11 @@ impl<'a, L: Library> Town<'a, L> {
             pair: Pair::new(pair[0], pair[1]),
             number,
         });
-        let after = Proposal { number, known, pair };
+        let after = Proposal {
+            number,
+            known,
+            pair,
+        };
         let made = &mut self.tally.made;
         proposed(made, (who.desk, who.start), mode, before, after)?;
         if number != 0 {
@@ -371,11 +383,12 @@ impl<'a, L: Library> Town<'a, L> {
             time << 32 | own
         };
         let known = &mut self.desks[at].known[card];
-        *known = [
-            known[0].max(jump(largest.s)),
-            known[1].max(jump(largest.x)),
-        ];
-        let fault = if edge { Fault::FarEdge } else { Fault::FarClock };
+        *known = [known[0].max(jump(largest.s)), known[1].max(jump(largest.x))];
+        let fault = if edge {
+            Fault::FarEdge
+        } else {
+            Fault::FarClock
+        };
         self.tally.fault(fault);
         let who = self.desks[at].who;
         self.tell(|| Scene::Said(format!("the clock of {who} jumps by {ahead}")));

@@ -58,7 +58,9 @@ impl<L: Library> Town<'_, L> {
         let (number, fields) = (9, [0; 7]);
         made.same(Check::Number, answer, Answer { number, fields })?;
         let same = image == damaged && reply == [0xa5; 16];
-        made.hold(Check::RefusedStore, same, || "9, and bytes are changed".into())?;
+        made.hold(Check::RefusedStore, same, || {
+            "9, and bytes are changed".into()
+        })?;
         let desk = self.random.index(self.desks.len());
         let desk = &self.desks[desk];
         let line = read(&desk.log).and_then(|read| {
@@ -94,9 +96,10 @@ impl<L: Library> Town<'_, L> {
             let (operation, answer) = match turn {
                 Turn::Ask(mode, pair) => (Operation::Ask, self.library.ask(&mut queue, mode, pair)),
                 Turn::Leave(desk) => (Operation::Leave, self.library.leave(&mut queue, desk)),
-                Turn::Lapse(desk, lease) => {
-                    (Operation::Lapse, self.library.lapse(&mut queue, desk, lease))
-                }
+                Turn::Lapse(desk, lease) => (
+                    Operation::Lapse,
+                    self.library.lapse(&mut queue, desk, lease),
+                ),
             };
             self.tally.number(operation, answer.number);
             turned(&mut self.tally.made, &before, turn, &answer, &queue)?;
@@ -135,7 +138,9 @@ impl<L: Library> Town<'_, L> {
         let made = &mut self.tally.made;
         made.same(Check::RecoveryNumber, recovered, (23, 0))?;
         let same = self.image == self.store.image;
-        made.hold(Check::RefusedRecovery, same, || "23, and bytes are changed".into())
+        made.hold(Check::RefusedRecovery, same, || {
+            "23, and bytes are changed".into()
+        })
     }
 
     /// Proposals of desk 0, in no mode, and of a desk that has no stamp left.
