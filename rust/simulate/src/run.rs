@@ -118,6 +118,7 @@ fn broken_town(seed: u64, rule: Rule, number: u64) -> (u64, Shape) {
         steps: 400,
         desks: random.pick(&[2, 3, 4]),
         cards: random.pick(&[1, 2]),
+        polite: false,
         ..Shape::any(&mut random)
     };
     (seed, shape)

@@ -185,7 +185,7 @@ const ALL: &[(Mutant, &str, Check)] = &[
     (
         SyncedIgnored,
         "recovery writes updates that are synced",
-        Check::Recovered,
+        Check::Image,
     ),
     (
         RecoveryHidesRefusal,

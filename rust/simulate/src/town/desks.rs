@@ -31,6 +31,11 @@ pub struct AtCard {
     pub open: [Option<Pair>; 2],
     /// The mark that it heard of last.
     pub mark: Mark,
+    /// Whether it stands in the queue, and whether it holds the lock, as far as
+    /// it knows.
+    pub stands: bool,
+    /// See [`AtCard::stands`].
+    pub holds: bool,
     /// What it holds of the card's texts.
     pub held: Held,
     /// How many entries the queue had accepted when it was last denied.
@@ -103,7 +108,10 @@ impl<L: Library> Town<'_, L> {
                 if self.one_in(12) {
                     self.desks[at].state = State::Up;
                 }
-                self.speak_late(at, card)
+                match self.one_in(4) {
+                    true => self.speak_late(at, card),
+                    false => Ok(()),
+                }
             }
             State::Up if self.one_in(80) => self.crash(at),
             State::Up if self.one_in(80) => {
@@ -122,17 +130,22 @@ impl<L: Library> Town<'_, L> {
     }
 
     fn work(&mut self, at: usize, card: usize) -> Checked {
+        let waits = self.waits(at, card);
         match self.random.below(20) {
-            0..=3 => self.ask(at, card),
-            4..=5 => self.open_inside(at, card),
-            6..=11 => self.command(at, card),
-            12 => {
-                self.send(at, card, Body::Leave);
-                Ok(())
-            }
-            13..=18 => self.log_work(at, card),
+            0..=1 => self.ask(at, card),
+            2..=3 if !waits => self.open_inside(at, card),
+            4..=12 if waits => self.ask(at, card),
+            4..=12 => self.command(at, card),
+            13 => self.leave(at, card),
+            14..=18 => self.log_work(at, card),
             _ => self.show(at, card),
         }
+    }
+
+    /// Whether a desk waits for the lock before it sends anything.
+    pub(super) fn waits(&mut self, at: usize, card: usize) -> bool {
+        let holds = self.desks[at].at[card].holds;
+        self.shape.polite && !holds && !self.one_in(20)
     }
 
     /// A desk goes down, and forgets all but its log.
@@ -172,9 +185,25 @@ impl<L: Library> Town<'_, L> {
         self.after_start(at)
     }
 
-    /// A desk proposes, and asks in the queue.
-    fn ask(&mut self, at: usize, card: usize) -> Checked {
+    /// A desk leaves a queue, whether it stands there or not, and has done with
+    /// its sessions.
+    fn leave(&mut self, at: usize, card: usize) -> Checked {
+        let have = &mut self.desks[at].at[card];
+        (have.stands, have.holds, have.open) = (false, false, [None; 2]);
+        self.send(at, card, Body::Leave);
+        Ok(())
+    }
+
+    /// A desk proposes, and asks in the queue; or, where it stands and does not
+    /// hold the lock, it asks again under its pair, to hear whether it does.
+    pub(super) fn ask(&mut self, at: usize, card: usize) -> Checked {
         let mode = self.random.pick(&[1, 1, 2]);
+        let have = &self.desks[at].at[card];
+        let standing = have.open[usize::from(mode) - 1].filter(|_| have.stands && !have.holds);
+        if let Some(pair) = standing {
+            self.send(at, card, Body::Ask(mode, pair, None));
+            return Ok(());
+        }
         let Some(pair) = self.propose(at, card, mode)? else {
             return Ok(());
         };
@@ -208,7 +237,7 @@ impl<L: Library> Town<'_, L> {
         self.command(at, card)
     }
 
-    /// A desk sends a command under a pair that it has for the card.
+    /// A desk sends a command or more under a pair that it has for the card.
     fn command(&mut self, at: usize, card: usize) -> Checked {
         let mode = match self.desks[at].at[card].open {
             [None, None] => return self.ask(at, card),
@@ -217,7 +246,8 @@ impl<L: Library> Town<'_, L> {
             _ => self.random.pick(&[1, 2]),
         };
         let pair = self.desks[at].at[card].open[usize::from(mode) - 1].unwrap_or_default();
-        self.command_under(at, card, (mode, pair, pair), None)
+        let more = self.random.between(1, 3);
+        (0..more).try_for_each(|_| self.command_under(at, card, (mode, pair, pair), None))
     }
 
     /// A command under a pair is sent: the write of an update, or one of some
@@ -341,16 +371,17 @@ impl<L: Library> Town<'_, L> {
         }
         self.tally.fault_if(!meant, Fault::Elsewhere);
         let pair = match &told {
-            Body::Stands(_, _, pair, _) => *pair,
+            Body::Stands(_, _, _, pair, _) => *pair,
             Body::Told(_, _, answer, _) => Pair::new(answer.fields[0], answer.fields[1]),
             _ => Pair::default(),
         };
         self.learn(at, card, pair)?;
         match told {
             _ if !meant => {}
-            Body::Stands(mode, number, _, accepted) => {
+            Body::Stands(mode, number, holds, _, accepted) => {
                 let have = &mut self.desks[at].at[card];
                 have.denied = (number == 11).then_some(accepted);
+                (have.stands, have.holds) = (matches!(number, 0 | 12) && mode != 0, holds);
                 if let (11, 1 | 2) = (number, mode) {
                     have.open[usize::from(mode) - 1] = None;
                 }
@@ -382,7 +413,7 @@ impl<L: Library> Town<'_, L> {
         have.mark = Mark::new(mark as u16, transaction as u32);
         (have.held.edition, have.held.from) = (edition as u16, from as u16);
         if answer.number == 3 {
-            have.open = [None; 2];
+            (have.open, have.holds) = ([None; 2], false);
         }
         if answer.number == 0 && (act == 1 || act == 2) {
             let language = usize::from(act) - 1;

@@ -192,6 +192,9 @@ impl<L: Library> Town<'_, L> {
         if card >= self.shape.cards {
             return self.recover(at);
         }
+        if self.waits(at, card) {
+            return self.ask(at, card);
+        }
         let pair = match self.desks[at].at[card].open[1] {
             Some(pair) => pair,
             None => match self.propose(at, card, 2)? {

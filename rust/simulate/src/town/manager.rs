@@ -86,7 +86,7 @@ impl<L: Library> Town<'_, L> {
     ) -> Checked {
         let stood = place(&self.keepers[card].queue, who.number());
         let answer = self.turn(card, Turn::Ask(mode, pair))?;
-        let (number, [_, s, x, _]) = (answer.number, answer.fields);
+        let (number, [holds, s, x, _]) = (answer.number, answer.fields);
         let keeper = &mut self.keepers[card];
         if denied == Some(keeper.accepted) && self.rule.is_none() {
             let made = &mut self.tally.made;
@@ -99,7 +99,7 @@ impl<L: Library> Town<'_, L> {
             self.tally.fault_if(number == 0, Fault::Upgrade);
             self.tally.fault_if(number == 11, Fault::UpgradeDenied);
         }
-        let told = Body::Stands(mode, number, Pair::new(s, x), accepted);
+        let told = Body::Stands(mode, number, holds == 1, Pair::new(s, x), accepted);
         self.answer_to(desk, who, card, told);
         Ok(())
     }
@@ -109,7 +109,7 @@ impl<L: Library> Town<'_, L> {
         let answer = self.turn(card, Turn::Leave(who.number()))?;
         let (number, [_, s, x, _]) = (answer.number, answer.fields);
         let accepted = self.keepers[card].accepted;
-        let told = Body::Stands(0, number, Pair::new(s, x), accepted);
+        let told = Body::Stands(0, number, false, Pair::new(s, x), accepted);
         self.answer_to(desk, who, card, told);
         Ok(())
     }
@@ -153,7 +153,7 @@ impl<L: Library> Town<'_, L> {
         let desk = desk_of(own(queue.modes[at], Pair::new(queue.s[at], queue.x[at])));
         let there = |other: &super::Desk| other.who.number() == desk && other.is_up();
         let well = self.desks.iter().any(there);
-        if !well || self.one_in(8) {
+        if !well || self.one_in(40) {
             self.keepers[card].failed = Some((desk, self.clock));
         }
     }

@@ -40,6 +40,9 @@ pub struct Shape {
     /// Of how many of the oldest messages one arrives next: with 1 the post
     /// keeps its order.
     pub storm: usize,
+    /// Whether desks send commands mostly while they hold the lock; they need
+    /// not.
+    pub polite: bool,
     /// Whether card 0 is first written until it has no edition left.
     pub worn: bool,
 }
@@ -55,6 +58,7 @@ impl Shape {
             log: random.pick(&[2_201, 2_240, 2_300, 2_600, 2_600, 4_000, 6_000]),
             steps: random.pick(&[300, 1_000, 3_000, 10_000]),
             storm: random.pick(&[1, 3, 10, 60]),
+            polite: !random.one_in(3),
             worn: false,
         }
     }
@@ -67,8 +71,9 @@ impl Shape {
             desks: 3,
             places: 3,
             log: 2_600,
-            steps: 70_000,
+            steps: 75_000,
             storm: 10,
+            polite: false,
             worn: true,
         }
     }
@@ -83,6 +88,7 @@ impl Shape {
             log: 2_600,
             steps: 220,
             storm: 3,
+            polite: true,
             worn: false,
         }
     }

@@ -35,9 +35,9 @@ pub enum Body {
     /// To the store: a command, the length of the reply buffer, and the line
     /// of the log that it writes out.
     Command(Vec<u8>, usize, Option<u64>),
-    /// To a desk, from a queue: mode, number, the largest pair, and how many
-    /// entries that queue has accepted.
-    Stands(u8, u8, Pair, u64),
+    /// To a desk, from a queue: mode, number, whether it holds the lock, the
+    /// largest pair, and how many entries that queue has accepted.
+    Stands(u8, u8, bool, Pair, u64),
     /// To a desk, from the store: the act, the line, the answer, the text.
     Told(u8, Option<u64>, Answer, Vec<u8>),
 }
