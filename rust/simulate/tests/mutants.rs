@@ -16,6 +16,7 @@ enum Mutant {
     PairReplaced,
     PairNotRaisedByReads,
     UpdatePairIgnored,
+    UpdateBelowTaken,
     MarkIgnored,
     MarkNotKept,
     EditionNotCounted,
@@ -72,6 +73,11 @@ const ALL: &[(Mutant, &str, Check)] = &[
         UpdatePairIgnored,
         "the stored pair is raised by the verifier, not by the update pair",
         Check::Fields,
+    ),
+    (
+        UpdateBelowTaken,
+        "an update pair below its verifier is taken",
+        Check::Number,
     ),
     (
         MarkIgnored,
@@ -289,6 +295,19 @@ impl Wrong {
         }
     }
 
+    /// A malformed command, with its update pair lifted to the verifier.
+    fn lifted(&self, image: &mut [u8], command: &[u8], reply: &mut [u8], told: Answer) -> Answer {
+        let mut lifted = command.to_vec();
+        if command.len() < 52 || command[20..36] == [0; 16] {
+            return told;
+        }
+        for at in [0, 8] {
+            let (verifier, update) = (number_at(command, 4 + at), number_at(command, 20 + at));
+            put(&mut lifted, 20 + at, verifier.max(update));
+        }
+        Proved.answer(image, &lifted, reply)
+    }
+
     /// What is wrong with the entry that an accepted command leaves.
     fn accepted(&self, old: &[u8], entry: &mut [u8], command: &[u8], told: &mut Answer) {
         let own = if command[20..36] == [0; 16] { 4 } else { 20 };
@@ -353,6 +372,7 @@ impl Library for Wrong {
                 self.written(image, command, reply, &told);
                 told
             }
+            1 if self.is(UpdateBelowTaken) => self.lifted(image, command, reply, told),
             1 | 2 | 9 => told,
             _ => self.refused(image, command, reply, told),
         }

@@ -331,12 +331,13 @@ impl<L: Library> Town<'_, L> {
     }
 
     /// Now and then a command is no command: bytes that are too few, an act, a
-    /// mode or a mark that is none.
+    /// mode or a mark that is none, an update pair below the verifier.
     fn malform(&mut self, bytes: &mut Vec<u8>) {
         if !self.one_in(40) {
             return;
         }
-        match self.random.below(4) {
+        match self.random.below(5) {
+            4 if bytes[4..12] != [0; 8] => bytes[20..28].fill(0),
             0 => bytes.truncate(self.random.index(52)),
             1 => bytes[0] = self.random.pick(&[0, 6, 255]),
             2 => bytes[1] = self.random.pick(&[0, 3]),
