@@ -1,5 +1,6 @@
 //! The checks by themselves, on small lists that are worked out by hand.
 
+use second::random::Random;
 use second::{CommandFields, Pair};
 use simulate::checks::isolation::Lists;
 use simulate::checks::log::{appended, due, read, BEGIN, COMMIT, SYNCED, UPDATE};
@@ -138,4 +139,71 @@ fn trials_a_and_b() {
         _ => 99,
     });
     assert_eq!(numbers.collect::<Vec<u8>>(), [0, 0, 0, 0, 0, 0, 3, 0]);
+}
+
+/// A command of the random lists: accepted or not, mode, pair.
+type Item = (bool, u8, Pair);
+
+fn any_list(random: &mut Random) -> Vec<Item> {
+    let any = |random: &mut Random| stamp(random.below(3), 1 + random.below(3));
+    let item = |random: &mut Random| {
+        let (accepted, mode) = (!random.one_in(4), random.pick(&[1, 2]));
+        let x = if random.one_in(3) { 0 } else { any(random) };
+        let x = if mode == 2 { any(random) } else { x };
+        (accepted, mode, Pair::new(any(random), x))
+    };
+    (0..random.between(2, 14)).map(|_| item(random)).collect()
+}
+
+fn desk((_, mode, pair): Item) -> u32 {
+    formed::desk_of(formed::own(mode, pair))
+}
+
+/// Rule 9.5, word for word: each shared command against each exclusive one.
+fn premise(list: &[Item]) -> bool {
+    let of = |wanted: u8| list.iter().filter(move |item| item.1 == wanted);
+    of(1).all(|(_, _, shared)| {
+        let carries = shared.x != 0 && formed::desk_of(shared.x) != formed::desk_of(shared.s);
+        let mut under = of(2).filter(|(_, _, pair)| pair.x == shared.x);
+        !carries || under.all(|(_, _, pair)| shared.s > pair.s)
+    })
+}
+
+/// Rule 9.6's end, word for word: what stands between each two of a session.
+fn isolated(list: &[Item]) -> bool {
+    let list: Vec<Item> = list.iter().copied().filter(|item| item.0).collect();
+    let intrudes = |a: Item, b: Item| desk(a) != desk(b) && (a.1 == 2 || b.1 == 2);
+    (0..list.len()).all(|last| {
+        let mut firsts = (0..last).filter(|first| list[*first] == list[last]);
+        firsts.all(|first| {
+            let mut between = list[first + 1..last].iter();
+            !between.any(|item| intrudes(*item, list[last]))
+        })
+    })
+}
+
+#[test]
+fn one_look_at_each_command_says_what_the_rules_say_of_the_list() {
+    let mut random = Random::new(9);
+    let mut seen = [0; 4];
+    for _ in 0..20_000 {
+        let list = any_list(&mut random);
+        let mut lists = Lists::default();
+        let (mut kept, mut alone) = (true, true);
+        for (at, (accepted, mode, pair)) in list.iter().enumerate() {
+            let bytes = verify(*mode, pair.s, pair.x);
+            let sent = formed::formed(&bytes).unwrap();
+            kept = lists.sent(&sent).0;
+            if *accepted {
+                alone &= lists.accepted(at as u64, &sent).unwrap_or(true);
+            }
+        }
+        assert_eq!(
+            (kept, alone),
+            (premise(&list), isolated(&list)),
+            "{list:x?}"
+        );
+        seen[usize::from(kept) * 2 + usize::from(alone)] += 1;
+    }
+    assert!(seen.iter().all(|count| *count > 100), "{seen:?}");
 }

@@ -91,7 +91,7 @@ pub fn recoveries(svg: &mut Svg, layout: &Layout, scenes: &[&Scene]) {
 /// The strip of each card: its edition, and how its translation stands.
 pub fn cards(svg: &mut Svg, layout: &Layout, scenes: &[&Scene]) {
     for (card, y) in layout.strips() {
-        let (mut from, mut entry) = (0, (0, 0));
+        let (mut from, mut entry) = (0, entry_before(scenes, card));
         for (at, scene) in scenes.iter().enumerate() {
             let Some(now) = entry_after(scene, card).filter(|now| *now != entry) else {
                 continue;
@@ -100,6 +100,22 @@ pub fn cards(svg: &mut Svg, layout: &Layout, scenes: &[&Scene]) {
             (from, entry) = (layout.x(at), now);
         }
         strip(svg, (from, layout.column * scenes.len().max(1)), y, entry);
+    }
+}
+
+/// The edition and translated-from of a card before the first scene that tells
+/// them: the same, but for what an accepted write changes.
+fn entry_before(scenes: &[&Scene], card: u16) -> (u64, u64) {
+    let told = scenes
+        .iter()
+        .find_map(|scene| Some((scene, entry_after(scene, card)?)));
+    let Some((Scene::Judged(judged), (edition, of))) = told else {
+        return (0, 0);
+    };
+    match (judged.number, judged.command[0]) {
+        (0, 3) => (edition - 1, of),
+        (0, 4) => (edition, 0),
+        _ => (edition, of),
     }
 }
 
