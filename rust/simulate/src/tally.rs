@@ -1,7 +1,6 @@
 //! What a run counts: steps, faults, numbers of each operation, checks. What
 //! never came fails the run.
 
-use crate::checks::store::FAR_FUTURE;
 use crate::checks::{Check, Made};
 
 crate::named! {
@@ -81,8 +80,7 @@ impl Operation {
     /// The numbers that must come.
     fn numbers(self) -> &'static [u8] {
         match self {
-            Operation::Store if FAR_FUTURE => &[0, 1, 2, 3, 4, 5, 6, 7, 8, 9, 17],
-            Operation::Store => &[0, 1, 2, 3, 4, 5, 6, 7, 8, 9],
+            Operation::Store => &[0, 1, 2, 3, 4, 5, 6, 7, 8, 9, 17],
             Operation::Ask => &[0, 1, 10, 11, 12, 13],
             Operation::Leave => &[0, 10, 15],
             Operation::Lapse => &[0, 10, 15, 21, 25],
@@ -90,8 +88,7 @@ impl Operation {
             Operation::Shown => &[0, 1, 6, 8],
             Operation::Append => &[0, 23, 24, 26],
             Operation::LogCheck => &[0, 23],
-            Operation::Recover if FAR_FUTURE => &[0, 1, 2, 3, 5, 7, 9, 17, 23],
-            Operation::Recover => &[0, 1, 2, 3, 5, 7, 9, 23],
+            Operation::Recover => &[0, 1, 2, 3, 5, 7, 9, 17, 23],
             Operation::Make => &[0, 14],
         }
     }
@@ -174,8 +171,7 @@ impl Tally {
         for step in Step::ALL {
             look(self.kinds[*step as usize], step.words().into());
         }
-        let off = |fault: Fault| matches!(fault, Fault::FarClock | Fault::FarEdge) && !FAR_FUTURE;
-        for fault in Fault::ALL.iter().filter(|fault| !off(**fault)) {
+        for fault in Fault::ALL {
             look(self.faults[*fault as usize], fault.words().into());
         }
         for operation in Operation::ALL {

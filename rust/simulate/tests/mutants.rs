@@ -17,6 +17,7 @@ enum Mutant {
     PairNotRaisedByReads,
     UpdatePairIgnored,
     UpdateBelowTaken,
+    FutureIgnored,
     MarkIgnored,
     MarkNotKept,
     EditionNotCounted,
@@ -78,6 +79,11 @@ const ALL: &[(Mutant, &str, Check)] = &[
         UpdateBelowTaken,
         "an update pair below its verifier is taken",
         Check::Number,
+    ),
+    (
+        FutureIgnored,
+        "a stamp from the far future is accepted",
+        Check::Future,
     ),
     (
         MarkIgnored,
@@ -272,6 +278,11 @@ impl Wrong {
                 right[36..38].copy_from_slice(&image[entry + 16..entry + 18]);
                 right[38..42].copy_from_slice(&image[entry + 20..entry + 24]);
                 Proved.answer(image, &right, reply)
+            }
+            (FutureIgnored, 17) => {
+                let mut told = told;
+                told.number = 0;
+                told
             }
             (BehindServed, 6) if command[0] == 2 => {
                 let mut told = told;

@@ -14,7 +14,7 @@ crate::named! {
     /// A thing that is checked.
     Check {
         Late "9.2: 3 exactly when an earlier accepted command is larger",
-        Future "4: 17 exactly when a stamp is more than 1,000,000 ahead",
+        Future "9.7: 17 exactly when a stamp is more than 1,000,000 ahead",
         Behind "9.3: a translation's read gets 6 exactly when it is behind",
         Shows "9.4: an accepted read shows the last accepted text",
         Premise "9.5, 10.11: desks by the rules keep the premise",

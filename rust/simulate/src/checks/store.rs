@@ -10,10 +10,7 @@ use super::isolation::Lists;
 use super::{Check, Checked, Made};
 use crate::library::Answer;
 
-/// Whether the library has number 17, a stamp from the far future. Without it
-/// the fault is not drawn, and nothing gets 17.
-pub const FAR_FUTURE: bool = false;
-/// How far a T may be ahead of the stored one.
+/// How far a T may be ahead of the stored one (rule 4.9).
 pub const AHEAD: u64 = 1_000_000;
 
 /// The accepted commands of one card, as far as the sentences ask.
@@ -41,7 +38,7 @@ impl Card {
 
     fn far(&self, sent: &Sent) -> bool {
         let far = |new: u64, old: u64| new != 0 && time_of(new) > time_of(old) + AHEAD;
-        FAR_FUTURE && (far(sent.update.s, self.largest.s) || far(sent.update.x, self.largest.x))
+        far(sent.update.s, self.largest.s) || far(sent.update.x, self.largest.x)
     }
 
     fn right_mark(&self, sent: &Sent) -> bool {

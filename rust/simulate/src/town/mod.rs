@@ -11,7 +11,7 @@ use second::random::Random;
 use second::Pair;
 
 use crate::checks::desk::{learnt, proposed, Proposal, Stamps};
-use crate::checks::store::{Store, AHEAD, FAR_FUTURE};
+use crate::checks::store::{Store, AHEAD};
 use crate::checks::{Check, Checked};
 use crate::library::{Library, Queue};
 use crate::rule::Rule;
@@ -375,9 +375,6 @@ impl<'a, L: Library> Town<'a, L> {
     /// A desk's clock jumps ahead: it counts on from a stamp of its own that
     /// is far in the future, or exactly as far as may be.
     fn far_clock(&mut self, at: usize) {
-        if !FAR_FUTURE {
-            return;
-        }
         let card = self.card();
         let own = u64::from(self.desks[at].who.number());
         let largest = self.store.cards[card].largest;
