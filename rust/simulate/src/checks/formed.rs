@@ -1,0 +1,113 @@
+//! A command as the rules read it (rules 1.2 to 1.7, 3.1 to 3.4).
+
+use second::{CommandFields, Mark, Pair};
+
+/// Modes.
+pub const SHARED: u8 = 1;
+/// See [`SHARED`].
+pub const EXCLUSIVE: u8 = 2;
+
+/// The desk and start in a stamp (rule 1.1).
+pub fn desk_of(stamp: u64) -> u32 {
+    stamp as u32
+}
+
+/// The T of a stamp (rule 1.1).
+pub fn time_of(stamp: u64) -> u64 {
+    stamp >> 32
+}
+
+/// Rule 1.2.
+pub fn valid(stamp: u64) -> bool {
+    stamp == 0 || desk_of(stamp) >= 1 << 16
+}
+
+/// The mode's own stamp (rule 1.4).
+pub fn own(mode: u8, pair: Pair) -> u64 {
+    match mode {
+        SHARED => pair.s,
+        _ => pair.x,
+    }
+}
+
+/// What may be sent in a mode (rule 1.4).
+pub fn sendable(mode: u8, pair: Pair) -> bool {
+    (mode == SHARED || mode == EXCLUSIVE) && valid(pair.s) && valid(pair.x) && own(mode, pair) != 0
+}
+
+/// Whether a pair is below another one, as its mode sees it (rules 4.2, 7.7).
+pub fn below(mode: u8, pair: Pair, other: Pair) -> bool {
+    pair.x < other.x || mode == EXCLUSIVE && pair.s < other.s
+}
+
+/// A well-formed command.
+#[derive(Clone, Copy, Debug)]
+pub struct Sent<'a> {
+    /// 1 to 5.
+    pub act: u8,
+    /// 1 or 2.
+    pub mode: u8,
+    /// Its card.
+    pub card: u16,
+    /// What staleness looks at.
+    pub verifier: Pair,
+    /// What raises the stored pair, and names the session and the desk.
+    pub update: Pair,
+    /// The desk and start.
+    pub desk: u32,
+    /// The mark that it expects.
+    pub expected: Mark,
+    /// The mark that it leaves.
+    pub next: Mark,
+    /// The edition that a translation is made from.
+    pub edition: u16,
+    /// The text.
+    pub payload: &'a [u8],
+}
+
+impl Sent<'_> {
+    /// The language that it reads: 0 the original, 1 the translation.
+    pub fn reads(&self) -> Option<usize> {
+        (self.act <= 2).then(|| usize::from(self.act) - 1)
+    }
+
+    /// The language that it writes.
+    pub fn writes(&self) -> Option<usize> {
+        (self.act == 3 || self.act == 4).then(|| usize::from(self.act) - 3)
+    }
+}
+
+/// The command in these bytes, or none if they are malformed.
+pub fn formed(bytes: &[u8]) -> Option<Sent<'_>> {
+    let fields = CommandFields::from_bytes(bytes)?;
+    let payload = &bytes[52..];
+    let (act, mode, verifier) = (fields.act, fields.mode, fields.pair);
+    let same = fields.update == Pair::default();
+    let update = if same { verifier } else { fields.update };
+    let write = act == 3 || act == 4;
+    let mark = |mark: Mark| (mark.desk == 0) == (mark.transaction == 0);
+    let right = payload.len() == usize::from(fields.length)
+        && (1..=5).contains(&act)
+        && (!write || mode == EXCLUSIVE)
+        && (fields.edition != 0) == (act == 4)
+        && (write || payload.is_empty())
+        && valid(verifier.s)
+        && valid(verifier.x)
+        && sendable(mode, update)
+        && update.s >= verifier.s
+        && update.x >= verifier.x
+        && mark(fields.expected)
+        && mark(fields.next);
+    right.then(|| Sent {
+        act,
+        mode,
+        card: fields.card,
+        verifier,
+        update,
+        desk: desk_of(own(mode, update)),
+        expected: fields.expected,
+        next: fields.next,
+        edition: fields.edition,
+        payload,
+    })
+}

@@ -1,0 +1,183 @@
+//! A run: town after town from one seed, then towns in which one rule is
+//! broken, and the tables.
+
+use std::time::Instant;
+
+use second::random::Random;
+
+use crate::checks::Breach;
+use crate::library::Library;
+use crate::rule::Rule;
+use crate::scene::Scene;
+use crate::tally::{grouped, Tally};
+use crate::town::{Shape, Town};
+
+/// Towns with a broken rule, and what broke in them.
+#[derive(Clone, Copy, Debug, Default, PartialEq, Eq)]
+pub struct Broken {
+    /// How many towns.
+    pub towns: u64,
+    /// In how many the premise broke.
+    pub premise: u64,
+    /// In how many a session was broken.
+    pub isolation: u64,
+}
+
+/// The seed of a town of a run.
+pub fn town_seed(seed: u64, town: u64) -> u64 {
+    Random::new(seed ^ town.wrapping_mul(0x9e37_79b9_7f4a_7c15)).number()
+}
+
+/// The shape of a town of a run: the first has a card that is worn out.
+fn shape(seed: u64, town: u64) -> Shape {
+    match town {
+        0 => Shape::worn(),
+        _ => Shape::any(&mut Random::new(seed)),
+    }
+}
+
+/// Where a run stopped.
+#[derive(Clone, Debug)]
+pub struct Stop {
+    /// The town.
+    pub town: u64,
+    /// Its step.
+    pub step: u64,
+    /// The check, and what was seen.
+    pub breach: Breach,
+    /// The last steps, in words.
+    pub last: Vec<String>,
+}
+
+/// What a run is to do.
+#[derive(Clone, Copy, Debug, PartialEq, Eq)]
+pub struct Plan {
+    /// The seed.
+    pub seed: u64,
+    /// The least number of steps.
+    pub steps: u64,
+    /// The first town: town 0 wears out a card.
+    pub first: u64,
+    /// Whether it says how far it is.
+    pub progress: bool,
+}
+
+/// Runs towns until so many steps are made, or up to the first breach.
+pub fn run<L: Library>(library: &mut L, tally: &mut Tally, plan: Plan) -> Result<(), Box<Stop>> {
+    let started = Instant::now();
+    let mut shown = 5;
+    let mut town = plan.first;
+    while tally.steps < plan.steps {
+        one(library, tally, plan.seed, town)?;
+        town += 1;
+        let seconds = started.elapsed().as_secs();
+        if plan.progress && seconds >= shown {
+            let (steps, rate) = (grouped(tally.steps), grouped(tally.steps / seconds));
+            println!("simulate: {steps} steps, {seconds} s, {rate} steps a second");
+            shown = seconds + 5;
+        }
+    }
+    Ok(())
+}
+
+/// Runs one town; after a breach it is run again, for its last steps in words.
+fn one<L: Library>(
+    library: &mut L,
+    tally: &mut Tally,
+    seed: u64,
+    town: u64,
+) -> Result<(), Box<Stop>> {
+    let own = town_seed(seed, town);
+    let shape = shape(own, town);
+    let ran = Town::new(library, tally, own, shape, None).and_then(|mut town| town.run());
+    let Err(breach) = ran else {
+        return Ok(());
+    };
+    let mut again = Tally::default();
+    let mut last = Vec::new();
+    let mut step = 0;
+    if let Ok(mut town) = Town::new(library, &mut again, own, shape, None) {
+        town.scenes = Some(Vec::new());
+        let _ = town.run();
+        step = town.steps();
+        last = last_words(&town.scenes.take().unwrap_or_default());
+    }
+    Err(Box::new(Stop {
+        town,
+        step,
+        breach,
+        last,
+    }))
+}
+
+/// A town in which a rule is broken: a small one.
+fn broken_town(seed: u64, rule: Rule, number: u64) -> (u64, Shape) {
+    let seed = town_seed(seed ^ 0xb0b0, number << 8 | rule as u64);
+    let mut random = Random::new(seed);
+    let shape = Shape {
+        steps: 400,
+        desks: random.pick(&[2, 3, 4]),
+        cards: random.pick(&[1, 2]),
+        polite: false,
+        ..Shape::any(&mut random)
+    };
+    (seed, shape)
+}
+
+/// How many towns with a broken rule there are at least, and at most, until
+/// the premise broke in three of them.
+const LEAST: u64 = 100;
+const MOST: u64 = 30_000;
+
+/// Runs towns in which a rule is broken. Every check but the premise and
+/// isolation outright holds there too, and isolation while the premise holds.
+pub fn broken<L: Library>(library: &mut L, seed: u64, rule: Rule) -> Result<Broken, Breach> {
+    let mut broken = Broken::default();
+    while broken.towns < LEAST || broken.premise < 3 && broken.towns < MOST {
+        let (seed, shape) = broken_town(seed, rule, broken.towns);
+        let mut tally = Tally::default();
+        let mut town = Town::new(library, &mut tally, seed, shape, Some(rule))?;
+        town.run()?;
+        let [premise, isolation] = town.broken();
+        broken.towns += 1;
+        broken.premise += u64::from(premise);
+        broken.isolation += u64::from(isolation);
+    }
+    Ok(broken)
+}
+
+/// The first town in which a broken rule breaks the premise, up to there, in
+/// words.
+pub fn told<L: Library>(library: &mut L, seed: u64, rule: Rule) -> Option<Stop> {
+    for number in 0..MOST {
+        let (seed, shape) = broken_town(seed, rule, number);
+        let mut tally = Tally::default();
+        let mut town = Town::new(library, &mut tally, seed, shape, Some(rule)).ok()?;
+        town.scenes = Some(Vec::new());
+        town.strict();
+        if let Err(breach) = town.run() {
+            return Some(Stop {
+                town: number,
+                step: town.steps(),
+                breach,
+                last: last_words(&town.scenes.take().unwrap_or_default()),
+            });
+        }
+    }
+    None
+}
+
+/// The last scenes, in words.
+fn last_words(scenes: &[Scene]) -> Vec<String> {
+    let from = scenes.len().saturating_sub(20);
+    scenes[from..].iter().map(Scene::to_string).collect()
+}
+
+/// A small town, for a picture.
+pub fn small<L: Library>(library: &mut L, seed: u64) -> Result<Vec<Scene>, Breach> {
+    let mut tally = Tally::default();
+    let mut town = Town::new(library, &mut tally, seed, Shape::small(), None)?;
+    town.scenes = Some(Vec::new());
+    town.run()?;
+    Ok(town.scenes.take().unwrap_or_default())
+}

@@ -1,0 +1,192 @@
+//! The lock managers: a queue for each card, leases, and queues that are lost.
+
+use second::Pair;
+
+use super::post::Body;
+use super::{empty_queue, Town};
+use crate::checks::formed::{desk_of, own};
+use crate::checks::queue::{place, turned, Turn};
+use crate::checks::{Check, Checked};
+use crate::library::{Lease, Library, Queue, QueueAnswer};
+use crate::scene::{Scene, Who};
+use crate::tally::{Fault, Operation, Step};
+
+/// The manager of one card's queue.
+#[derive(Clone, Debug)]
+pub struct Keeper {
+    /// The queue.
+    pub queue: Queue,
+    /// How many asks it accepted.
+    pub accepted: u64,
+    /// The desk and start that it holds failed, and since when.
+    pub failed: Option<(u32, f64)>,
+    /// The last desks that it took out by lease.
+    pub lapsed: Vec<u32>,
+}
+
+impl Keeper {
+    pub(super) fn new(places: u64) -> Keeper {
+        Keeper {
+            queue: empty_queue(places),
+            accepted: 0,
+            failed: None,
+            lapsed: Vec::new(),
+        }
+    }
+}
+
+/// A request to a queue and its answer, as a scene.
+fn told(card: u16, turn: Turn, answer: &QueueAnswer) -> Scene {
+    let number = answer.number;
+    let left = |desk: u32, lease: bool| Scene::Left {
+        who: Who::of(desk.into()),
+        card,
+        number,
+        lease,
+    };
+    match turn {
+        Turn::Ask(mode, pair) => Scene::Asked {
+            who: Who::of(own(mode, pair)),
+            card,
+            mode,
+            pair,
+            number,
+            holds: answer.fields[0] == 1,
+        },
+        Turn::Leave(desk) => left(desk, false),
+        Turn::Lapse(desk, _) => left(desk, true),
+    }
+}
+
+impl<L: Library> Town<'_, L> {
+    /// A request reaches a queue.
+    pub(super) fn turn(&mut self, card: usize, turn: Turn) -> Checked<QueueAnswer> {
+        let before = self.keepers[card].queue;
+        let queue = &mut self.keepers[card].queue;
+        let (operation, answer) = match turn {
+            Turn::Ask(mode, pair) => (Operation::Ask, self.library.ask(queue, mode, pair)),
+            Turn::Leave(desk) => (Operation::Leave, self.library.leave(queue, desk)),
+            Turn::Lapse(desk, lease) => (Operation::Lapse, self.library.lapse(queue, desk, lease)),
+        };
+        self.tally.number(operation, answer.number);
+        self.tell(|| told(card as u16, turn, &answer));
+        let queue = &self.keepers[card].queue;
+        turned(&mut self.tally.made, &before, turn, &answer, queue)?;
+        Ok(answer)
+    }
+
+    /// A desk asks, or upgrades.
+    pub(super) fn asks(
+        &mut self,
+        desk: usize,
+        who: Who,
+        card: usize,
+        (mode, pair): (u8, Pair),
+        denied: Option<u64>,
+    ) -> Checked {
+        let stood = place(&self.keepers[card].queue, who.number());
+        let answer = self.turn(card, Turn::Ask(mode, pair))?;
+        let (number, [holds, s, x, _]) = (answer.number, answer.fields);
+        let keeper = &mut self.keepers[card];
+        if denied == Some(keeper.accepted) && self.rule.is_none() {
+            let made = &mut self.tally.made;
+            made.hold(Check::NotDenied, number != 11, || "denied again".into())?;
+        }
+        keeper.accepted += u64::from(number == 0);
+        let accepted = keeper.accepted;
+        self.tally.fault_if(number == 11, Fault::Denied);
+        if stood.is_some() && mode == 2 {
+            self.tally.fault_if(number == 0, Fault::Upgrade);
+            self.tally.fault_if(number == 11, Fault::UpgradeDenied);
+        }
+        let told = Body::Stands(mode, number, holds == 1, Pair::new(s, x), accepted);
+        self.answer_to(desk, who, card, told);
+        Ok(())
+    }
+
+    /// A desk leaves.
+    pub(super) fn leaves(&mut self, desk: usize, who: Who, card: usize) -> Checked {
+        let answer = self.turn(card, Turn::Leave(who.number()))?;
+        let (number, [_, s, x, _]) = (answer.number, answer.fields);
+        let accepted = self.keepers[card].accepted;
+        let told = Body::Stands(0, number, false, Pair::new(s, x), accepted);
+        self.answer_to(desk, who, card, told);
+        Ok(())
+    }
+
+    /// A manager looks after its queue: it may lose it, hold a desk failed, or
+    /// take out a desk whose lease is over.
+    pub(super) fn manage(&mut self) -> Checked {
+        self.tally.step(Step::Manage);
+        let card = self.card();
+        if self.one_in(60) {
+            return self.lose_queue(card);
+        }
+        match self.keepers[card].failed {
+            None => {
+                self.suspect(card);
+                Ok(())
+            }
+            Some((desk, begin)) => self.lapse(card, desk, begin),
+        }
+    }
+
+    /// The queue is lost, and begins again empty over what its places hold.
+    fn lose_queue(&mut self, card: usize) -> Checked {
+        let keeper = &mut self.keepers[card];
+        keeper.queue.kept = [0; 3];
+        keeper.failed = None;
+        self.tally.fault(Fault::QueueLost);
+        self.tell(|| Scene::QueueLost { card: card as u16 });
+        Ok(())
+    }
+
+    /// A manager holds a desk failed that stands: mostly one that is silent or
+    /// gone, now and then any.
+    fn suspect(&mut self, card: usize) {
+        let queue = &self.keepers[card].queue;
+        let count = queue.kept[0] as usize;
+        if count == 0 {
+            return;
+        }
+        let at = self.random.index(count);
+        let desk = desk_of(own(queue.modes[at], Pair::new(queue.s[at], queue.x[at])));
+        let there = |other: &super::Desk| other.who.number() == desk && other.is_up();
+        let well = self.desks.iter().any(there);
+        if !well || self.one_in(40) {
+            self.keepers[card].failed = Some((desk, self.clock));
+        }
+    }
+
+    /// A desk that is held failed is taken out, once its lease is over.
+    fn lapse(&mut self, card: usize, desk: u32, begin: f64) -> Checked {
+        let odd = [f64::NAN, -1.0, f64::INFINITY, 86_401.0];
+        let period = if self.one_in(12) {
+            self.random.pick(&odd)
+        } else {
+            30.0
+        };
+        let drift = self.random.pick(&[0.0, 0.1, 0.5]);
+        let back = if self.one_in(12) { 40.0 } else { 0.0 };
+        let now = (self.clock - back).max(0.0);
+        let lease = Lease {
+            period,
+            drift,
+            begin,
+            now,
+        };
+        let answer = self.turn(card, Turn::Lapse(desk, lease))?;
+        let number = answer.number;
+        let keeper = &mut self.keepers[card];
+        if number == 0 {
+            keeper.lapsed.push(desk);
+            let extra = keeper.lapsed.len().saturating_sub(8);
+            keeper.lapsed.drain(..extra);
+            self.tally.fault(Fault::Lapsed);
+        }
+        if number == 0 || number == 15 {
+            self.keepers[card].failed = None;
+        }
+        Ok(())
+    }
+}

@@ -1,0 +1,410 @@
+//! A town: desks, cards, a lock queue for each card, one store, a log for each
+//! desk, and the post between them. A seed draws every step of it.
+
+mod desks;
+mod logs;
+mod manager;
+mod odd;
+mod post;
+
+use second::random::Random;
+use second::Pair;
+
+use crate::checks::desk::{learnt, proposed, Proposal, Stamps};
+use crate::checks::store::{Store, AHEAD};
+use crate::checks::{Check, Checked};
+use crate::library::{Library, Queue};
+use crate::rule::Rule;
+use crate::scene::{Judged, Scene, Who};
+use crate::tally::{Fault, Operation, Step, Tally};
+
+use desks::Desk;
+use manager::Keeper;
+use post::Message;
+
+/// How large a town is.
+#[derive(Clone, Copy, Debug, PartialEq, Eq)]
+pub struct Shape {
+    /// The cards, and the room of a text.
+    pub cards: usize,
+    /// The room of a text.
+    pub room: usize,
+    /// The desks.
+    pub desks: usize,
+    /// The places of each queue.
+    pub places: u64,
+    /// The bytes of each log.
+    pub log: usize,
+    /// The steps.
+    pub steps: u64,
+    /// Of how many of the oldest messages one arrives next: with 1 the post
+    /// keeps its order.
+    pub storm: usize,
+    /// Whether desks send commands mostly while they hold the lock; they need
+    /// not.
+    pub polite: bool,
+    /// Whether card 0 is first written until it has no edition left.
+    pub worn: bool,
+}
+
+impl Shape {
+    /// Any shape.
+    pub fn any(random: &mut Random) -> Shape {
+        Shape {
+            cards: random.pick(&[1, 2, 2, 3, 4]),
+            room: random.pick(&[16, 16, 32, 48]),
+            desks: random.pick(&[2, 3, 4, 5, 8, 12]),
+            places: random.pick(&[1, 2, 3, 4, 8, 32]),
+            log: random.pick(&[2_201, 2_240, 2_300, 2_600, 2_600, 4_000, 6_000]),
+            steps: random.pick(&[300, 1_000, 3_000, 10_000]),
+            storm: random.pick(&[1, 3, 10, 60]),
+            polite: !random.one_in(3),
+            worn: false,
+        }
+    }
+
+    /// A shape whose card 0 is worn out.
+    pub fn worn() -> Shape {
+        Shape {
+            cards: 2,
+            room: 16,
+            desks: 3,
+            places: 3,
+            log: 2_600,
+            steps: 75_000,
+            storm: 10,
+            polite: false,
+            worn: true,
+        }
+    }
+
+    /// A small shape, for a picture.
+    pub fn small() -> Shape {
+        Shape {
+            cards: 2,
+            room: 16,
+            desks: 3,
+            places: 3,
+            log: 2_600,
+            steps: 220,
+            storm: 3,
+            polite: true,
+            worn: false,
+        }
+    }
+}
+
+/// A town.
+pub struct Town<'a, L: Library> {
+    library: &'a mut L,
+    tally: &'a mut Tally,
+    random: Random,
+    shape: Shape,
+    rule: Option<Rule>,
+    image: Vec<u8>,
+    store: Store,
+    keepers: Vec<Keeper>,
+    stamps: Vec<Stamps>,
+    desks: Vec<Desk>,
+    post: Vec<Message>,
+    clock: f64,
+    now: u64,
+    reply: Vec<u8>,
+    lent: Vec<u8>,
+    /// What happened, where it is wanted.
+    pub scenes: Option<Vec<Scene>>,
+}
+
+impl<'a, L: Library> Town<'a, L> {
+    /// A town at its opening: a fresh store, empty queues, nothing known.
+    pub fn new(
+        library: &'a mut L,
+        tally: &'a mut Tally,
+        seed: u64,
+        shape: Shape,
+        rule: Option<Rule>,
+    ) -> Checked<Town<'a, L>> {
+        let random = Random::new(seed);
+        let store = Store::new(shape.cards, shape.room, rule.is_none());
+        let mut image = vec![0xee; store.image.len()];
+        let number = library.make(&mut image, shape.cards as u64, shape.room as u64);
+        tally.number(Operation::Make, number);
+        tally
+            .made
+            .same(Check::Made, (number, &image), (0, &store.image))?;
+        let mut town = Town {
+            library,
+            tally,
+            random,
+            shape,
+            rule,
+            image,
+            store,
+            keepers: (0..shape.cards)
+                .map(|_| Keeper::new(shape.places))
+                .collect(),
+            stamps: vec![Stamps::default(); shape.cards + 1],
+            desks: Vec::new(),
+            post: Vec::new(),
+            clock: 0.0,
+            now: 0,
+            reply: Vec::new(),
+            lent: (0..64).map(|at| at ^ 0xa5).collect(),
+            scenes: None,
+        };
+        town.open();
+        Ok(town)
+    }
+
+    /// Desks start; where the opening's rule is broken, a queue is not empty.
+    fn open(&mut self) {
+        for number in 1..=self.shape.desks {
+            let who = Who {
+                desk: number as u16,
+                start: 0,
+            };
+            self.desks.push(Desk::new(who, self.shape));
+            self.knew_something(number - 1);
+        }
+        if self.rule == Some(Rule::UsedQueue) {
+            for keeper in &mut self.keepers {
+                let stamp = |random: &mut Random| {
+                    let desk = 1 + random.below(self.shape.desks as u64);
+                    random.below(2) << 32 | desk << 16
+                };
+                keeper.queue.kept = [0, 0, stamp(&mut self.random)];
+            }
+        }
+    }
+
+    /// Runs all steps; the first breach ends it.
+    pub fn run(&mut self) -> Checked {
+        self.tally.towns += 1;
+        while self.now < self.shape.steps {
+            self.now += 1;
+            self.tally.steps += 1;
+            self.step()?;
+        }
+        Ok(())
+    }
+
+    /// The premise and isolation are to hold, though a rule is broken.
+    pub fn strict(&mut self) {
+        self.store.by_rules = true;
+    }
+
+    /// How many steps were made.
+    pub fn steps(&self) -> u64 {
+        self.now
+    }
+
+    /// Whether the premise was broken, and whether a session was.
+    pub fn broken(&self) -> [bool; 2] {
+        self.store.broken
+    }
+
+    /// One step, as the seed draws it.
+    fn step(&mut self) -> Checked {
+        self.clock += self.random.below(4) as f64;
+        if self.shape.worn && self.store.cards[0].edition < u16::MAX {
+            return self.wear();
+        }
+        if self.post.len() > 60 {
+            return self.lose();
+        }
+        match self.random.below(100) {
+            0..=57 if !self.post.is_empty() => self.deliver(),
+            58..=59 => self.lose(),
+            60..=61 => self.repeat(),
+            62..=67 => self.manage(),
+            68..=69 => self.odd(),
+            _ => self.act(),
+        }
+    }
+
+    /// A true draw, once in so many.
+    fn one_in(&mut self, calls: u64) -> bool {
+        self.random.one_in(calls)
+    }
+
+    /// Some card.
+    fn card(&mut self) -> usize {
+        self.random.index(self.shape.cards)
+    }
+
+    /// Whether a rule is broken here and now.
+    fn breaks(&mut self, rule: Rule) -> bool {
+        self.rule == Some(rule) && self.random.one_in(2)
+    }
+
+    /// Tells what happened, where it is wanted.
+    fn tell(&mut self, scene: impl FnOnce() -> Scene) {
+        if let Some(scenes) = &mut self.scenes {
+            scenes.push(scene());
+        }
+    }
+
+    /// A command reaches the store, with a reply buffer of some length.
+    fn judge(&mut self, command: &[u8], lent: usize) -> Checked<crate::library::Answer> {
+        self.reply.clear();
+        self.reply.extend_from_slice(&self.lent[..lent]);
+        let (image, reply) = (&mut self.image, &mut self.reply);
+        let answer = self.library.answer(image, command, reply);
+        self.tally.number(Operation::Store, answer.number);
+        if let Some(scenes) = &mut self.scenes {
+            let length = (answer.fields[6] as usize).min(lent);
+            scenes.push(Scene::Judged(Judged {
+                command: command.to_vec(),
+                number: answer.number,
+                fields: answer.fields,
+                shown: self.reply[..length].to_vec(),
+                recovery: false,
+            }));
+        }
+        let made = &mut self.tally.made;
+        let buffers = (&self.lent[..lent], &self.reply[..]);
+        self.store
+            .judged(made, command, buffers, &answer, &self.image)?;
+        if self.now.is_multiple_of(64) {
+            let sound = self.library.sound(&self.image);
+            self.tally.made.same(Check::Sound, sound, true)?;
+        }
+        Ok(answer)
+    }
+
+    /// A desk learns a pair of a card.
+    fn learn(&mut self, at: usize, card: usize, mut pair: Pair) -> Checked {
+        let mut card = card;
+        if self.breaks(Rule::HalfLearnt) {
+            pair.s = 0;
+        }
+        if self.breaks(Rule::LearntElsewhere) {
+            card = self.card();
+        }
+        let known = &mut self.desks[at].known[card];
+        let before = *known;
+        self.library.learn(known, pair);
+        let known = *known;
+        learnt(&mut self.tally.made, before, pair, known)
+    }
+
+    /// A desk proposes a pair for a card, and keeps it as its own; none where
+    /// the answer is no.
+    fn propose(&mut self, at: usize, card: usize, mode: u8) -> Checked<Option<Pair>> {
+        self.tally.step(Step::Propose);
+        let who = self.desks[at].who;
+        let mut known = self.desks[at].known[card];
+        let mut pair = [0x5a5a, 0xa5a5];
+        let number = 0;
+        let before = Proposal {
+            number,
+            known,
+            pair,
+        };
+        let number = self
+            .library
+            .propose((who.desk, who.start), &mut known, mode, &mut pair);
+        self.tally.number(Operation::Propose, number);
+        self.tell(|| Scene::Proposed {
+            who,
+            card: card as u16,
+            mode,
+            pair: Pair::new(pair[0], pair[1]),
+            number,
+        });
+        let after = Proposal {
+            number,
+            known,
+            pair,
+        };
+        let made = &mut self.tally.made;
+        proposed(made, (who.desk, who.start), mode, before, after)?;
+        if number != 0 {
+            return Ok(None);
+        }
+        self.desks[at].known[card] = known;
+        if mode == 2 && self.rule.is_none() {
+            self.stamps[card].once(&mut self.tally.made, pair[1])?;
+        }
+        let pair = self.proposed_wrong(at, (card, mode), before.known, Pair::new(pair[0], pair[1]));
+        self.desks[at].at[card].open[usize::from(mode) - 1] = Some(pair);
+        Ok(Some(pair))
+    }
+
+    /// A proposal as a desk makes it that breaks a rule.
+    fn proposed_wrong(
+        &mut self,
+        at: usize,
+        (card, mode): (usize, u8),
+        known: [u64; 2],
+        pair: Pair,
+    ) -> Pair {
+        let who = u64::from(self.desks[at].who.number());
+        let earlier = |random: &mut Random, below: u64| random.below((below >> 32) + 1) << 32;
+        match mode {
+            _ if self.breaks(Rule::OwnForgotten) => self.desks[at].known[card] = known,
+            1 if self.breaks(Rule::NotAbove) => {
+                return Pair::new(earlier(&mut self.random, known[0]) | who, pair.x);
+            }
+            1 if self.breaks(Rule::GuessedX) => {
+                let x = earlier(&mut self.random, known[1] + (2 << 32));
+                let desk = 1 + self.random.below(self.shape.desks as u64);
+                return Pair::new(pair.s, x | desk << 16);
+            }
+            2 if self.breaks(Rule::KeptX) && known[1] != 0 => {
+                return Pair::new(pair.s, known[1]);
+            }
+            _ => {}
+        }
+        pair
+    }
+
+    /// Where that rule is broken, a desk knows something at its start.
+    fn knew_something(&mut self, at: usize) {
+        if self.rule != Some(Rule::KnewSomething) {
+            return;
+        }
+        for card in 0..self.shape.cards {
+            let desk = 1 + self.random.below(self.shape.desks as u64);
+            let [s, x] = [self.random.below(3), self.random.below(6)];
+            let own = u64::from(self.desks[at].who.desk);
+            self.desks[at].known[card] = [s << 32 | own << 16, x << 32 | desk << 16];
+        }
+    }
+
+    /// A desk's clock jumps ahead: it counts on from a stamp of its own that
+    /// is far in the future, or exactly as far as may be.
+    fn far_clock(&mut self, at: usize) {
+        let card = self.card();
+        let own = u64::from(self.desks[at].who.number());
+        let largest = self.store.cards[card].largest;
+        let edge = self.one_in(2);
+        let far = self.random.pick(&[0, 1, 4_000_000, 1 << 31]);
+        let ahead = if edge { AHEAD - 1 } else { AHEAD + far };
+        let jump = |stored: u64| {
+            let time = ((stored >> 32) + ahead).min(u64::from(u32::MAX));
+            time << 32 | own
+        };
+        let known = &mut self.desks[at].known[card];
+        *known = [known[0].max(jump(largest.s)), known[1].max(jump(largest.x))];
+        let fault = if edge {
+            Fault::FarEdge
+        } else {
+            Fault::FarClock
+        };
+        self.tally.fault(fault);
+        let who = self.desks[at].who;
+        self.tell(|| Scene::Said(format!("the clock of {who} jumps by {ahead}")));
+    }
+}
+
+/// An empty queue of so many places, over places that hold anything (rule 7.3).
+fn empty_queue(places: u64) -> Queue {
+    Queue {
+        modes: [0xaa; 32],
+        s: [0xaaaa_aaaa; 32],
+        x: [0xbbbb_bbbb; 32],
+        kept: [0; 3],
+        places,
+    }
+}

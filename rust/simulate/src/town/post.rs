@@ -1,0 +1,162 @@
+//! The post: messages that come late, twice, out of order or not at all.
+
+use second::Pair;
+
+use super::Town;
+use crate::checks::formed::formed;
+use crate::checks::Checked;
+use crate::library::{Answer, Library};
+use crate::scene::{Scene, Who};
+use crate::tally::{Fault, Step};
+
+/// A message on its way.
+#[derive(Clone, Debug)]
+pub struct Message {
+    /// Who sent it, or whom it is for.
+    pub desk: usize,
+    /// The start of that desk when it was sent.
+    pub who: Who,
+    /// The step in which it was sent.
+    pub sent: u64,
+    /// The card.
+    pub card: usize,
+    /// What it says.
+    pub body: Body,
+}
+
+/// What a message says.
+#[derive(Clone, Debug)]
+pub enum Body {
+    /// To a queue: a mode and a pair; and, if it was proposed right after a
+    /// denial, how many entries that queue had accepted at the denial.
+    Ask(u8, Pair, Option<u64>),
+    /// To a queue.
+    Leave,
+    /// To the store: a command, the length of the reply buffer, and the line
+    /// of the log that it writes out.
+    Command(Vec<u8>, usize, Option<u64>),
+    /// To a desk, from a queue: mode, number, whether it holds the lock, the
+    /// largest pair, and how many entries that queue has accepted.
+    Stands(u8, u8, bool, Pair, u64),
+    /// To a desk, from the store: the act, the line, the answer, the text.
+    Told(u8, Option<u64>, Answer, Vec<u8>),
+}
+
+impl<L: Library> Town<'_, L> {
+    /// A desk sends a message.
+    pub(super) fn send(&mut self, desk: usize, card: usize, body: Body) {
+        let (who, sent) = (self.desks[desk].who, self.now);
+        self.post.push(Message {
+            desk,
+            who,
+            sent,
+            card,
+            body,
+        });
+    }
+
+    /// A message that is drawn from the post arrives.
+    pub(super) fn deliver(&mut self) -> Checked {
+        self.tally.step(Step::Deliver);
+        let at = self.random.index(self.post.len().min(self.shape.storm));
+        let message = self.post.remove(at);
+        let late = self.now - message.sent > 50;
+        self.tally.fault_if(late, Fault::Late);
+        let same = |other: &&Message| other.desk == message.desk && other.sent < message.sent;
+        let overtaken = self.post.iter().any(|other| same(&other));
+        self.tally.fault_if(overtaken, Fault::Overtaken);
+        self.arrive(message)
+    }
+
+    /// A message is lost.
+    pub(super) fn lose(&mut self) -> Checked {
+        self.tally.step(Step::Lose);
+        if self.post.is_empty() {
+            return Ok(());
+        }
+        let at = self.random.index(self.post.len());
+        let message = self.post.remove(at);
+        self.tally.fault(Fault::Lost);
+        self.tell(|| Scene::Said(format!("a message of {} is lost", message.who)));
+        Ok(())
+    }
+
+    /// A message is on its way twice.
+    pub(super) fn repeat(&mut self) -> Checked {
+        self.tally.step(Step::Repeat);
+        if self.post.is_empty() {
+            return Ok(());
+        }
+        let at = self.random.index(self.post.len());
+        let again = self.post[at].clone();
+        self.tally.fault(Fault::Repeated);
+        self.tell(|| Scene::Said(format!("a message of {} is on its way twice", again.who)));
+        self.post.push(again);
+        Ok(())
+    }
+
+    fn arrive(&mut self, message: Message) -> Checked {
+        let Message {
+            desk,
+            who,
+            card,
+            body,
+            ..
+        } = message;
+        match body {
+            Body::Ask(mode, pair, denied) => self.asks(desk, who, card, (mode, pair), denied),
+            Body::Leave => self.leaves(desk, who, card),
+            Body::Command(bytes, lent, line) => {
+                let answer = self.receive(desk, who, card, &bytes, lent)?;
+                let length = (answer.fields[6] as usize).min(lent);
+                let text = self.reply[..length].to_vec();
+                let act = bytes.first().copied().unwrap_or(0);
+                self.answer_to(desk, who, card, Body::Told(act, line, answer, text));
+                Ok(())
+            }
+            told => self.hears(desk, who, card, told),
+        }
+    }
+
+    /// An answer goes back to who sent the message, whether that desk is still
+    /// there or not.
+    pub(super) fn answer_to(&mut self, desk: usize, who: Who, card: usize, body: Body) {
+        let sent = self.now;
+        self.post.push(Message {
+            desk,
+            who,
+            sent,
+            card,
+            body,
+        });
+    }
+
+    /// The store judges a command that arrives, and what is behind it is
+    /// counted.
+    fn receive(
+        &mut self,
+        desk: usize,
+        who: Who,
+        card: usize,
+        bytes: &[u8],
+        lent: usize,
+    ) -> Checked<Answer> {
+        let answer = self.judge(bytes, lent)?;
+        let accepted = answer.number == 0;
+        self.tally
+            .fault_if(self.desks[desk].who != who, Fault::Ghost);
+        let lapsed = self.keepers[card].lapsed.contains(&who.number());
+        self.tally.fault_if(lapsed, Fault::LateByLease);
+        self.tally
+            .fault_if(lapsed && answer.number == 3, Fault::KeptOut);
+        if let Some(sent) = formed(bytes).filter(|_| accepted) {
+            let opened = sent.verifier != sent.update;
+            self.tally.fault_if(opened, Fault::Opened);
+            let zero = opened && sent.verifier == Pair::default();
+            self.tally.fault_if(zero, Fault::OpenedZero);
+        }
+        self.tally.fault_if(answer.number == 1, Fault::Malformed);
+        self.tally.fault_if(answer.number == 7, Fault::Worn);
+        Ok(answer)
+    }
+}
