@@ -3,7 +3,7 @@
 mod common;
 
 use common::check;
-use common::Kept;
+use common::{Kept, V1};
 use second::trials::{self, Told, Tried, STORES};
 use second::{make_fresh, output, Turn};
 
@@ -21,7 +21,7 @@ impl Tried for Second {
         command: &[u8],
         reply: &mut [u8],
     ) -> Result<Told<7>, String> {
-        let answer = check::answer(image, command, reply);
+        let answer = check::answer(V1, image, command, reply);
         Ok((answer.number, answer.fields.numbers()))
     }
 
