@@ -13,7 +13,7 @@ fn missing(run: &Run, text: &str) -> usize {
 fn nothing_came() {
     let run = Run::default();
     assert_eq!(
-        missing(&run, "number "),
+        missing(&run, ": number "),
         GIVEN.len() + GIVEN_BY_VERSION_2.len()
     );
     assert_eq!(missing(&run, "fresh images made"), 2 + 2);
