@@ -2,12 +2,16 @@
 use Prim.Native.Nat.{ℕ}
 use mathlib.Core.Path.{_≡_, refl}
 use mathlib.Core.Logic.{_⊎_, inl, inr}
-use mathlib.Core.Bool.{true, false}
+use mathlib.Core.Bool.{Bool, true, false, _&&_}
 use borrow.Author.Tests.{eqb-true, eq-eqb}
 use lib.Dec.{eqb}
-use Rattle.lists.proofs.Tests.{cases, never-both, and-in, and-left, and-right}
+use Rattle.lists.proofs.Tests.{cases, never-both, and-left, and-right}
 use Rattle.commands.specs.Command.{original, translation, readsTranslation, writesTranslation, reads, writes}
 use Rattle.commands.specs.declared.Command.{Command}
+
+and-holds : (a : Bool) {b : Bool} → b ≡ true → (a && b) ≡ a
+and-holds true h = h
+and-holds false h = refl
 
 module _ (c : Command) where
   pub reads-named : (t : ℕ) → reads (translation t) c ≡ true → c .language ≡ t
@@ -22,11 +26,12 @@ module _ (c : Command) where
   pub writes-act : (t : ℕ) → writes (translation t) c ≡ true → writesTranslation c ≡ true
   writes-act t h = and-left (writesTranslation c) (eqb (c .language) t) h
 
-  pub reads-own : readsTranslation c ≡ true → reads (translation (c .language)) c ≡ true
-  reads-own h = and-in h (eq-eqb (c .language) (c .language) refl)
+  -- A command that reads or writes a translation does so to the one that it names.
+  pub reads-own : reads (translation (c .language)) c ≡ readsTranslation c
+  reads-own = and-holds (readsTranslation c) (eq-eqb (c .language) (c .language) refl)
 
-  pub writes-own : writesTranslation c ≡ true → writes (translation (c .language)) c ≡ true
-  writes-own h = and-in h (eq-eqb (c .language) (c .language) refl)
+  pub writes-own : writes (translation (c .language)) c ≡ writesTranslation c
+  writes-own = and-holds (writesTranslation c) (eq-eqb (c .language) (c .language) refl)
 
   pub writes-other : (t : ℕ) → (c .language ≡ t → ⊥) → writes (translation t) c ≡ false
   writes-other t apart = go (cases (writes (translation t) c))
