@@ -61,11 +61,14 @@ pub fn length_at(f: Format) -> usize
     }
 }
 
+// The bytes of a version 1 command in front of its payload.
+pub const FIXED_V1: usize = 52;
+
 pub fn fixed(f: Format) -> usize
     ensures { λ r. ⌜ r ≡ fixed f ⌝ }
 {
     match f {
-        Format::V1 => 52,
+        Format::V1 => FIXED_V1,
         Format::V2 => 68,
     }
 }

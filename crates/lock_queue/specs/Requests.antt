@@ -113,7 +113,7 @@ answered number d entry exit =
 
 -- ---- A request on a queue of `lent` places.
 
--- What is sent: a desk asks, with its entry, or leaves, naming its desk and start; or the queue's keeper, who holds a desk failed, sends for it.
+-- What is sent (rules 7.6, 7.12 and 13.1): a desk asks, with its entry, or leaves, naming its desk and start; or the queue's keeper, who holds a desk failed, sends for it.
 pub data Request : Type 0 where
   asks : Waiting → Request
   leaves : ℕ → Request
@@ -140,6 +140,7 @@ applied (lapses r) q = without (r .desk) q
 unfoldable pub number : ℕ → State → Request → ℕ
 number lent q r = first (queueRows lent q r)
 
+-- Rule 7.11: a refusal leaves the queue as it was.
 unfoldable pub after : ℕ → State → Request → State
 after lent q r = settled (number lent q r) (applied r q) q
 

@@ -24,7 +24,7 @@ EachNumber =
 abbrev pub Acceptance : Type 0
 Acceptance = (lent : ℕ) (q : State) (r : Request) → (number lent q r ≡ 0) ↔ T (noRow (queueRows lent q r))
 
--- A refusal changes nothing, neither the places nor the count nor the largest pair.
+-- Rule 7.11: a refusal changes nothing, neither the places nor the count nor the largest pair.
 abbrev pub RefusalLeaves : Type 0
 RefusalLeaves = (lent : ℕ) (q : State) (r : Request) (n : ℕ) → number lent q r ≡ suc n → after lent q r ≡ q
 

@@ -13,8 +13,10 @@ use Rattle.image.specs.Image.{Cards, noCard, fresh}
 use Rattle.image.specs.Image.{freshCards}
 use Rattle.image.specs.Layout.{shapeOk}
 use Rattle.image_claims.proofs.Claims.{freshSound}
-use Rattle.model.specs.Words.{Sent, Event, history, logOf, commandOf, late}
+use Rattle.model.specs.Words.{Sent, Event, Received, received, history, logOf, commandOf, late, premise, commandsIn}
 use Rattle.model.specs.Claims.{AllBytes, Claim, Demand3}
+use Rattle.model.specs.Meaning.{Among}
+use Rattle.model.proofs.Meaning.{among-map, among-mapped, among-reverse, premise-within}
 use Rattle.model.proofs.Isolation.{Timely, isolated}
 use Rattle.model.proofs.Machine.{numberOn, eventBy, cardsFrom, eventsFrom, tied-fresh, Ties, ties-more, count-kept}
 use Rattle.model.proofs.Sentences.{Told, told}
@@ -114,3 +116,20 @@ demand3 f n c shape sent b =
     (subst (Along (Told n)) (sym (same-log f n c shape sent b))
     (subst (λ (m : ℕ). Along (Told m) (eventsFrom f (freshCards f n c) (reverse sent))) (count-fresh f n c)
     (told-all f (freshCards f n c) (ties-fresh f n c) (reverse sent))))
+
+-- ---- the premise on what is sent, and on the log
+
+commands-read : (f : Format) (start : List ℕ) (sent : List Sent) → commandsIn (history f start sent) ≡ map (received f) sent
+unfolding history
+commands-read f start [] = refl
+commands-read f start (s ∷ earlier) = ap (λ (l : List Received). received f s ∷ l) (commands-read f start earlier)
+
+pub premise-logged : (f : Format) (n c k : ℕ) (sent : List Sent) → premise k (map (received f) sent) ≡ true → premise k (commandsIn (logOf f n c sent)) ≡ true
+unfolding logOf
+premise-logged f n c k sent h =
+    premise-within k (map (received f) sent) (commandsIn (history f (fresh f n c) (reverse sent))) back h
+  where
+    back : (r : Received) → Among r (commandsIn (history f (fresh f n c) (reverse sent))) → Among r (map (received f) sent)
+    back r m =
+        let one = among-mapped (received f) (reverse sent) (subst (Among r) (commands-read f (fresh f n c) (reverse sent)) m) in
+        subst (λ (d : Received). Among d (map (received f) sent)) (sym (one .is)) (among-map (received f) {l = sent} (among-reverse {l = sent} (one .among)))

@@ -3,7 +3,7 @@ use Prim.Native.Nat.{ℕ, _+_, _<_, _%_}
 use native.Mathlib.Omega.{arith}
 use mathlib.Core.Path.{_≡_, refl, sym, ap, _∙_}
 use mathlib.Core.Logic.{_↔_, _⊎_, inl, inr}
-use mathlib.Core.List.{List, [], _∷_, _++_, map, reverse, append-assoc, reverse-append, reverse-cons, reverse-reverse}
+use mathlib.Core.List.{List, [], _∷_, _++_, map, nil≢cons, head-eq-of-cons-eq, tail-eq-of-cons-eq, reverse, append-assoc, reverse-append, reverse-cons, reverse-reverse}
 use mathlib.Core.Bool.{Bool, true, false, not, _&&_, _||_, or-assoc}
 use borrow.Author.Tests.{not-true, not-false, ltb-true, lt-ltb, leb-false, lt-leb, eqb-true, eqb-false, eq-eqb, ne-eqb}
 use lib.Dec.{eqb, ltb, leb}
@@ -137,6 +137,24 @@ module _ {A B : Type 0} (f : A → B) where
         split = ap (map f) (m .split) ∙ map-append (m .front) (a ∷ m .back);
       }
 
+-- What stands in a list that a function made was made of something that stands there.
+module _ {A B : Type 0} (g : A → B) where
+  pub record Mapped (b : B) (l : List A) : Type 0 where
+    pub from : A
+    pub among : Among from l
+    pub is : b ≡ g from
+
+  pub among-mapped : {b : B} (l : List A) → Among b (map g l) → Mapped b l
+  among-mapped {b} l m = go l (m .front) (m .split)
+    where
+      go : (l : List A) (front : List B) → map g l ≡ front ++ b ∷ m .back → Mapped b l
+      go [] [] e = absurd (nil≢cons e)
+      go [] (c ∷ front) e = absurd (nil≢cons e)
+      go (a ∷ l) [] e = record { from = a; among = among-here a l; is = sym (head-eq-of-cons-eq e) }
+      go (a ∷ l) (c ∷ front) e =
+          let rest = go l front (tail-eq-of-cons-eq e) in
+          record { from = rest .from; among = among-later a (rest .among); is = rest .is }
+
 module _ (k : ℕ) (all : List Received) where
   -- The test of one command against another, and of one against the whole list.
   abbrev against : Received → Received → Bool
@@ -181,6 +199,11 @@ module _ (k : ℕ) (all : List Received) where
               go (inl e) =
                   let found = any-means (against a) all .0 (and-right (formedFor k a) (any (against a) all) e) in
                   absurd (pair a (found .0) m (found .1) (and-left (formedFor k a) (any (against a) all) e) (found .2))
+
+-- Commands of which each stands in a list that keeps the premise keep it.
+pub premise-within : (k : ℕ) (all some : List Received) → ((r : Received) → Among r some → Among r all) → premise k all ≡ true → premise k some ≡ true
+premise-within k all some within h =
+    premise-means k some .1 (λ a b ma mb. premise-means k all .0 h a b (within a ma) (within b mb))
 
 -- ---- the words on events
 

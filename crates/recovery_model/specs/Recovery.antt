@@ -5,6 +5,7 @@ use mathlib.Core.List.{List, [], _∷_}
 use mathlib.Core.Bool.{Bool, cond, not, _&&_}
 use lib.ListN.{length, getD}
 use lib.Dec.{leb, eqb}
+use Rattle.formats.specs.declared.Format.the-variants.{V1}
 use Rattle.lists.specs.Table.{settled}
 use Rattle.stamps.specs.Stamp.{exclusive, noPair}
 use Rattle.stamps.specs.declared.Pair.{Pair}
@@ -34,7 +35,7 @@ commitsTo t r = eqb (r .kind) commitKind && eqb (recordTransaction r) t
 abbrev pub syncsFrom : ℕ → ℕ → LogRecord → Bool
 syncsFrom card t r = eqb (r .kind) syncedKind && eqb (recordCard r) card && leb t (recordTransaction r)
 
--- Record i is due: an update whose transaction is committed and whose card is not synced as of that transaction, wherever those records stand.
+-- Rule 11.15: record i is due, an update whose transaction is committed and whose card is not synced as of that transaction, wherever those records stand.
 unfoldable pub due : List LogRecord → ℕ → Bool
 due rs i =
     eqb (recordIn rs i .kind) updateKind
@@ -43,7 +44,7 @@ due rs i =
 
 -- ---- the command of an update (rules 11.16 and 11.17)
 
--- The pairs that recovery is given: the s and the x of each card, by number. A card beyond the end of a list has a zero there.
+-- The pairs that recovery is given (rule 11.16): the s and the x of each card, by number. A card beyond the end of a list has a zero there.
 pub record Pairs : Type 0 where
   pub s : List ℕ
   pub x : List ℕ
@@ -53,15 +54,16 @@ recoveryPair pairs k = record { s = getD (pairs .s) k 0; x = getD (pairs .x) k 0
 
 -- The entry of a card as stored, as seen in translation 0; zeros for a card that is not there.
 abbrev pub entryFor : List ℕ → ℕ → Entry
-entryFor image k = view 0 (getD (decode image .cards) k noCard)
+entryFor image k = view 0 (getD (decode V1 image .cards) k (noCard V1))
 
--- An exclusive write under the pair, which is its verifier and its update pair: it expects the stored mark and leaves it, and a translation names the
+-- Rule 11.17: an exclusive write under the pair, which is its verifier and its update pair: it expects the stored mark and leaves it, and a translation names the
 -- stored edition.
 abbrev pub writeBy : Pair → Entry → LogRecord → Command
 writeBy pair e r =
     record {
       act = cond (eqb (recordSide r) 1) 3 4;
       mode = exclusive;
+      language = 0;
       card = recordCard r;
       pair = pair;
       opened = noPair;
@@ -76,7 +78,7 @@ writeOf pairs image r = writeBy (recoveryPair pairs (recordCard r)) (entryFor im
 
 -- The request: the command's bytes and an empty reply buffer.
 unfoldable pub recoverySent : Pairs → List ℕ → LogRecord → Sent
-recoverySent pairs image r = record { command = commandBytes (writeOf pairs image r) (recordText r); lent = [] }
+recoverySent pairs image r = record { command = commandBytes V1 (writeOf pairs image r) (recordText r); lent = [] }
 
 -- ---- recovery (rules 11.18 to 11.20)
 
@@ -91,13 +93,13 @@ pub record Recovery : Type 0 where
 unfoldable pub recoveryStep : ℕ → Sent → Recovery → Recovery
 recoveryStep i s r =
     record {
-      number = serve (r .image) (s .command) (s .lent) .answer .number;
-      line = settled (serve (r .image) (s .command) (s .lent) .answer .number) 0 i;
-      image = serve (r .image) (s .command) (s .lent) .image;
+      number = serve V1 (r .image) (s .command) (s .lent) .answer .number;
+      line = settled (serve V1 (r .image) (s .command) (s .lent) .answer .number) 0 i;
+      image = serve V1 (r .image) (s .command) (s .lent) .image;
       sent = s ∷ r .sent;
     }
 
--- After the first i records: one request for each that is due, on the image as the one before left it, up to the first that is refused.
+-- Rule 11.18, after the first i records: one request for each that is due, on the image as the one before left it, up to the first that is refused.
 unfoldable pub recovering : Pairs → List LogRecord → List ℕ → ℕ → Recovery
 recovering pairs rs image zero = record { number = 0; line = 0; image = image; sent = [] }
 recovering pairs rs image (suc i) =
@@ -107,7 +109,7 @@ recovering pairs rs image (suc i) =
     (recovering pairs rs image i))
     (recovering pairs rs image i)
 
--- Recovery goes by what is read back of the log and by nothing else; a bad log gets 23 and no request.
+-- Rules 11.18 and 11.19: recovery goes by what is read back of the log and by nothing else; a bad log gets 23 and no request.
 unfoldable pub recovered : Pairs → List ℕ → List ℕ → Recovery
 recovered pairs log image =
     cond (goodLog log) (recovering pairs (records log) image (length (records log))) (record { number = 23; line = 0; image = image; sent = [] })

@@ -18,7 +18,7 @@ pub record Store : Type 0 where
   pub place : ℕ
   pub byte : ℕ
 
--- The log after stores, in order.
+-- The log after stores, in order (rule 11.9).
 unfoldable pub stored : List Store → List ℕ → List ℕ
 stored [] log = log
 stored (s ∷ more) log = stored more (set log (s .place) (s .byte))
@@ -55,6 +55,7 @@ LOG-FULL = 24
 abbrev pub APPEND-CUT : ℕ
 APPEND-CUT = 26
 
+-- Rule 11.11, in its order.
 abbrev pub appendRows : ℕ → List ℕ → LogRecord → List Row
 appendRows budget log r =
     -- a bad log, or a record that breaks its layout or its order

@@ -14,7 +14,7 @@ use Rattle.redo_log.specs.Append.{Store, stored, stores, appendRows, appendNumb
 
 -- ---- one append (rules 11.10 to 11.13)
 
--- Of an append with any budget, to any bytes, of any record.
+-- Of an append with any budget, to any bytes, of any record (rules 11.10 to 11.13).
 pub record Appending (budget : ℕ) (log : List ℕ) (r : LogRecord) : Type 0 where
   -- how many stores it has
   pub all : length (stores log r) ≡ length (r .body) + 12
@@ -75,6 +75,7 @@ abbrev pub BytesOfRecords : List LogRecord → Type 0
 BytesOfRecords [] = Unit {0}
 BytesOfRecords (r ∷ rs) = Bytes (r .body) × BytesOfRecords rs
 
+-- Rule 11.14, of the first k stores.
 pub record History (k : ℕ) (log : List ℕ) (rs : List LogRecord) : Type 0 where
   -- the stores do what the appends do
   pub same : stored (allStores log rs) log ≡ appendedAll log rs
