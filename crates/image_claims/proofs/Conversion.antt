@@ -28,11 +28,11 @@ use Rattle.image_claims.specs.Claims.{Encodes}
 use Rattle.image_claims.specs.Conversion.{Keeps, Converts, Conversion, ConvertCases}
 use Rattle.image_claims.proofs.Claims.{soundReadsBack, goodEncodes, fits-none, sound-none}
 
-length-map : (cards : List Card) → length (map widened cards) ≡ length cards
+pub length-map : (cards : List Card) → length (map widened cards) ≡ length cards
 length-map [] = refl
 length-map (a ∷ cards) = ap suc (length-map cards)
 
-getD-map : (cards : List Card) (k : ℕ) → k < length cards → getD (map widened cards) k (noCard V2) ≡ widened (getD cards k (noCard V1))
+pub getD-map : (cards : List Card) (k : ℕ) → k < length cards → getD (map widened cards) k (noCard V2) ≡ widened (getD cards k (noCard V1))
 getD-map [] k h = absurd (omega arith)
 getD-map (a ∷ cards) zero h = refl
 getD-map (a ∷ cards) (suc k) h = getD-map cards k (omega arith)
@@ -64,7 +64,7 @@ good-widened room card good =
     own (suc (suc (suc (suc zero)))) = Bytes-nil
     own (suc (suc (suc (suc (suc side))))) = Bytes-nil
 
-good-cards : (cs : Cards) → GoodCards V1 cs → T (shapeOk V2 (length (cs .cards)) (cs .room)) → GoodCards V2 (widenedCards cs)
+pub good-cards : (cs : Cards) → GoodCards V1 cs → T (shapeOk V2 (length (cs .cards)) (cs .room)) → GoodCards V2 (widenedCards cs)
 good-cards cs good shape =
     record {
       shape = rw (length-map (cs .cards)) shape;

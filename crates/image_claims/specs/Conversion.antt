@@ -58,22 +58,22 @@ pub record ConvertCase : Type 0 where
   pub lent : ℕ
   pub number : ℕ
 
-abbrev pub from : List ℕ → ℕ → ℕ → ConvertCase
-from source lent number = record { source = source; lent = lent; number = number }
+abbrev pub lending : List ℕ → ℕ → ℕ → ConvertCase
+lending source lent number = record { source = source; lent = lent; number = number }
 
 abbrev pub conversions : List ConvertCase
 conversions =
-    from (encode V1 oneCard) 144 0
-    ∷ from (encode V1 oneCard) 143 14
-    ∷ from (encode V1 oneCard) 145 14
-    ∷ from (encode V1 oneCard) 80 14
-    ∷ from (encode V1 oneCard) 0 14
+    lending (encode V1 oneCard) 144 0
+    ∷ lending (encode V1 oneCard) 143 14
+    ∷ lending (encode V1 oneCard) 145 14
+    ∷ lending (encode V1 oneCard) 80 14
+    ∷ lending (encode V1 oneCard) 0 14
     -- its zero field broken: whatever is lent
-    ∷ from (set (encode V1 oneCard) 34 1) 144 9
-    ∷ from (set (encode V1 oneCard) 34 1) 143 9
+    ∷ lending (set (encode V1 oneCard) 34 1) 144 9
+    ∷ lending (set (encode V1 oneCard) 34 1) 143 9
     -- nothing, and an image of version 2
-    ∷ from [] 0 9
-    ∷ from oneConverted 144 9
+    ∷ lending [] 0 9
+    ∷ lending oneConverted 144 9
     ∷ []
 
 pub record ConvertCases : Type 0 where
