@@ -17,7 +17,7 @@ use Rattle.guard.specs.Replies.{replied}
 use Rattle.image.specs.Layout.{shapeOk}
 use Rattle.image.specs.Image.{fresh, Card, Cards, decode}
 use Rattle.model.specs.Serve.{entryOf, serve}
-use Rattle.model.specs.Words.{Sent, Event, imageAfter, logOf}
+use Rattle.model.specs.Words.{Sent, Event, imageAfter, logOf, received}
 use Rattle.model.specs.Claims.{SentBytes, AllBytes}
 use Rattle.history.specs.WorkedOut.{entryFrom, textFrom}
 use Rattle.history.specs.Engine.{overLimits, HISTORY-FULL, Deduced, guardRows, engineRows, deduced}
@@ -31,7 +31,7 @@ keptAfter n c (s ∷ earlier) = deduced n c (keptAfter n c earlier) (s .command)
 
 -- What a sender sees of a request to the engine.
 abbrev pub engineEvent : Sent → Deduced → Event
-engineEvent s d = record { sent = s; answer = d .answer; reply = d .reply }
+engineEvent s d = record { sent = s; read = received V1 s; answer = d .answer; reply = d .reply }
 
 -- The events of requests, both latest first.
 unfoldable pub engineEvents : ℕ → ℕ → List Sent → List Event

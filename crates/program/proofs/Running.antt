@@ -5,6 +5,7 @@ use mathlib.Core.List.{List}
 use lib.ListN.{length, take, drop}
 use native.Mathlib.Omega.{arith}
 use native.Mathlib.Nat.{zero-add}
+use Rattle.formats.specs.declared.Format.the-variants.{V1}
 use Rattle.lists.specs.Parts.{part, splice, spread}
 use Rattle.lists.proofs.Parts.{splice-nil, length-splice}
 use Rattle.guard.specs.declared.Answer.{Answer}
@@ -52,9 +53,9 @@ module _ (image₀ reply₀ stream out₀ image reply out : List ℕ) (at count 
       (omega (arith, s .0), s .1, omega (arith, n, r .room, r .long), omega (arith, s .0, r .few))
 
   pub running-more : (end : ℕ) (a : Answer) (image′ reply′ out′ : List ℕ) → nextAt stream at ≡ Whole end →
-      a ≡ serve image (take (end - at) (drop at stream)) reply .answer →
-      image′ ≡ serve image (take (end - at) (drop at stream)) reply .image →
-      reply′ ≡ serve image (take (end - at) (drop at stream)) reply .reply →
+      a ≡ serve V1 image (take (end - at) (drop at stream)) reply .answer →
+      image′ ≡ serve V1 image (take (end - at) (drop at stream)) reply .image →
+      reply′ ≡ serve V1 image (take (end - at) (drop at stream)) reply .reply →
       out′ ≡ splice (count * perLine) (numbersOf a) out →
       length image′ ≡ length image →
       length reply′ ≡ length reply →

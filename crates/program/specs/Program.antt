@@ -5,6 +5,7 @@ use mathlib.Core.List.{List, [], _∷_}
 use mathlib.Core.Bool.{cond, _&&_, not}
 use lib.Dec.{ltb}
 use lib.ListN.{length, take, drop, replicate}
+use Rattle.formats.specs.declared.Format.the-variants.{V1}
 use Rattle.image.specs.Layout.{mostBytes, mostRoom}
 use Rattle.image.specs.Bytes.{countOf, roomOf}
 use Rattle.image.specs.Image.{goodFront, frontSize}
@@ -12,7 +13,7 @@ use Rattle.guard.specs.Replies.{replyFields}
 use Rattle.guard.specs.declared.Answer.{Answer}
 use Rattle.lists.specs.Parts.{spread, splice}
 use Rattle.model.specs.Serve.{serve}
-use Rattle.commands.specs.Bytes.{fixed}
+use Rattle.formats.specs.Format.{fixed}
 use Rattle.stream.specs.Stream.{commands, endOf}
 use Rattle.program.specs.declared.Summary.{Summary}
 use Rattle.program.specs.declared.Report.{Report}
@@ -44,9 +45,9 @@ unfoldable pub runs : List ℕ → List ℕ → List (List ℕ) → Run
 runs image reply [] = record { answers = []; image = image; reply = reply }
 runs image reply (c ∷ cs) =
     record {
-      answers = serve image c reply .answer ∷ runs (serve image c reply .image) (serve image c reply .reply) cs .answers;
-      image = runs (serve image c reply .image) (serve image c reply .reply) cs .image;
-      reply = runs (serve image c reply .image) (serve image c reply .reply) cs .reply;
+      answers = serve V1 image c reply .answer ∷ runs (serve V1 image c reply .image) (serve V1 image c reply .reply) cs .answers;
+      image = runs (serve V1 image c reply .image) (serve V1 image c reply .reply) cs .image;
+      reply = runs (serve V1 image c reply .image) (serve V1 image c reply .reply) cs .reply;
     }
 
 -- What is printed of a run, line after line.
@@ -57,7 +58,7 @@ printed r = spread numbersOf (r .answers)
 
 -- As many numbers as the lines of the longest input can have: a command has at least 52 bytes.
 abbrev pub mostNumbers : ℕ
-mostNumbers = mostInput / fixed * perLine
+mostNumbers = mostInput / (fixed V1) * perLine
 
 -- The image is so many bytes, the stream is what follows, and the reply buffer has C zeros.
 abbrev pub runBehind : ℕ → ℕ → List ℕ → Run

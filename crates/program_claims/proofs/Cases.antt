@@ -10,7 +10,7 @@ use Rattle.guard.specs.Judge.{raise}
 use Rattle.guard.specs.Replies.{replied}
 use Rattle.image.specs.Layout.{shapeOk}
 use Rattle.image.specs.Bytes.{header, entryBytes, pad, readEntry, entryAt}
-use Rattle.image.specs.Image.{bodies, encode, cardAt, decode, tailZero, cardSound, headerSound, sound, fresh}
+use Rattle.image.specs.Image.{bodies, encode, cardAt, decode, tailZero, translationSound, cardSound, headerSound, sound, fresh}
 use Rattle.model.specs.Serve.{stepped, serveBy, serve}
 use Rattle.stream.specs.Stream.{extent, whole, commandsWithin, commands, endWithin, endOf}
 use Rattle.image.specs.Image.{goodFront}
@@ -18,5 +18,5 @@ use Rattle.program.specs.Program.{numbersOf, runs, reportOf}
 use Rattle.program_claims.specs.Cases.{CaseP}
 
 pub case-p : CaseP
-unfolding reportOf runs numbersOf goodFront commands commandsWithin endOf endWithin whole extent serve serveBy stepped sound headerSound cardSound tailZero decode cardAt entryAt readEntry encode bodies pad entryBytes header shapeOk fresh replied raise entrySound commandBytes formed payload fieldsOf wellFormed all allFrom le toLe part splice table spread every zeros
+unfolding reportOf runs numbersOf goodFront commands commandsWithin endOf endWithin whole extent serve serveBy stepped sound headerSound cardSound translationSound tailZero decode cardAt entryAt readEntry encode bodies pad entryBytes header shapeOk fresh replied raise entrySound commandBytes formed payload fieldsOf wellFormed all allFrom le toLe part splice table spread every zeros
 case-p = record { report = refl; lines = refl }
