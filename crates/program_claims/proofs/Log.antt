@@ -25,14 +25,14 @@ sends image reply (c ∷ cs) = ap (λ (l : List (List ℕ)). c ∷ l) (sends (se
 
 lends-run : (image reply : List ℕ) (cs : List (List ℕ)) →
     map (λ (s : Sent). s .lent) (requests image reply cs) ++ (runs image reply cs .reply ∷ [])
-    ≡ reply ∷ map (λ (g : Got). g .reply) (run image (requests image reply cs))
+    ≡ reply ∷ map (λ (g : Got). g .reply) (run V1 image (requests image reply cs))
 unfolding requests runs run
 lends-run image reply [] = refl
 lends-run image reply (c ∷ cs) =
     ap (λ (l : List (List ℕ)). reply ∷ l) (lends-run (serve V1 image c reply .image) (serve V1 image c reply .reply) cs)
 
 answers-run : (image reply : List ℕ) (cs : List (List ℕ)) →
-    runs image reply cs .answers ≡ map (λ (g : Got). g .answer) (run image (requests image reply cs))
+    runs image reply cs .answers ≡ map (λ (g : Got). g .answer) (run V1 image (requests image reply cs))
 unfolding requests runs run
 answers-run image reply [] = refl
 answers-run image reply (c ∷ cs) =
@@ -44,11 +44,11 @@ leaves image reply [] = refl
 leaves image reply (c ∷ cs) =
     let s : Sent = record { command = c; lent = reply } in
     let later : List Sent = requests (serve V1 image c reply .image) (serve V1 image c reply .reply) cs in
-    rw (reverse-cons s later, image-first image s (reverse later)) (leaves (serve V1 image c reply .image) (serve V1 image c reply .reply) cs)
+    rw (reverse-cons s later, image-first V1 image s (reverse later)) (leaves (serve V1 image c reply .image) (serve V1 image c reply .reply) cs)
 
 pub logs : (image reply : List ℕ) (cs : List (List ℕ)) → Logged image reply cs
 logs image reply cs =
-    let same = run-logged image (requests image reply cs) in
+    let same = run-logged V1 image (requests image reply cs) in
     record {
       sends = sends image reply cs;
       lends =

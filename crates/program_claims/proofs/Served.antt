@@ -1,11 +1,11 @@
 -- The program on a good store: the image stays sound and the reply buffer keeps its C bytes, so that no command is answered 9 or 8.
 -- Assumes nothing.
-use Prim.Native.Nat.{ℕ, zero, suc, _+_, _≤_}
+use Prim.Native.Nat.{ℕ, zero, suc, _+_, _≤_, _<_}
 use native.Mathlib.Omega.{arith}
 use mathlib.Core.Path.{_≡_, refl, sym, subst, ap, _∙_}
 use mathlib.Core.Logic.{_⊎_, inl, inr}
 use mathlib.Core.List.{List, [], _∷_}
-use mathlib.Core.Bool.{Bool, true, false, cond, not, _||_}
+use mathlib.Core.Bool.{Bool, true, false, cond, not, _&&_, _||_}
 use borrow.Author.Tests.{ne-eqb, ltb-true, not-true}
 use lib.Dec.{T, eqb, ltb, lit<}
 use lib.ListN.{length, take, drop, replicate, length-replicate}
@@ -15,10 +15,10 @@ use Rattle.lists.proofs.Bytes.{Bytes-nil, Bytes-take, Bytes-drop, Bytes-replica
 use Rattle.lists.proofs.Parts.{length-splice}
 use Rattle.lists.proofs.Table.{given, first-all}
 use Rattle.lists.proofs.Tests.{to-T, from-T, cases, or-none, or-cases, and-right, not-in}
-use Rattle.commands.specs.Command.{Language, original, translation, reads, language}
+use Rattle.commands.specs.Command.{original, translation, readsTranslation, reads}
 use Rattle.commands.specs.Bytes.{fieldsOf, formed}
 use Rattle.commands.specs.declared.Command.{Command}
-use Rattle.guard.specs.Judge.{overruns}
+use Rattle.formats.specs.Format.{translations}
 use Rattle.guard.specs.Replies.{replied}
 use Rattle.guard.specs.declared.Answer.{Answer}
 use Rattle.image.specs.Bytes.{roomOf}
@@ -61,23 +61,26 @@ module _ (cs : Cards) (command reply : List ℕ) (fit : Fit cs reply) where
   not-9 : number ≡ 9 → ⊥
   not-9 e = subst (λ (n : ℕ). T (not (eqb n 9))) e (first-all (λ n. not (eqb n 9)) (requestRows V1 cs command (length reply)) tt tt)
 
+  named : asked .language < translations V1
+  unfolding fieldsOf
+  named = lit< tt
+
   module _ (there : ltb (asked .card) (length (cs .cards)) ≡ true) where
     stored : GoodCard V1 (cs .room) (cardOf V1 cs asked)
     stored = fit .good .each (asked .card) (ltb-true (asked .card) (length (cs .cards)) there)
 
     within : Lengths (cs .room) (entryOf V1 cs asked)
-    within = lengths (cs .room) (entryOf V1 cs asked) (from-T _ (stored .rules (language asked) (lit< tt)))
+    within = lengths (cs .room) (entryOf V1 cs asked) (from-T _ (stored .rules (asked .language) named))
 
-    never-over : (l : Language) → overruns l (entryOf V1 cs asked) asked (length reply) ≡ true → ⊥
-    never-over original o =
+    never-original : (reads original asked && ltb (length reply) (entryOf V1 cs asked .original)) ≡ true → ⊥
+    never-original o =
         let h = ltb-true (length reply) (entryOf V1 cs asked .original) (and-right (reads original asked) (ltb (length reply) (entryOf V1 cs asked .original)) o) in
         omega (arith, h, within .original, fit .long)
-    never-over (translation zero) o =
-        let h = ltb-true (length reply) (entryOf V1 cs asked .translation) (and-right (reads (translation zero) asked) (ltb (length reply) (entryOf V1 cs asked .translation)) o) in
+
+    never-translation : (readsTranslation asked && ltb (length reply) (entryOf V1 cs asked .translation)) ≡ true → ⊥
+    never-translation o =
+        let h = ltb-true (length reply) (entryOf V1 cs asked .translation) (and-right (readsTranslation asked) (ltb (length reply) (entryOf V1 cs asked .translation)) o) in
         omega (arith, h, within .translation, fit .long)
-    never-over (translation (suc t)) o =
-        let h = ltb-true (length reply) 0 (and-right (reads (translation (suc t)) asked) (ltb (length reply) 0) o) in
-        omega (arith, h)
 
   -- A command for no card is answered 1 or 2.
   away : (b : Bool) → formed V1 command ≡ b → ltb (asked .card) (length (cs .cards)) ≡ false → number ≡ 8 → ⊥
@@ -87,25 +90,25 @@ module _ (cs : Cards) (command reply : List ℕ) (fit : Fit cs reply) where
   not-8 : number ≡ 8 → ⊥
   not-8 e = go (cases (ltb (asked .card) (length (cs .cards))))
     where
-      short : (overruns original (entryOf V1 cs asked) asked (length reply) || overruns (translation 0) (entryOf V1 cs asked) asked (length reply)) ≡ true
+      short : ((reads original asked && ltb (length reply) (entryOf V1 cs asked .original)) || (readsTranslation asked && ltb (length reply) (entryOf V1 cs asked .translation))) ≡ true
       short = from-T _ (given (requestRows V1 cs command (length reply)) tt 7 .0 e .0)
 
       over : ltb (asked .card) (length (cs .cards)) ≡ true
-          → (overruns original (entryOf V1 cs asked) asked (length reply) ≡ true) ⊎ (overruns (translation 0) (entryOf V1 cs asked) asked (length reply) ≡ true) → ⊥
-      over there (inl o) = never-over there original o
-      over there (inr o) = never-over there (translation 0) o
+          → ((reads original asked && ltb (length reply) (entryOf V1 cs asked .original)) ≡ true) ⊎ ((readsTranslation asked && ltb (length reply) (entryOf V1 cs asked .translation)) ≡ true) → ⊥
+      over there (inl o) = never-original there o
+      over there (inr o) = never-translation there o
 
       go : (ltb (asked .card) (length (cs .cards)) ≡ true) ⊎ (ltb (asked .card) (length (cs .cards)) ≡ false) → ⊥
       go (inl there) =
           over there
-          (or-cases (overruns original (entryOf V1 cs asked) asked (length reply)) (overruns (translation 0) (entryOf V1 cs asked) asked (length reply)) short)
+          (or-cases (reads original asked && ltb (length reply) (entryOf V1 cs asked .original)) (readsTranslation asked && ltb (length reply) (entryOf V1 cs asked .translation)) short)
       go (inr h) = away (formed V1 command) refl h e
 
   -- What holds of both texts of the card and of no text holds of the text read.
-  of-text : (P : List ℕ → Type 0) → P (text original (cardOf V1 cs asked)) → P (text (translation (language asked)) (cardOf V1 cs asked)) → P [] → P (textRead (cardOf V1 cs asked) asked)
-  of-text P o t n = go (reads original asked) (reads (translation (language asked)) asked)
+  of-text : (P : List ℕ → Type 0) → P (text original (cardOf V1 cs asked)) → P (text (translation (asked .language)) (cardOf V1 cs asked)) → P [] → P (textRead (cardOf V1 cs asked) asked)
+  of-text P o t n = go (reads original asked) (readsTranslation asked)
     where
-      go : (a b : Bool) → P (cond a (text original (cardOf V1 cs asked)) (cond b (text (translation (language asked)) (cardOf V1 cs asked)) []))
+      go : (a b : Bool) → P (cond a (text original (cardOf V1 cs asked)) (cond b (text (translation (asked .language)) (cardOf V1 cs asked)) []))
       go true b = o
       go false true = t
       go false false = n
@@ -115,7 +118,7 @@ module _ (cs : Cards) (command reply : List ℕ) (fit : Fit cs reply) where
     fit-by zero e =
         let there = passed V1 cs sent e .exists in
         let card = stored there in
-        let text-bytes = of-text Bytes (card .bytes 0) (card .bytes (suc (language asked))) Bytes-nil in
+        let text-bytes = of-text Bytes (card .bytes 0) (card .bytes (suc (asked .language))) Bytes-nil in
         let short : 0 + length (textRead (cardOf V1 cs asked) asked) ≤ length reply =
         of-text (λ (t : List ℕ). 0 + length t ≤ length reply)
         (omega (arith, within there .original, fit .long))
