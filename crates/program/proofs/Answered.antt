@@ -113,3 +113,23 @@ module _ (input out : List ℕ) where
       (r ≡ length (outputWithin (length out) input)) × (out′ ≡ splice 0 (outputWithin (length out) input) out)
   unfolding outputWithin
   long-enough h p = let t = le-ltb (length out) mostOutput h in (rw t (p .counted ∙ zero-add (length (outputOf input))), rw t (p .written))
+
+-- What is printed of a buffer that is long enough: so many of its bytes are the output.
+pub record Printed (input out : List ℕ) (count : ℕ) : Type 0 where
+  pub within : count ≤ length out
+  pub lends : count ≡ length (take count out)
+  pub text : take count out ≡ outputOf input
+
+pub prints : (input before : List ℕ) {out : List ℕ} {count : ℕ} →
+    count ≡ length (outputWithin (length before) input) → out ≡ splice 0 (outputWithin (length before) input) before → mostOutput ≤ length before → Printed input out count
+unfolding outputWithin splice
+prints input before {out} {count} n w h =
+    let t = le-ltb (length before) mostOutput h in
+    let k : count ≡ length (outputOf input) = n ∙ rw t in
+    let same : out ≡ outputOf input ++ drop (0 + length (outputOf input)) before = w ∙ rw t in
+    let within : count ≤ length out = rw same (rw length-append (omega (arith, k))) in
+    record {
+      within = within;
+      lends = sym (length-take-le count out within);
+      text = ap (take count) same ∙ take-at (outputOf input) (drop (0 + length (outputOf input)) before) count (sym k);
+    }
