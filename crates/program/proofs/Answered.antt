@@ -64,26 +64,30 @@ module _ (input : List ℕ) (d : Dimensions) (is : d ≡ frontOf input) (some : 
         lines = omega (arith, length-drop (d .size) input);
       }
 
-good-output : (input : List ℕ) → length input ≤ mostInput → goodFront input ≡ true →
-    outputOf input ≡ firstLine (countOf input) ++ printed (imageOf input) (blankOf input) (streamOf input)
-unfolding outputOf
-good-output input h e = rw (le-ltb mostInput (length input) h, e)
+module _ (input : List ℕ) where
+  pub long-output : mostInput < length input → outputOf input ≡ quoted "too long\n"
+  unfolding outputOf
+  long-output h = rw (lt-ltb mostInput (length input) h)
+
+  pub bad-output : length input ≤ mostInput → goodFront input ≡ false → outputOf input ≡ quoted "bad store\n"
+  unfolding outputOf
+  bad-output h e = rw (le-ltb mostInput (length input) h, e)
+
+  good-output : length input ≤ mostInput → goodFront input ≡ true →
+      outputOf input ≡ firstLine (countOf input) ++ printed (imageOf input) (blankOf input) (streamOf input)
+  unfolding outputOf
+  good-output h e = rw (le-ltb mostInput (length input) h, e)
 
 module _ (input : List ℕ) {out out′ : List ℕ} {r : ℕ} where
   pub too-long : mostInput < length input → Put 0 9 (quoted "too long\n") out out′ r → Put 0 mostOutput (outputOf input) out out′ r
-  unfolding outputOf
-  too-long h p = rw (lt-ltb mostInput (length input) h) (put-wide (omega arith) p)
+  too-long h p = rw (long-output input h) (put-wide (omega arith) p)
 
   module _ (h : length input ≤ mostInput) where
-    bad : goodFront input ≡ false → Put 0 10 (quoted "bad store\n") out out′ r → Put 0 mostOutput (outputOf input) out out′ r
-    unfolding outputOf
-    bad e p = rw (le-ltb mostInput (length input) h, e) (put-wide (omega arith) p)
-
     pub bad-store : (d : Dimensions) → d ≡ frontOf input → d .size ≡ 0 → Put 0 10 (quoted "bad store\n") out out′ r → Put 0 mostOutput (outputOf input) out out′ r
     bad-store d is z p = go (goodFront input) refl
       where
         go : (b : Bool) → goodFront input ≡ b → Put 0 mostOutput (outputOf input) out out′ r
-        go false e = bad e p
+        go false e = rw (bad-output input h e) (put-wide (omega arith) p)
         go true e =
             let f = good-front input e in
             let none : frontSize input ≡ 0 = sym (ap (λ (d : Dimensions). d .size) is) ∙ z in
