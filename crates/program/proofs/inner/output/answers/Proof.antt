@@ -4,8 +4,8 @@ use native.Mathlib.Omega.{arith}
 use lib.Seq.{length-take-le}
 use Rattle.program.proofs.Answered.{back-of, answered-by}
 use borrow.Author.Needs.{needs}
-use Rattle.program.proofs.inner.batch.answers.Statement.{statement}
-use Rattle.program.proofs.inner.batch.answers.Tie as tie
+use Rattle.program.proofs.inner.output.answers.Statement.{statement}
+use Rattle.program.proofs.inner.output.answers.Tie as tie
 
 slice-aggregate-put : tie.Need-slice-aggregate-put
 slice-aggregate-put c = search needs
@@ -14,9 +14,7 @@ slice-aggregate-put-2 : tie.Need-slice-aggregate-put-2
 slice-aggregate-put-2 c = sym (length-take-le _ _ (c .before .before .before .before .pre .within))
 
 put-requires : tie.Need-put-requires
-put-requires c κs =
-    let lent = length-take-le (c .before .before .before .before .args .size) (c .before .before .before .before .args .input .now) (c .before .before .before .before .pre .within) in
-    omega (arith, lent, c .before .before .before .before .pre .small)
+put-requires c κs = let lent = length-take-le (c .before .before .before .before .args .size) (c .before .before .before .before .args .input .now) (c .before .before .before .before .pre .within) in omega (arith, lent, c .before .before .before .before .pre .small)
 
 array-borrow-prefix-image : tie.Need-array-borrow-prefix-image
 array-borrow-prefix-image c = search needs
@@ -46,11 +44,7 @@ same-length : tie.Need-same-length
 same-length c = search needs
 
 returns : tie.Need-returns
-returns c =
-    let run = c .before .before .before .before .run .ensures in (
-      run .0 ∙ rw (back-of (c .before .before .before .before .before .before .before .before .before .before .before .before .before .before .before .args .size) (c .before .before .before .before .before .before .before .before .before .before .before .before .before .before .before .args .input .now)),
-      answered-by (c .before .before .before .before .before .before .before .before .before .before .before .before .before .before .before .args .size) (c .before .before .before .before .before .before .before .before .before .before .before .before .before .before .before .args .room) (c .before .before .before .before .before .before .before .before .before .before .before .before .before .before .before .args .input .now) _ _ _ _ (c .before .before .before .before .before .before .before .before .before .before .before .before .before .before .before .pre .within) (c .before .before .before .before .before .before .before .before .before .before .before .before .before .before .before .pre .most) (c .before .before .before .before .before .before .before .before .before .before .put .ensures) (run .1 .1 .1),
-    )
+returns c = answered-by (c .before .before .before .before .before .before .before .before .before .before .before .before .before .before .before .args .size) (c .before .before .before .before .before .before .before .before .before .before .before .before .before .before .before .args .room) (c .before .before .before .before .before .before .before .before .before .before .before .before .before .before .before .args .input .now) _ _ (c .before .before .before .before .before .before .before .before .before .before .before .before .before .before .before .pre .within) (c .before .before .before .before .before .before .before .before .before .before .before .before .before .before .before .pre .most) (c .before .before .before .before .before .before .before .before .before .before .put .ensures) (c .before .before .before .before .run .ensures)
 
 pub answers-spec : {M : Type 1} → statement M
 answers-spec =
