@@ -42,7 +42,7 @@ OneStore =
     (v : Format) (n c : ℕ) (lent : ℕ → ℕ) (steps : List Move) →
     course v lent (opening v n c lent) steps .image ≡ imageAfter v (fresh v n c) (reverse (sentBy steps))
 
--- Rule 10.13: no two exclusive proposals for a card carry one exclusive stamp, whichever desks make them.
+-- Rule 10.13: no x stands in two exclusive proposals for a card, whichever desks make them.
 abbrev pub StampsOnce : Type 0
 StampsOnce =
     (v : Format) (n c : ℕ) (lent : ℕ → ℕ) (steps : List Move) → ByRules v n c lent steps →

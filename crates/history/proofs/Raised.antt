@@ -1,7 +1,7 @@
 -- What one more kept command makes of an entry and a text that are worked out from the kept commands: what the guard makes of stored ones.
 -- Assumes nothing.
 use Prim.Native.Nat.{ℕ}
-use mathlib.Core.Path.{_≡_}
+use mathlib.Core.Path.{_≡_, refl}
 use mathlib.Core.List.{List, _∷_}
 use mathlib.Core.Bool.{true, false, cond}
 use Rattle.formats.specs.declared.Format.the-variants.{V1}
@@ -10,6 +10,11 @@ use Rattle.commands.proofs.Languages.{writes-own}
 use Rattle.commands.specs.Bytes.{fieldsOf, payload}
 use Rattle.guard.specs.Judge.{raise}
 use Rattle.history.specs.WorkedOut.{concerns, highest, timesWritten, textFrom, entryFrom}
+
+-- A command of version 1 names translation 0.
+pub names-one : (command : List ℕ) → fieldsOf V1 command .language ≡ 0
+unfolding fieldsOf
+names-one command = refl
 
 -- A command of version 1 writes translation 0 exactly if it writes a translation.
 pub one-translation : (command : List ℕ) → writes (translation 0) (fieldsOf V1 command) ≡ writesTranslation (fieldsOf V1 command)

@@ -10,7 +10,7 @@ use Rattle.guard.specs.Judge.{raise}
 use Rattle.image.specs.Image.{view, noCard}
 use Rattle.model.specs.Serve.{stepped}
 use Rattle.history.specs.WorkedOut.{concerns, highest, timesWritten, textFrom, entryFrom}
-use Rattle.history.proofs.Raised.{entry-here, entry-other, text-here, text-other}
+use Rattle.history.proofs.Raised.{names-one, one-translation, entry-here, entry-other, text-here, text-other}
 use Rattle.history_claims.specs.Claims.{cardFrom}
 
 module _ (kept : List (List ℕ)) (command : List ℕ) (k : ℕ) where
@@ -20,8 +20,8 @@ module _ (kept : List (List ℕ)) (command : List ℕ) (k : ℕ) where
     where
       go : (b : Bool) → writes (translation 0) (fieldsOf V1 command) ≡ b
           → cardFrom (command ∷ kept) k ≡ stepped (cardFrom kept k) (fieldsOf V1 command) (payload V1 command)
-      go true w = rw (entry-here kept command k h, text-here kept command k original h, text-here kept command k (translation 0) h, w)
-      go false w = rw (entry-here kept command k h, text-here kept command k original h, text-here kept command k (translation 0) h, w)
+      go true w = rw (entry-here kept command k h, names-one command, ← one-translation command, text-here kept command k original h, text-here kept command k (translation 0) h, w)
+      go false w = rw (entry-here kept command k h, names-one command, ← one-translation command, text-here kept command k original h, text-here kept command k (translation 0) h, w)
 
   pub card-other : concerns k command ≡ false → cardFrom (command ∷ kept) k ≡ cardFrom kept k
   card-other h = rw (entry-other kept command k h, text-other kept command k _ h, text-other kept command k _ h)

@@ -25,7 +25,7 @@ use Rattle.image.specs.Layout.{shapeOk}
 use Rattle.image.specs.Bytes.{header}
 use Rattle.image.specs.Image.{fresh}
 use Rattle.model.specs.Cases.{readOriginal, long}
-use Rattle.model.specs.Words.{Sent, sentFor}
+use Rattle.model.specs.Words.{Sent}
 use Rattle.model.specs.Claims.{SentBytes, AllBytes}
 use Rattle.history.specs.WorkedOut.{highest, timesWritten, textFrom, entryFrom}
 use Rattle.history.specs.Engine.{overLimits, HISTORY-FULL, guardRows, engineRows, deducedBy, deduced}

@@ -55,7 +55,7 @@ module _ (cs : Cards) (a b : Sent) (apart : Apart a b) where
       record {
         card =
             getD-set-other (cs .cards) (fieldsOf V1 (a .command) .card) (fieldsOf V1 (b .command) .card) (after cs a) (noCard V1)
-            (λ z. apart (passed cs a e .wellFormed) f (sym z));
+            (λ z. apart (passed V1 cs a e .wellFormed) f (sym z));
         count = length-set (cs .cards) (fieldsOf V1 (a .command) .card) (after cs a);
         room = refl;
       }
@@ -86,8 +86,8 @@ pub same-cards : (cs : Cards) (a b : Sent) → Apart a b → (m n : ℕ) → num
 same-cards cs a b apart (suc j) n e f = refl
 same-cards cs a b apart zero (suc j) e f = refl
 same-cards cs a b apart zero zero e f =
-    let fa = passed cs a e .wellFormed in
-    let fb = passed cs b f .wellFormed in
+    let fa = passed V1 cs a e .wellFormed in
+    let fb = passed V1 cs b f .wellFormed in
     let other : Apart b a = λ p q z. apart q p (sym z) in
     rw (alike-after cs a b apart e fb .card, alike-after cs b a other f fa .card)
     (ap (λ (l : List Card). record { room = cs .room; cards = l })

@@ -13,7 +13,6 @@ use Rattle.lists.specs.Parts.{splice}
 use Rattle.lists.specs.Table.{first, settled}
 use Rattle.lists.proofs.Table.{last-given, last-idle}
 use Rattle.lists.proofs.Tests.{cases, or-fails}
-use Rattle.commands.specs.Command.{language}
 use Rattle.commands.specs.Bytes.{fieldsOf, payload, formed}
 use Rattle.commands.proofs.CommandBytes.{length-payload}
 use Rattle.guard.specs.Judge.{raise}
@@ -22,7 +21,7 @@ use Rattle.guard.specs.Replies.{replied}
 use Rattle.image.specs.Image.{Card, Cards, view, noCard}
 use Rattle.image.specs.Image.{freshCards}
 use Rattle.model.specs.Serve.{cardOf, entryOf, requestRows, stepped, answerBy, replyBy}
-use Rattle.model.specs.Words.{Sent, Event}
+use Rattle.model.specs.Words.{Sent, Event, received}
 use Rattle.lists.specs.Search.{any, none}
 use Rattle.model.proofs.Stepped.{seen-named}
 use Rattle.model.proofs.Machine.{numberOn, eventBy, cardsBy, cardsFrom, eventsFrom, Passed, passed, count-kept}
@@ -30,7 +29,7 @@ use Rattle.history.specs.WorkedOut.{entryFrom}
 use Rattle.history.specs.Engine.{overLimits, HISTORY-FULL, guardRows, engineRows, keptBy, readFrom, deducedBy, deduced}
 use Rattle.history_claims.specs.Claims.{cardFrom, keptAfter, engineEvent, engineEvents, gave22}
 use Rattle.history_claims.proofs.Cards.{card-here, card-other, card-none, entry-none}
-use Rattle.history.proofs.Raised.{entry-here, entry-other}
+use Rattle.history.proofs.Raised.{names-one, entry-here, entry-other}
 
 -- The engine shows these cards.
 pub record Shows (n c : ℕ) (kept : List (List ℕ)) (cs : Cards) : Type 0 where
@@ -63,7 +62,7 @@ module _ (n c : ℕ) (kept : List (List ℕ)) (cs : Cards) (shows : Shows n c ke
   card-is h = shows .each place (ltb-true place n h)
 
   entry-is : ltb place n ≡ true → entryOf V1 cs (fieldsOf V1 (s .command)) ≡ entryFrom kept place
-  entry-is h = shows .entries place (ltb-true place n h)
+  entry-is h = ap (λ (t : ℕ). view t (cardOf V1 cs (fieldsOf V1 (s .command)))) (names-one (s .command)) ∙ shows .entries place (ltb-true place n h)
 
   -- The event's number is the table's.
   pub number-is : deduced n c kept (s .command) (s .lent) .answer .number ≡ number
@@ -92,7 +91,7 @@ module _ (n c : ℕ) (kept : List (List ℕ)) (cs : Cards) (shows : Shows n c ke
 
   pub full-entry : number ≡ HISTORY-FULL → entryFrom kept place ≡ entryOf V1 cs (fieldsOf V1 (s .command))
   full-entry h =
-      let there = passed cs s (full-accepted h) .exists in
+      let there = passed V1 cs s (full-accepted h) .exists in
       sym (entry-is (sym (ap (ltb place) (shows .count)) ∙ there))
 
   -- The answer and the text read, where the card is there.
@@ -105,7 +104,7 @@ module _ (n c : ℕ) (kept : List (List ℕ)) (cs : Cards) (shows : Shows n c ke
 
   reply-is : (m : ℕ) → ltb place n ≡ true
       → settled m (splice 0 (readFrom kept (fieldsOf V1 (s .command))) (s .lent)) (s .lent) ≡ replyBy V1 m cs (s .command) (s .lent)
-  reply-is m p = rw (card-is p)
+  reply-is m p = rw (card-is p, names-one (s .command))
 
   -- The event, by the number of the table of cards.
   event-by : (m : ℕ) → numberOn V1 cs s ≡ m → engineEvent s (deducedBy m kept (s .command) (s .lent)) ≡ eventBy V1 m cs s
@@ -116,20 +115,20 @@ module _ (n c : ℕ) (kept : List (List ℕ)) (cs : Cards) (shows : Shows n c ke
           → engineEvent s (deducedBy m kept (s .command) (s .lent)) ≡ eventBy V1 m cs s
       go m e (inr f) p = let one : 1 ≡ m = sym (rw f) ∙ e in rw (← one)
       go m e (inl f) (inr p) = let two : 2 ≡ m = sym (rw (f, shows .count, p)) ∙ e in rw (← two)
-      go m e (inl f) (inl p) = λ i. record { sent = s; answer = answer-is m p i; reply = reply-is m p i }
+      go m e (inl f) (inl p) = λ i. record { sent = s; read = received V1 s; answer = answer-is m p i; reply = reply-is m p i }
 
   pub same-event : number ≢ HISTORY-FULL → engineEvent s (deduced n c kept (s .command) (s .lent)) ≡ eventBy V1 (numberOn V1 cs s) cs s
   unfolding deduced
-  same-event V1 h = rw (same-number h) (event-by (numberOn V1 cs s) refl)
+  same-event h = rw (same-number h) (event-by (numberOn V1 cs s) refl)
 
   -- The cards after it.
   shows-by : (m : ℕ) → numberOn V1 cs s ≡ m → Shows n c (keptBy m kept (s .command)) (cardsBy V1 m cs s)
   shows-by (suc j) e = shows
   shows-by zero e =
-      record { count = count-kept 0 cs s ∙ shows .count; room = shows .room; each = each; entries = entries }
+      record { count = count-kept V1 0 cs s ∙ shows .count; room = shows .room; each = each; entries = entries }
     where
       known : Passed V1 cs s
-      known = passed cs s e
+      known = passed V1 cs s e
 
       after : Card
       after = stepped (cardOf V1 cs (fieldsOf V1 (s .command))) (fieldsOf V1 (s .command)) (payload V1 (s .command))
@@ -138,13 +137,14 @@ module _ (n c : ℕ) (kept : List (List ℕ)) (cs : Cards) (shows : Shows n c ke
       there = ltb-true place (length (cs .cards)) (known .exists)
 
       -- The card that the command names has the translation that it names.
-      has : language (fieldsOf V1 (s .command)) < length (cardOf V1 cs (fieldsOf V1 (s .command)) .translated)
-      has = rw (shows .each place (rw (shows .count) at there)) (lit< tt)
+      has : fieldsOf V1 (s .command) .language < length (cardOf V1 cs (fieldsOf V1 (s .command)) .translated)
+      has = rw (names-one (s .command), shows .each place (rw (shows .count) at there)) (lit< tt)
 
       raised : view 0 after ≡ entryFrom (s .command ∷ kept) place
       raised =
-          seen-named (cardOf V1 cs (fieldsOf V1 (s .command))) (fieldsOf V1 (s .command)) (payload V1 (s .command)) has (length-payload V1 (s .command) (known .wellFormed))
-          ∙ ap (λ (e : Entry). raise e (fieldsOf V1 (s .command))) (shows .entries place (rw (shows .count) at there))
+          ap (λ (t : ℕ). view t after) (sym (names-one (s .command)))
+          ∙ seen-named (cardOf V1 cs (fieldsOf V1 (s .command))) (fieldsOf V1 (s .command)) (payload V1 (s .command)) has (length-payload V1 (s .command) (known .wellFormed))
+          ∙ ap (λ (e : Entry). raise e (fieldsOf V1 (s .command))) (ap (λ (t : ℕ). view t (cardOf V1 cs (fieldsOf V1 (s .command)))) (names-one (s .command)) ∙ shows .entries place (rw (shows .count) at there))
           ∙ sym (entry-here kept (s .command) place (eq-eqb place place refl))
 
       entries : (k : ℕ) → k < n → view 0 (getD (set (cs .cards) place after) k (noCard V1)) ≡ entryFrom (s .command ∷ kept) k
@@ -188,7 +188,7 @@ module _ (n c : ℕ) (start : Cards) (fresh : Shows n c [] start) where
 
   pub together : (sent : List Sent) → none gave22 (engineEvents n c sent) ≡ true → Together sent
   unfolding engineEvents keptAfter eventsFrom cardsFrom
-  together [] h = record { log = refl; cards = fresh V1 }
+  together [] h = record { log = refl; cards = fresh }
   together (s ∷ earlier) h =
       let kept : List (List ℕ) = keptAfter n c earlier in
       let both = or-fails (gave22 (engineEvent s (deduced n c kept (s .command) (s .lent)))) (any gave22 (engineEvents n c earlier)) (not-true _ h) in
@@ -197,7 +197,7 @@ module _ (n c : ℕ) (start : Cards) (fresh : Shows n c [] start) where
       λ z. eqb-false _ HISTORY-FULL (both .0) (number-is n c kept (cardsFrom V1 start earlier) (rest .cards) s ∙ z) in
       record {
         log =
-            ap (λ (e : Event). e ∷ engineEvents n c earlier) (same-event V1 n c kept (cardsFrom V1 start earlier) (rest .cards) s other)
+            ap (λ (e : Event). e ∷ engineEvents n c earlier) (same-event n c kept (cardsFrom V1 start earlier) (rest .cards) s other)
             ∙ ap (λ (l : List Event). eventBy V1 (numberOn V1 (cardsFrom V1 start earlier) s) (cardsFrom V1 start earlier) s ∷ l) (rest .log);
         cards = shows-more n c kept (cardsFrom V1 start earlier) (rest .cards) s other;
       }

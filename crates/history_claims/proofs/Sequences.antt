@@ -13,9 +13,9 @@ use Rattle.lists.proofs.Tests.{cases, never-both, and-left, and-right, and-in, 
 use Rattle.commands.specs.Bytes.{fieldsOf, formed}
 use Rattle.image.specs.Image.{sound}
 use Rattle.model.specs.Serve.{serve, serveBy}
-use Rattle.model.specs.Words.{Sent, Event, eventOf, imageAfter, history, sentFor}
+use Rattle.model.specs.Words.{Sent, Event, eventOf, imageAfter, history}
 use Rattle.model.specs.Claims.{SentBytes, AllBytes}
-use Rattle.history_claims.specs.Swaps.{swap, Apart, SameSequences, eventFor, SameByCard, Sequences}
+use Rattle.history_claims.specs.Swaps.{swap, Apart, sentFor, SameSequences, eventFor, SameByCard, Sequences}
 use Rattle.history_claims.proofs.Swaps.{imageBy, event, unsound-image, swapping}
 
 -- ---- those elements of a list
@@ -161,7 +161,7 @@ idle start (s ∷ b) h = go (cases (formed V1 (s .command))) (idle start b)
         let rest = more (λ k. h k ∙ those-past (sentFor k) b (unseen k s f)) in
         record {
           image = rest .image ∙ sym (malformed-image (imageAfter V1 start b) s f);
-          events = λ k. rest .events k ∙ sym (those-past (eventFor k) (history V1 start b) (unseen k s f));
+          events = λ k. rest .events k ∙ sym (those-past (eventFor k) {x = eventOf V1 s (serve V1 (imageAfter V1 start b) (s .command) (s .lent))} (history V1 start b) (unseen k s f));
         }
 
 -- The sequences are the same without the request that was moved.
@@ -205,7 +205,7 @@ sequences start bs (s ∷ a) b ba bb h = go (cases (formed V1 (s .command))) (λ
         let rest = more b bb (λ k. sym (those-past (sentFor k) a (unseen k s f)) ∙ h k) in
         record {
           image = malformed-image (imageAfter V1 start a) s f ∙ rest .image;
-          events = λ k. those-past (eventFor k) (history V1 start a) (unseen k s f) ∙ rest .events k;
+          events = λ k. those-past (eventFor k) {x = eventOf V1 s (serve V1 (imageAfter V1 start a) (s .command) (s .lent))} (history V1 start a) (unseen k s f) ∙ rest .events k;
         }
     go (inl f) more =
         let k : ℕ = fieldsOf V1 (s .command) .card in

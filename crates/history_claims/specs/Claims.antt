@@ -10,14 +10,14 @@ use lib.Dec.{T, eqb}
 use Rattle.formats.specs.declared.Format.the-variants.{V1}
 use Rattle.lists.specs.Parts.{table}
 use Rattle.lists.specs.Search.{none, those}
-use Rattle.lists.specs.Table.{applies, earlier, noRow}
+use Rattle.lists.specs.Table.{applies, earlier, noRow, listed}
 use Rattle.commands.specs.Command.{original, translation}
 use Rattle.commands.specs.Bytes.{fieldsOf}
 use Rattle.guard.specs.Replies.{replied}
 use Rattle.image.specs.Layout.{shapeOk}
 use Rattle.image.specs.Image.{fresh, Card, Cards, decode}
 use Rattle.model.specs.Serve.{entryOf, serve}
-use Rattle.model.specs.Words.{Sent, Event, imageAfter, logOf}
+use Rattle.model.specs.Words.{Sent, Event, imageAfter, logOf, received}
 use Rattle.model.specs.Claims.{SentBytes, AllBytes}
 use Rattle.history.specs.WorkedOut.{entryFrom, textFrom}
 use Rattle.history.specs.Engine.{overLimits, HISTORY-FULL, Deduced, guardRows, engineRows, deduced}
@@ -31,7 +31,7 @@ keptAfter n c (s ∷ earlier) = deduced n c (keptAfter n c earlier) (s .command)
 
 -- What a sender sees of a request to the engine.
 abbrev pub engineEvent : Sent → Deduced → Event
-engineEvent s d = record { sent = s; answer = d .answer; reply = d .reply }
+engineEvent s d = record { sent = s; read = received V1 s; answer = d .answer; reply = d .reply }
 
 -- The events of requests, both latest first.
 unfoldable pub engineEvents : ℕ → ℕ → List Sent → List Event
@@ -124,3 +124,12 @@ pub record EngineNumber (n c : ℕ) (kept : List (List ℕ)) (command reply : Li
 
 abbrev pub EngineNumbers : Type 0
 EngineNumbers = (n c : ℕ) (kept : List (List ℕ)) (command reply : List ℕ) → EngineNumber n c kept command reply
+
+-- Rule 5.1: what the engine may answer, besides 0.
+abbrev pub historyNumbers : List ℕ
+historyNumbers = 1 ∷ 2 ∷ 3 ∷ 4 ∷ 5 ∷ 6 ∷ 7 ∷ 8 ∷ 17 ∷ 22 ∷ []
+
+abbrev pub EngineListed : Type 0
+EngineListed =
+    (n c : ℕ) (kept : List (List ℕ)) (command reply : List ℕ)
+    → T (listed historyNumbers (deduced n c kept command reply .answer .number))

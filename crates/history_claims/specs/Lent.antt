@@ -10,7 +10,7 @@ use Rattle.formats.specs.declared.Format.the-variants.{V1}
 use Rattle.lists.specs.Search.{none}
 use Rattle.image.specs.Layout.{shapeOk}
 use Rattle.image.specs.Image.{fresh, decode}
-use Rattle.model.specs.Words.{Sent, Event, imageAfter, logOf}
+use Rattle.model.specs.Words.{Sent, Event, imageAfter, logOf, received}
 use Rattle.model.specs.Claims.{AllBytes}
 use Rattle.history.specs.Engine.{deduced}
 use Rattle.history.specs.Lent.{historySize, keptIn, HistoryOutcome, historyServe}
@@ -48,6 +48,7 @@ eventsOver n c bytes [] = []
 eventsOver n c bytes (s ∷ earlier) =
     record {
       sent = s;
+      read = received V1 s;
       answer = servedFrom n c (heldAfter n c bytes earlier) s .answer;
       reply = servedFrom n c (heldAfter n c bytes earlier) s .reply;
     }

@@ -9,7 +9,7 @@ use Rattle.formats.specs.declared.Format.the-variants.{V1}
 use Rattle.lists.specs.Parts.{Bytes}
 use Rattle.lists.specs.Search.{those}
 use Rattle.commands.specs.Bytes.{fieldsOf, formed}
-use Rattle.model.specs.Words.{Sent, Event, imageAfter, history, sentFor}
+use Rattle.model.specs.Words.{Sent, Event, imageAfter, history, received, formedFor}
 use Rattle.model.specs.Claims.{AllBytes}
 
 -- ---- two neighbours swapped (rule 14.12)
@@ -47,13 +47,17 @@ Swapping = (start : List ℕ) → Bytes start → (sent : List Sent) → AllByte
 
 -- ---- the order among cards (rule 14.13)
 
+-- A well-formed request for card k.
+abbrev pub sentFor : ℕ → Sent → Bool
+sentFor k s = formedFor k (received V1 s)
+
 -- Two lists have the same sequence of requests for each card. Malformed ones do not count.
 abbrev pub SameSequences : List Sent → List Sent → Type 0
 SameSequences a b = (k : ℕ) → those (sentFor k) a ≡ those (sentFor k) b
 
 -- An event of a well-formed request for card k.
 abbrev pub eventFor : ℕ → Event → Bool
-eventFor k e = sentFor k (e .sent)
+eventFor k e = formedFor k (e .read)
 
 -- Then they leave the same image, and the requests for each card see the same, one by one.
 pub record SameByCard (start : List ℕ) (a b : List Sent) : Type 0 where

@@ -3,7 +3,7 @@ use Prim.Native.Nat.{ℕ, zero, suc, _+_, _*_, _-_, _/_, _<_}
 use native.Mathlib.Omega.{arith}
 use mathlib.Core.Path.{_≡_, refl, sym, ap, _∙_, subst}
 use mathlib.Core.List.{List, [], append-assoc}
-use mathlib.Core.Bool.{true, false}
+use mathlib.Core.Bool.{Bool, true, false}
 use borrow.Author.Tests.{eqb-true, ne-eqb}
 use lib.Dec.{T, eqb, lit<, leb·zero}
 use lib.ListN.{length, drop, getD, replicate, length-replicate, getD-replicate, replicate-append-replicate, List·getD-eq-default}
@@ -12,7 +12,7 @@ use Rattle.lists.specs.Parts.{spread, table, Bytes}
 use Rattle.lists.specs.Le.{toLe, field}
 use Rattle.lists.proofs.Spread.{table-ext, table-is, spread-replicate}
 use Rattle.lists.proofs.Tests.{to-T, from-T, all-out, all-fails-at}
-use Rattle.lists.specs.Table.{all, allFrom}
+use Rattle.lists.specs.Table.{all, allFrom, listed}
 use Rattle.lists.proofs.Bytes.{Bytes-nil, zeros-at, zeros-replicate}
 use Rattle.guard.specs.Entry.{entrySound, noEntry, FitsEntry}
 use Rattle.guard.specs.declared.Entry.{Entry}
@@ -21,8 +21,8 @@ use Rattle.formats.specs.declared.Format.the-variants.{V1, V2}
 use Rattle.formats.specs.Format.{version, entrySize, translations}
 use Rattle.image.specs.Layout.{sides, shapeOk, sizeOf, headerSize}
 use Rattle.image.specs.Bytes.{header, entryBytes, pad, countOf}
-use Rattle.image.specs.Image.{Card, Translation, translationOf, noTranslation, view, sideText, noCard, cardEntry, bodies, encode, cardAt, decode, headerSound, sound, fresh, GoodCard, GoodCards, freshCards}
-use Rattle.image_claims.specs.Claims.{SoundReadsBack, GoodEncodes, OneImage, OneVersion, FreshSound, LargestImage}
+use Rattle.image.specs.Image.{Card, Translation, translationOf, noTranslation, view, sideText, noCard, cardEntry, bodies, encode, cardAt, decode, headerSound, sound, fresh, GoodCard, GoodCards, freshCards, makes, makeNumber}
+use Rattle.image_claims.specs.Claims.{SoundReadsBack, GoodEncodes, OneImage, OneVersion, FreshSound, LargestImage, makeNumbers, MakeListed}
 use Rattle.image.proofs.Shape.{shape}
 use Rattle.image.proofs.Cards.{Bytes-encode, sound-encode, decode-encode}
 use Rattle.image.proofs.Encode.{length-header, length-encode}
@@ -116,6 +116,15 @@ pub largest-image : LargestImage
 largest-image n c ok =
     let w = shape V1 n c (from-T (shapeOk V1 n c) ok) in
     let sixteens : c ≡ 16 * (c / 16) = let step = w .steps in omega arith in
-    let long : (sizeOf V1) n c ≡ 16 + 32 * (n + c / 16 * n) = ap (sizeOf V1 n) sixteens ∙ thirty-twos n (c / 16) in
+    let long : sizeOf V1 n c ≡ 16 + 32 * (n + c / 16 * n) = ap (sizeOf V1 n) sixteens ∙ thirty-twos n (c / 16) in
     let within = w .size in
     record { past-32 = omega (arith, long); most = omega (arith, long, within) }
+
+-- ---- the numbers
+
+pub make-listed : MakeListed
+make-listed f n c lent = go (makes f n c lent) refl
+  where
+    go : (made : Bool) → makes f n c lent ≡ made → T (listed makeNumbers (makeNumber f n c lent))
+    go true e = rw e tt
+    go false e = rw e tt

@@ -101,7 +101,7 @@ lapsing lent q r =
 abbrev pub blankAnswer : ℕ → Bool
 blankAnswer number = eqb number BAD-QUEUE || eqb number MALFORMED
 
--- Rule 7.14: holding and the largest pair as the queue now is; how many entries were looked at, in the queue as it was.
+-- Rule 7.14: who holds and the largest pair, of the queue after the request; how many entries were looked at, of the queue before it.
 unfoldable pub answered : ℕ → ℕ → State → State → LockAnswer
 answered number d entry exit =
     record {

@@ -1,4 +1,5 @@
 pub mod Log
 pub mod Served
+pub mod Numerals
 pub mod Claims
 pub mod Cases

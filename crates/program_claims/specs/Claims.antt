@@ -1,12 +1,13 @@
--- What is claimed of a run, and of the program's (rules 8.5 and 9.1).
+-- What is claimed of a run, and of the program's output (rules 8.4, 8.5 and 9.1).
 -- Assumes nothing.
-use Prim.Native.Nat.{ℕ, _*_, _<_}
+use Prim.Native.Nat.{ℕ, _+_, _-_, _*_, _≤_, _<_}
 use mathlib.Core.Path.{_≡_}
 use mathlib.Core.List.{List, [], _∷_, _++_, map, reverse}
 use mathlib.Core.Bool.{true}
 use lib.Dec.{T, eqb}
-use lib.ListN.{length, take, getD, replicate}
-use Rattle.lists.specs.Parts.{part, Bytes}
+use lib.ListN.{length, take, drop, getD, replicate}
+use Rattle.formats.specs.declared.Format.the-variants.{V1}
+use Rattle.lists.specs.Parts.{Bytes}
 use Rattle.guard.specs.declared.Answer.{Answer}
 use Rattle.image.specs.Layout.{shapeOk}
 use Rattle.image.specs.Image.{sound, fresh}
@@ -16,17 +17,20 @@ use Rattle.lists.specs.Search.{none}
 use Rattle.model.specs.Claims.{Claim}
 use Rattle.stream.specs.Stream.{commands}
 use Rattle.image.specs.Image.{goodFront}
-use Rattle.program.specs.Program.{numbersOf, perLine, runs, printed, runOf}
+use Rattle.program.specs.Text.{decimal}
+use Rattle.program.specs.Program.{lineOf, linesFrom, runs, runOf, outputOf}
 
 -- The answers of a run are those of judging command by command: one for each command, and each is the store's, on the image and the reply
 -- buffer as the commands before leave them.
 pub record Stepwise (image reply : List ℕ) (cs : List (List ℕ)) : Type 0 where
   pub whole : length (runs image reply cs .answers) ≡ length cs
   pub each : (i : ℕ) (none : Answer) → i < length cs →
-      getD (runs image reply cs .answers) i none ≡ serve (runs image reply (take i cs) .image) (getD cs i []) (runs image reply (take i cs) .reply) .answer
-  -- Line i, counted from 0, has the numbers of answer i.
+      getD (runs image reply cs .answers) i none ≡ serve V1 (runs image reply (take i cs) .image) (getD cs i []) (runs image reply (take i cs) .reply) .answer
+  -- Line i, counted from 0, stands behind the lines of the first i commands, and shows its place, counted from 1, and answer i.
   pub lines : (i : ℕ) (none : Answer) → i < length cs →
-      part (i * perLine) perLine (printed (runs image reply cs)) ≡ numbersOf (getD (runs image reply cs .answers) i none)
+      linesFrom 1 (runs image reply cs .answers)
+      ≡ linesFrom 1 (runs image reply (take i cs) .answers)
+      ++ (lineOf (i + 1) (getD (runs image reply cs .answers) i none) ++ linesFrom (i + 2) (drop (i + 1) (runs image reply cs .answers)))
 
 -- ---- a run and the log that demand 3 speaks of
 
@@ -34,11 +38,11 @@ pub record Stepwise (image reply : List ℕ) (cs : List (List ℕ)) : Type 0 whe
 unfoldable pub requests : List ℕ → List ℕ → List (List ℕ) → List Sent
 requests image reply [] = []
 requests image reply (c ∷ cs) =
-    record { command = c; lent = reply } ∷ requests (serve image c reply .image) (serve image c reply .reply) cs
+    record { command = c; lent = reply } ∷ requests (serve V1 image c reply .image) (serve V1 image c reply .reply) cs
 
 -- Their log from the same image, latest first.
 abbrev pub logged : List ℕ → List ℕ → List (List ℕ) → List Event
-logged image reply cs = history image (reverse (requests image reply cs))
+logged image reply cs = history V1 image (reverse (requests image reply cs))
 
 -- A run is the log of its requests.
 pub record Logged (image reply : List ℕ) (cs : List (List ℕ)) : Type 0 where
@@ -51,14 +55,14 @@ pub record Logged (image reply : List ℕ) (cs : List (List ℕ)) : Type 0 where
       ≡ reply ∷ map (λ (e : Event). e .reply) (reverse (logged image reply cs))
   -- the answers are those of the log, in order, and the image is left as the requests leave it
   pub answers : runs image reply cs .answers ≡ map (λ (e : Event). e .answer) (reverse (logged image reply cs))
-  pub leaves : runs image reply cs .image ≡ imageAfter image (reverse (requests image reply cs))
+  pub leaves : runs image reply cs .image ≡ imageAfter V1 image (reverse (requests image reply cs))
 
 -- So demand 3 speaks of the program: every sentence of it holds of the log of a stream's commands behind a fresh image, with a reply buffer of C
 -- zeros.
 abbrev pub Guarded : Type 0
 Guarded =
-    (n c : ℕ) (stream : List ℕ) → T (shapeOk n c) → Bytes stream
-    → Claim n (requests (fresh n c) (replicate c 0) (commands stream)) (logged (fresh n c) (replicate c 0) (commands stream))
+    (n c : ℕ) (stream : List ℕ) → T (shapeOk V1 n c) → Bytes stream
+    → Claim n (requests (fresh V1 n c) (replicate c 0) (commands stream)) (logged (fresh V1 n c) (replicate c 0) (commands stream))
 
 -- ---- the program on a good store
 
@@ -67,13 +71,32 @@ Guarded =
 pub record Served (input : List ℕ) : Type 0 where
   pub never-9 : none (λ (a : Answer). eqb (a .number) 9) (runOf input .answers) ≡ true
   pub never-8 : none (λ (a : Answer). eqb (a .number) 8) (runOf input .answers) ≡ true
-  pub stays : sound (runOf input .image) ≡ true
+  pub stays : sound V1 (runOf input .image) ≡ true
 
 abbrev pub Serves : Type 0
 Serves = (input : List ℕ) → Bytes input → goodFront input ≡ true → Served input
+
+-- ---- what is printed
+
+-- The number that digits stand for, read from the left behind what was read so far.
+unfoldable pub readOn : ℕ → List ℕ → ℕ
+readOn sum [] = sum
+readOn sum (d ∷ ds) = readOn (sum * 10 + (d - 48)) ds
+
+-- A number in decimal can be read back, each byte of it is a digit, and only 0 begins with a zero.
+pub record Numeral (n : ℕ) : Type 0 where
+  pub back : readOn 0 (decimal n) ≡ n
+  pub each : (i : ℕ) → i < length (decimal n) → (48 ≤ getD (decimal n) i 0) × (getD (decimal n) i 0 ≤ 57)
+  pub front : 0 < n → 48 < getD (decimal n) 0 0
+
+-- No output is empty. So where nothing is written, because too few bytes were lent, the count tells it.
+abbrev pub NeverEmpty : Type 0
+NeverEmpty = (input : List ℕ) → 0 < length (outputOf input)
 
 pub record ProgramClaims : Type 0 where
   pub stepwise : (image reply : List ℕ) (cs : List (List ℕ)) → Stepwise image reply cs
   pub logs : (image reply : List ℕ) (cs : List (List ℕ)) → Logged image reply cs
   pub guarded : Guarded
   pub serves : Serves
+  pub numerals : (n : ℕ) → Numeral n
+  pub never-empty : NeverEmpty

@@ -1,6 +1,6 @@
 -- What is claimed of recovery. Proved in proofs/.
 -- Assumes nothing.
-use Prim.Native.Nat.{ℕ, zero, suc}
+use Prim.Native.Nat.{ℕ, zero, suc, _≤_}
 use mathlib.Core.Path.{_≡_}
 use mathlib.Core.Logic.{_⊎_, _↔_}
 use mathlib.Core.List.{List, [], _∷_, _++_, reverse}
@@ -49,6 +49,12 @@ pub record Recovers (pairs : Pairs) (log image : List ℕ) : Type 0 where
 
 abbrev pub RecoversAll : Type 0
 RecoversAll = (pairs : Pairs) (log image : List ℕ) → Recovers pairs log image
+
+-- Rule 5.1: recovery answers a number of the store or 23.
+abbrev pub RecoveryListed : Type 0
+RecoveryListed =
+    (pairs : Pairs) (log image : List ℕ)
+    → ((recovered pairs log image .number ≤ 9) ⊎ (recovered pairs log image .number ≡ 17)) ⊎ (recovered pairs log image .number ≡ 23)
 
 -- ---- recovery's requests stand in demand 3's list (rule 11.20)
 

@@ -99,7 +99,7 @@ recoveryStep i s r =
       sent = s ∷ r .sent;
     }
 
--- Rule 11.18, after the first i records: one request for each that is due, on the image as the one before left it, up to the first that is refused.
+-- Rule 11.18, after the first i records: one request for each that is due, on the image that the one before it left, up to the first that is refused.
 unfoldable pub recovering : Pairs → List LogRecord → List ℕ → ℕ → Recovery
 recovering pairs rs image zero = record { number = 0; line = 0; image = image; sent = [] }
 recovering pairs rs image (suc i) =

@@ -69,7 +69,7 @@ appendRows budget log r =
 abbrev pub appendNumber : ℕ → List ℕ → LogRecord → ℕ
 appendNumber budget log r = first (appendRows budget log r)
 
--- The log that an append leaves: as it was after 23 and 24, else as it is after the first so many stores (rule 11.12).
+-- The log that an append leaves (rule 11.12): as it was after 23 and 24, else as the first stores leave it, as many as the budget has.
 unfoldable pub appended : ℕ → List ℕ → LogRecord → List ℕ
 appended budget log r =
     cond (eqb (appendNumber budget log r) BAD-LOG || eqb (appendNumber budget log r) LOG-FULL) log (stored (take budget (stores log r)) log)

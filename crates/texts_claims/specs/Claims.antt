@@ -3,10 +3,11 @@
 use Prim.Native.Nat.{ℕ, _+_, _≤_}
 use mathlib.Core.Path.{_≡_}
 use mathlib.Core.Logic.{_↔_}
-use mathlib.Core.List.{List, [], _++_}
+use mathlib.Core.List.{List, [], _∷_, _++_}
 use mathlib.Core.Option.{Option, none, some}
 use lib.Dec.{T}
 use lib.ListN.{length}
+use Rattle.lists.specs.Table.{listed}
 use Rattle.texts.specs.Text.{Section, stepsBytes, Says, WellFormedText}
 use Rattle.texts.specs.Agree.{agreeSteps, unmatched, Verdict, Compared}
 
@@ -46,6 +47,10 @@ pub record VerdictExactly (a b : List ℕ) (v : Verdict) : Type 0 where
   pub inside : v .number ≡ 20 → (2 ≤ v .place) × (v .place ≤ length a)
   pub placeless : (v .number ≡ 20 → ⊥) → v .place ≡ 0
 
+-- Rule 5.1: what a comparison may answer, besides 0.
+abbrev pub compareNumbers : List ℕ
+compareNumbers = 18 ∷ 19 ∷ 20 ∷ []
+
 -- All of it.
 pub record TextClaims : Type 0 where
   pub oneReading : OneReading
@@ -54,3 +59,4 @@ pub record TextClaims : Type 0 where
   pub placeInside : PlaceInside
   pub oneVerdict : OneVerdict
   pub exactly : (a b : List ℕ) (v : Verdict) → Compared a b v → VerdictExactly a b v
+  pub numbers : (a b : List ℕ) (v : Verdict) → Compared a b v → T (listed compareNumbers (v .number))

@@ -1,5 +1,5 @@
-//! `compare test` runs a fixed seed and 4,000,000 cases; `compare soak
-//! N` runs N cases, 500,000 at the least, with a new seed, which it prints.
+//! `compare test` runs a fixed seed and 8,000,000 cases; `compare soak
+//! N` runs N cases, 1,000,000 at the least, with a new seed, which it prints.
 //! `compare seed S N` runs any seed again. Each prints the coverage table at
 //! its end, and fails at the first difference, and where a number or a kind of
 //! the table never came.
@@ -10,7 +10,7 @@ use std::time::{Instant, SystemTime, UNIX_EPOCH};
 use compare::coverage::Run;
 use compare::run::Compared;
 use compare::{
-    answers, conversions, desks, history, images, languages, lapses, lists, logs, program,
+    answers, conversions, desks, history, images, languages, lapses, lists, logs, outputs, program,
     proposals, queues, streams, swaps, systems, texts, trials, upgrades,
 };
 use second::random::Random;
@@ -18,11 +18,11 @@ use second::Format;
 
 /// The fixed seed and the cases of `make test`, and its inputs to the program.
 const SEED: u64 = 1;
-const CASES: u64 = 4_000_000;
+const CASES: u64 = 8_000_000;
 const INPUTS: u64 = 10_000;
 
 /// The fewest cases, in which every kind of the table comes.
-const LEAST: u64 = 500_000;
+const LEAST: u64 = 1_000_000;
 
 fn main() -> ExitCode {
     let words: Vec<String> = std::env::args().skip(1).collect();
@@ -76,6 +76,7 @@ fn compared(run: &mut Run, seed: u64, cases: u64, inputs: u64) -> Compared<()> {
         }
     }
     texts::ties(run)?;
+    outputs::any(run, &mut random, inputs)?;
     program::any(run, &mut random, inputs)?;
     let seconds = started.elapsed().as_secs();
     println!("compare: {} cases, {seconds} s", run.cases);
