@@ -1,6 +1,7 @@
 // The library for Rust and C: each function is exported under its plain name, takes any input, and answers what the libraries answer.
 // A slice is a pointer and a length, a reference to a number or to an array a pointer.
 pub mod agree;
+pub mod conversion;
 pub mod desks;
 pub mod histories;
 pub mod images;
