@@ -31,7 +31,7 @@ uint8_t lupaniele_ask(uint8_t modes[32], uint64_t s[32], uint64_t x[32], uint64_
 uint8_t lupaniele_leave(uint8_t modes[32], uint64_t s[32], uint64_t x[32], uint64_t kept[3], uint64_t places,
                         uint32_t desk, uint64_t fields[4]);
 
-/* A desk that fell silent (rules 13.1 to 13.9), by its desk and start, leaves the queue once its lease is over: period and
+/* A desk that fell silent (rules 13.1 to 13.8), by its desk and start, leaves the queue once its lease is over: period and
    drift are its lease term (rule 13.3), begin and now the time since when it is held failed and the time now (rule 13.4).
    0, 10, 21, 15 or 25 (rule 13.5); all else is as for leaving. */
 uint8_t lupaniele_lapse(uint8_t modes[32], uint64_t s[32], uint64_t x[32], uint64_t kept[3], uint64_t places,

@@ -41,7 +41,7 @@ OneStore =
     (n c : ℕ) (lent : ℕ → ℕ) (steps : List Move) →
     course lent (opening n c lent) steps .image ≡ imageAfter (fresh n c) (reverse (sentBy steps))
 
--- Rule 10.13: no two exclusive proposals for a card carry one exclusive stamp, whichever desks make them.
+-- Rule 10.13: no x stands in two exclusive proposals for a card, whichever desks make them.
 abbrev pub StampsOnce : Type 0
 StampsOnce =
     (n c : ℕ) (lent : ℕ → ℕ) (steps : List Move) → ByRules n c lent steps →

@@ -1,13 +1,13 @@
 -- The claims of specs/Claims, proved. Assumes nothing.
 use Prim.Native.Nat.{ℕ}
-use mathlib.Core.Path.{_≡_, ap}
+use mathlib.Core.Path.{_≡_, refl, ap}
 use mathlib.Core.Bool.{Bool, _||_}
 use lib.ListN.{drop, take-append-drop}
 use lib.Seq.{length-take-le}
-use Rattle.lists.specs.Table.{first, settled}
-use Rattle.lists.proofs.Table.{given, unapplied, settled-old}
+use Rattle.lists.specs.Table.{first, settled, listed}
+use Rattle.lists.proofs.Table.{given, unapplied, settled-old, first-all}
 use Rattle.desk.specs.Show.{Text, of, beyond, behindAsked, showRows, deskRows, shownNumber}
-use Rattle.desk.specs.Claims.{ShownExactly, Prefix, Alike, Independent, DeskClaims}
+use Rattle.desk.specs.Claims.{ShownExactly, Prefix, Alike, Independent, shownNumbers, DeskClaims, AlikeCases}
 use Rattle.desk.specs.declared.Asked.{Asked}
 use Rattle.desk.specs.declared.Asked.the-variants.{Original, Translation}
 use Rattle.desk.proofs.Show.{fits}
@@ -41,4 +41,19 @@ independent asked o t o' t' edition from a =
     record { number = number; part = rw (a .same, number) }
 
 pub claims : DeskClaims
-claims = record { exactly = exactly; prefix = prefix; independent = independent }
+claims =
+    record {
+      exactly = exactly;
+      prefix = prefix;
+      independent = independent;
+      numbers = λ o t edition from asked. first-all (listed shownNumbers) (deskRows o t edition from asked) tt tt;
+    }
+
+pub alike-cases : AlikeCases
+alike-cases =
+    record {
+      originals = record { same = refl; size = refl; long = refl };
+      translations = record { same = refl; size = refl; long = refl };
+      shows-original = refl;
+      shows-translation = refl;
+    }

@@ -2,7 +2,7 @@ ghost use mathlib.Core.Path.{_≡_};
 ghost use Rattle.drops.specs.Drop.{dropOf, scaleOf};
 use crate::Drop;
 
-// The drop of a unit byte, 67 or 70, and tenths of a degree.
+// The drop that a unit byte (67 or 70) and tenths of a degree stand for.
 pub fn drop_of(unit: u8, tenths: u16) -> Drop
     ensures { λ r. ⌜ r ≡ dropOf (scaleOf unit) tenths ⌝ }
 {

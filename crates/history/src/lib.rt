@@ -1,4 +1,4 @@
-// The history engine: it keeps the accepted commands as bytes, end to end, and works every answer out from them, with no image.
+// The history engine: it keeps the accepted commands as bytes, end to end, and finds each answer in them; there is no image.
 pub mod inner;
 
 ghost use mathlib.Core.Path.{_≡_};

@@ -10,9 +10,9 @@ use lib.Dec.{T}
 use lib.ListN.{length}
 use Rattle.lists.specs.Parts.{spread}
 use Rattle.lists.specs.Search.{those}
-use Rattle.lists.specs.Table.{Row, first}
+use Rattle.lists.specs.Table.{Row, first, listed}
 use Rattle.lists.proofs.Spread.{table-is}
-use Rattle.lists.proofs.Table.{given, unapplied, last-given, none-applies}
+use Rattle.lists.proofs.Table.{given, unapplied, last-given, none-applies, first-all}
 use Rattle.lists.proofs.Tests.{to-T, from-T}
 use Rattle.commands.specs.Bytes.{fieldsOf}
 use Rattle.guard.specs.Replies.{replied}
@@ -29,7 +29,7 @@ use Rattle.model.proofs.Machine.{numberOn, eventBy, cardsFrom}
 use Rattle.model.proofs.Simulation.{same-event, same-images, all-good}
 use Rattle.history.specs.WorkedOut.{entryFrom}
 use Rattle.history.specs.Engine.{overLimits, HISTORY-FULL, guardRows, engineRows, deducedBy, deduced}
-use Rattle.history_claims.specs.Claims.{cardFrom, cardsShown, keptAfter, engineEvents, engineLog, wasAccepted, Keeping, KeepsAccepted, EqualsGuard, FirstFull, EngineNumbers}
+use Rattle.history_claims.specs.Claims.{cardFrom, cardsShown, keptAfter, engineEvents, engineLog, wasAccepted, Keeping, KeepsAccepted, EqualsGuard, FirstFull, EngineNumbers, historyNumbers, EngineListed}
 use Rattle.history_claims.proofs.Same.{Shows, shows-fresh, Together, together, number-is, full-accepted, full-entry}
 
 -- ---- what it keeps
@@ -145,3 +145,8 @@ engine-numbers n c kept command reply =
       stands = full-reply n c kept command reply;
       unchanged = λ m e. (rw e, rw e);
     }
+
+pub engine-listed : EngineListed
+unfolding deduced deducedBy replied
+engine-listed n c kept command reply =
+    first-all (listed historyNumbers) (engineRows n c kept command (length reply)) tt tt

@@ -9,7 +9,7 @@ use lib.ListN.{length}
 use lib.Dec.{T, eqb}
 use Rattle.lists.specs.Parts.{table}
 use Rattle.lists.specs.Search.{none, those}
-use Rattle.lists.specs.Table.{applies, earlier, noRow}
+use Rattle.lists.specs.Table.{applies, earlier, noRow, listed}
 use Rattle.commands.specs.Command.{original, translation}
 use Rattle.commands.specs.Bytes.{fieldsOf}
 use Rattle.guard.specs.Replies.{replied}
@@ -123,3 +123,12 @@ pub record EngineNumber (n c : ℕ) (kept : List (List ℕ)) (command reply : Li
 
 abbrev pub EngineNumbers : Type 0
 EngineNumbers = (n c : ℕ) (kept : List (List ℕ)) (command reply : List ℕ) → EngineNumber n c kept command reply
+
+-- Rule 5.1: what the engine may answer, besides 0.
+abbrev pub historyNumbers : List ℕ
+historyNumbers = 1 ∷ 2 ∷ 3 ∷ 4 ∷ 5 ∷ 6 ∷ 7 ∷ 8 ∷ 17 ∷ 22 ∷ []
+
+abbrev pub EngineListed : Type 0
+EngineListed =
+    (n c : ℕ) (kept : List (List ℕ)) (command reply : List ℕ)
+    → T (listed historyNumbers (deduced n c kept command reply .answer .number))

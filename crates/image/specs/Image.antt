@@ -24,7 +24,7 @@ pub record Translation : Type 0 where
   pub from : ℕ
   pub text : List ℕ
 
--- One card: the pair, the mark and the edition of its original that the guard keeps, the original, and its translations by their numbers.
+-- One card (rule 2.1): the pair, the mark and the edition of its original that the guard keeps, the original, and its translations by their numbers.
 pub record Card : Type 0 where
   pub pair : Pair
   pub mark : Mark

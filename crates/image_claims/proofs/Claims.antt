@@ -3,6 +3,7 @@ use Prim.Native.Nat.{ℕ, zero, suc, _+_, _*_, _-_, _/_, _<_}
 use native.Mathlib.Omega.{arith}
 use mathlib.Core.Path.{_≡_, refl, sym, ap, _∙_, subst}
 use mathlib.Core.List.{List, [], append-assoc}
+use mathlib.Core.Bool.{Bool, true, false}
 use lib.Dec.{T, lit<, leb·zero}
 use lib.ListN.{length, drop, getD, replicate, length-replicate, getD-replicate, replicate-append-replicate}
 use lib.Seq.{drop-at}
@@ -10,15 +11,15 @@ use Rattle.lists.specs.Parts.{spread, table, Bytes}
 use Rattle.lists.specs.Le.{toLe}
 use Rattle.lists.proofs.Spread.{table-ext, table-is, spread-replicate}
 use Rattle.lists.proofs.Tests.{to-T, from-T}
-use Rattle.lists.specs.Table.{all, allFrom}
+use Rattle.lists.specs.Table.{all, allFrom, listed}
 use Rattle.lists.proofs.Bytes.{Bytes-nil, zeros-at, zeros-replicate}
 use Rattle.guard.specs.Entry.{entrySound, noEntry, FitsEntry}
 use Rattle.guard.specs.declared.Entry.{Entry}
 use Rattle.image.specs.Image.{Card, Translation, noTranslation, translationOf, view, sideText, noCard, cardEntry, bodies, encode, cardAt, decode, sound, fresh}
 use Rattle.image.specs.Layout.{shapeOk, sizeOf, headerSize, entrySize, translations, sides}
 use Rattle.image.specs.Bytes.{header, entryBytes, pad, countOf}
-use Rattle.image.specs.Image.{freshCards, GoodCard, GoodCards}
-use Rattle.image_claims.specs.Claims.{SoundReadsBack, GoodEncodes, OneImage, FreshSound, LargestImage}
+use Rattle.image.specs.Image.{freshCards, GoodCard, GoodCards, makes, makeNumber}
+use Rattle.image_claims.specs.Claims.{SoundReadsBack, GoodEncodes, OneImage, FreshSound, LargestImage, makeNumbers, MakeListed}
 use Rattle.image.proofs.Shape.{shape}
 use Rattle.image.proofs.Cards.{Bytes-encode, sound-encode, decode-encode}
 use Rattle.image.proofs.Encode.{length-header, length-encode}
@@ -149,3 +150,12 @@ largest-image n c ok =
     let long : sizeOf n c ≡ 16 + 32 * (n + c / 16 * n) = ap (sizeOf n) sixteens ∙ thirty-twos n (c / 16) in
     let within = w .size in
     record { past-32 = omega (arith, long); most = omega (arith, long, within) }
+
+-- ---- the numbers
+
+pub make-listed : MakeListed
+make-listed n c lent = go (makes n c lent) refl
+  where
+    go : (made : Bool) → makes n c lent ≡ made → T (listed makeNumbers (makeNumber n c lent))
+    go true e = rw e tt
+    go false e = rw e tt

@@ -2,11 +2,12 @@
 -- Assumes nothing.
 use Prim.Native.Nat.{ℕ, _%_, _<_, _≤_}
 use mathlib.Core.Path.{_≡_}
-use mathlib.Core.List.{List}
+use mathlib.Core.List.{List, [], _∷_}
 use lib.ListN.{length, drop, getD, replicate}
 use lib.Dec.{T}
 use Rattle.lists.specs.Parts.{Bytes}
-use Rattle.image.specs.Image.{Card, Cards, GoodCards, encode, decode, sound, cardAt, fresh, freshCards}
+use Rattle.lists.specs.Table.{listed}
+use Rattle.image.specs.Image.{Card, Cards, GoodCards, encode, decode, sound, cardAt, fresh, freshCards, makeNumber}
 use Rattle.image.specs.Layout.{shapeOk, sizeOf, headerSize}
 use Rattle.image.specs.Bytes.{countOf, roomOf}
 
@@ -55,3 +56,10 @@ pub record ImageLength (n c : ℕ) : Type 0 where
 
 abbrev pub LargestImage : Type 0
 LargestImage = (n c : ℕ) → T (shapeOk n c) → ImageLength n c
+
+-- Rule 5.1: what making an image may answer, besides 0.
+abbrev pub makeNumbers : List ℕ
+makeNumbers = 14 ∷ []
+
+abbrev pub MakeListed : Type 0
+MakeListed = (n c lent : ℕ) → T (listed makeNumbers (makeNumber n c lent))

@@ -17,7 +17,7 @@ use stamps::Pair;
 
 // ---- Between lent places and places by value: a lent slice of waiting entries is loaded, and the queue as it then is stored back.
 
-// What a queue keeps beside its places: how many of them are taken, and the largest s and x ever accepted in it.
+// What a queue keeps beside its places: how many of them are taken, and the largest stamps, s and x, that were accepted in it so far.
 pub struct Kept {
     pub count: usize,
     pub largest: Pair,

@@ -6,7 +6,7 @@ use lib.Dec.{ltb}
 use Prim.Native.Nat.{ℕ, _*_}
 use Rattle.lists.specs.Parts.{part, splice, table, spread, every, zeros}
 use Rattle.lists.specs.Search.{any, none, those, since, last}
-use Rattle.lists.specs.Table.{allFrom, all}
+use Rattle.lists.specs.Table.{allFrom, all, listed}
 
 part-inside : part {A = ℕ} 1 2 (7 ∷ 8 ∷ 9 ∷ 10 ∷ []) ≡ 8 ∷ 9 ∷ []
 unfolding part
@@ -61,3 +61,12 @@ last-large = refl
 
 no-last : last (λ n. ltb 5 n) (λ n. n * n) 3 (1 ∷ 2 ∷ []) ≡ 3
 no-last = refl
+
+number-listed : listed (3 ∷ 5 ∷ []) 5 ≡ true
+number-listed = refl
+
+zero-listed : listed (3 ∷ 5 ∷ []) 0 ≡ true
+zero-listed = refl
+
+number-unlisted : listed (3 ∷ 5 ∷ []) 4 ≡ false
+number-unlisted = refl

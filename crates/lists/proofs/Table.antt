@@ -36,7 +36,7 @@ module _ (r : Row) (rs : List Row) (o : T (once (r ∷ rs))) where
   once-rest : T (once rs)
   once-rest = T-and-right (not (eqb (r .gives) 0) && not (numbered (r .gives) rs)) (once rs) o
 
--- "A number is given exactly when its row applies and no earlier row does."
+-- Each number exactly when its row applies and none above it does.
 pub given : (rs : List Row) → T (once rs) → (n : ℕ) → (first rs ≡ suc n) ↔ (T (applies (suc n) rs) × T (noRow (earlier (suc n) rs)))
 given [] o n = (λ e. absurd (omega arith), λ h. absurd (h .0))
 given (r ∷ rs) o n = go (r .applies) (eqb (r .gives) (suc n)) refl (given rs (once-rest r rs o) n)

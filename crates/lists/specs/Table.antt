@@ -4,6 +4,7 @@ use mathlib.Core.List.{List, [], _∷_}
 use mathlib.Core.Bool.{Bool, true, _&&_, false, cond, not, _||_}
 use Prim.Native.Nat.{ℕ, zero, suc}
 use lib.Dec.{eqb}
+use Rattle.lists.specs.Search.{any}
 
 -- b and every test of the list, joined from the left, as `b & t & u` of the code is.
 unfoldable pub allFrom : Bool → List Bool → Bool
@@ -53,6 +54,10 @@ numbered n (r ∷ rows) = eqb (r .gives) n || numbered n rows
 abbrev pub once : List Row → Bool
 once [] = true
 once (r ∷ rows) = not (eqb (r .gives) 0) && not (numbered (r .gives) rows) && once rows
+
+-- The number is 0 or one of these: what an operation may answer (rule 5.1).
+abbrev pub listed : List ℕ → ℕ → Bool
+listed ns n = eqb n 0 || any (eqb n) ns
 
 -- What goes by the number: the new value where it is 0, the old one after a refusal.
 abbrev pub settled : {A : Type 0} → ℕ → A → A → A

@@ -1,6 +1,6 @@
 -- Lease terms, in the library's account of f64 (IEEE 754, binary64): each operation is rounded once, to the nearest, ties to even. A comparison with
 -- a value that is no number fails, so such a value passes no test below. After 002, section 3: the lease period and the rate by which two clocks may
--- differ. No demand rests on leases (rule 13.9).
+-- differ. No demand rests on leases (the end of section 13).
 -- Assumes nothing.
 use mathlib.Core.Bool.{Bool, _&&_}
 use lib.Ieee.{Float, binary64, add, sub, mul, lt, le}

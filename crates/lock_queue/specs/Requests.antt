@@ -101,7 +101,7 @@ lapsing lent q r =
 abbrev pub blankAnswer : ℕ → Bool
 blankAnswer number = eqb number BAD-QUEUE || eqb number MALFORMED
 
--- Rule 7.14: holding and the largest pair as the queue now is; how many entries were looked at, in the queue as it was.
+-- Rule 7.14: who holds and the largest pair, of the queue after the request; how many entries were looked at, of the queue before it.
 unfoldable pub answered : ℕ → ℕ → State → State → LockAnswer
 answered number d entry exit =
     record {
@@ -113,7 +113,7 @@ answered number d entry exit =
 
 -- ---- A request on a queue of `lent` places.
 
--- What is sent: a desk asks, with its entry, or leaves, naming its desk and start; or the queue's keeper, who holds a desk failed, sends for it.
+-- What is sent (rules 7.6, 7.12 and 13.1): a desk asks, with its entry, or leaves, naming its desk and start; or the queue's keeper, who holds a desk failed, sends for it.
 pub data Request : Type 0 where
   asks : Waiting → Request
   leaves : ℕ → Request
@@ -140,6 +140,7 @@ applied (lapses r) q = without (r .desk) q
 unfoldable pub number : ℕ → State → Request → ℕ
 number lent q r = first (queueRows lent q r)
 
+-- Rule 7.11: a refusal leaves the queue as it was.
 unfoldable pub after : ℕ → State → Request → State
 after lent q r = settled (number lent q r) (applied r q) q
 

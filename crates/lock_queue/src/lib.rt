@@ -40,7 +40,7 @@ pub struct Places {
     pub at: [Waiting; MOST_PLACES],
 }
 
-// A queue: its places, of which the first `count` are taken, and the largest s and x ever accepted in it.
+// A queue: its places, of which the first `count` are taken, and the largest stamps, s and x, that were accepted in it so far.
 pub struct Queue {
     pub places: Places,
     pub count: usize,

@@ -10,12 +10,12 @@ use borrow.Author.Tests.{eq-eqb, ne-eqb, eqb-true, eqb-false, leb-true, le-leb, 
 use lib.Dec.{T, ltb, leb, eqb, eqb→eq}
 use lib.ListN.{length, take, drop, getD, length-append, length-take, length-drop, length-map, length-set}
 use lib.Seq.{getD-take, length-take-le, take-suc-set, drop-set-lt, take-at, drop-at, getD-at, append-snoc, take-append-le, drop-append-le, set-append-left, getD-append-seam, take-append-seam}
-use Rattle.lists.specs.Table.{all, allFrom, applies, noRow, earlier}
+use Rattle.lists.specs.Table.{all, allFrom, applies, noRow, earlier, listed}
 use Rattle.lists.proofs.Tests.{cases, never-both, and-fails, T-and-left, to-T, from-T, and-in, and-left, and-right, or-cases}
 use Rattle.stamps.proofs.Stamp.{max-one, larger-old, SessionRules, session-rules}
-use Rattle.lists.proofs.Table.{given, unapplied}
+use Rattle.lists.proofs.Table.{given, unapplied, first-all}
 use Rattle.stamps.specs.Stamp.{stampValid, deskNumber, deskStart, own, shared, exclusive, largerOfEach, noPair}
-use Rattle.lock_queue_claims.specs.Claims.{EachNumber, Acceptance, RefusalLeaves, BlankAnswers, LookedWithin, StaysGood, JoinsEnd, GapClosed, FreedZeroed, OthersKept, LargestGrows, AskerHolds, LeaverHoldsNothing, HoldersShared, RoomAfterLeaving, NoDeskZero, BeyondLent}
+use Rattle.lock_queue_claims.specs.Claims.{EachNumber, Acceptance, RefusalLeaves, BlankAnswers, LookedWithin, StaysGood, JoinsEnd, GapClosed, FreedZeroed, OthersKept, LargestGrows, AskerHolds, LeaverHoldsNothing, HoldersShared, RoomAfterLeaving, NoDeskZero, BeyondLent, askNumbers, leaveNumbers, lapseNumbers, QueueListed}
 use Rattle.lock_queue.specs.Queue.{State, noWaiting, mostPlaces, standing, desk, desks, stands, firstPlace, looked, noExclusive, holdsAt, holds}
 use Rattle.lock_queue.specs.Good.{distinct, waitingFormed, within, good}
 use Rattle.lock_queue.specs.Requests.{joined, removed, without, modeOf, upgrading, onto, denied, Request, asks, leaves, lapses, queueRows, sender, applied, blankAnswer, answered, number, after, answer}
@@ -35,6 +35,15 @@ each-number lent q r n = given (queueRows lent q r) (each-once lent q r) n
 pub acceptance : Acceptance
 unfolding number
 acceptance lent q r = unapplied (queueRows lent q r) (each-once lent q r)
+
+pub queue-listed : QueueListed
+unfolding number
+queue-listed =
+    record {
+      asked = λ lent q new. first-all (listed askNumbers) (queueRows lent q (asks new)) tt tt;
+      left = λ lent q d. first-all (listed leaveNumbers) (queueRows lent q (leaves d)) tt tt;
+      lapsed = λ lent q r. first-all (listed lapseNumbers) (queueRows lent q (lapses r)) tt tt;
+    }
 
 -- ---- the queue after a request
 

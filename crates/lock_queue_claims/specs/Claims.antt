@@ -8,13 +8,14 @@ use mathlib.Core.Bool.{false, cond}
 use lib.Dec.{T, eqb}
 use lib.ListN.{length, drop, getD}
 use Rattle.stamps.specs.Stamp.{shared, exclusive, noPair}
-use Rattle.lists.specs.Table.{applies, noRow, earlier}
+use Rattle.lists.specs.Table.{applies, noRow, earlier, listed}
 use Rattle.lock_queue.specs.Queue.{State, noWaiting, longer, standing, desk, noExclusive, holds}
 use Rattle.lock_queue.specs.Good.{good}
-use Rattle.lock_queue.specs.Requests.{removed, modeOf, Request, asks, leaves, queueRows, blankAnswer, number, after, answer}
+use Rattle.lock_queue.specs.Requests.{removed, modeOf, Request, asks, leaves, lapses, queueRows, blankAnswer, number, after, answer}
+use Rattle.lock_queue.specs.declared.Silence.{Silence}
 use Rattle.lock_queue.specs.declared.Waiting.{Waiting}
 
--- Each number is given exactly when its row applies and no earlier row does.
+-- Each number exactly when its row applies and none above it does.
 abbrev pub EachNumber : Type 0
 EachNumber =
     (lent : ℕ) (q : State) (r : Request) (n : ℕ) →
@@ -24,7 +25,7 @@ EachNumber =
 abbrev pub Acceptance : Type 0
 Acceptance = (lent : ℕ) (q : State) (r : Request) → (number lent q r ≡ 0) ↔ T (noRow (queueRows lent q r))
 
--- A refusal changes nothing, neither the places nor the count nor the largest pair.
+-- Rule 7.11: a refusal changes nothing, neither the places nor the count nor the largest pair.
 abbrev pub RefusalLeaves : Type 0
 RefusalLeaves = (lent : ℕ) (q : State) (r : Request) (n : ℕ) → number lent q r ≡ suc n → after lent q r ≡ q
 
@@ -61,7 +62,7 @@ FreedZeroed =
     (lent : ℕ) (q : State) (d : ℕ) (w : Waiting) → lent ≤ length (q .places) → number lent q (leaves d) ≡ 0 →
     getD (after lent q (leaves d) .places) (q .count - 1) w ≡ noWaiting
 
--- Rule 7.13: places past the count keep what they hold, and there are as many places as before. A place is past the count if it is so before
+-- Rule 7.13: places past the count stay as they are, and there are as many places as before. A place is past the count if it is so before
 -- and after.
 abbrev pub past : ℕ → State → Request → ℕ
 past lent q r = max (q .count) (after lent q r .count)
@@ -110,3 +111,19 @@ abbrev pub BeyondLent : Type 0
 BeyondLent =
     (lent : ℕ) (q : State) (r : Request) (more : List Waiting) → lent ≤ length (q .places) →
     (answer lent (longer more q) r ≡ answer lent q r) × (after lent (longer more q) r ≡ longer more (after lent q r))
+
+-- Rule 5.1: what asking, leaving and leaving by lease may answer, besides 0.
+abbrev pub askNumbers : List ℕ
+askNumbers = 1 ∷ 10 ∷ 11 ∷ 12 ∷ 13 ∷ []
+
+abbrev pub leaveNumbers : List ℕ
+leaveNumbers = 10 ∷ 15 ∷ []
+
+abbrev pub lapseNumbers : List ℕ
+lapseNumbers = 10 ∷ 15 ∷ 21 ∷ 25 ∷ []
+
+-- Rule 5.1: every number of the queue is from its list.
+pub record QueueListed : Type 0 where
+  pub asked : (lent : ℕ) (q : State) (new : Waiting) → T (listed askNumbers (number lent q (asks new)))
+  pub left : (lent : ℕ) (q : State) (d : ℕ) → T (listed leaveNumbers (number lent q (leaves d)))
+  pub lapsed : (lent : ℕ) (q : State) (r : Silence) → T (listed lapseNumbers (number lent q (lapses r)))

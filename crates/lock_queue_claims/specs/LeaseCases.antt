@@ -27,7 +27,7 @@ silent period drift begin now =
 abbrev pub answers : List Silence → List ℕ
 answers rs = map (λ r. number 1 oneStands (lapses r)) rs
 
--- A period of 30 and a drift of 0.5 make a wait of 45 (rules 13.3 and 13.4).
+-- A period of 30 and a drift of 0.5 make a wait of 45 (rules 13.3, 13.4 and 13.8).
 abbrev pub LeaseEnds : Type 0
 LeaseEnds =
     answers

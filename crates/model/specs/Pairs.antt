@@ -19,7 +19,7 @@ largestPair k [] = noPair
 largestPair k (e ∷ before) =
     cond (accepted k e) (largerOfEach (largestPair k before) (update (commandOf e))) (largestPair k before)
 
--- A reply shows the largest pair accepted for its card so far, its own command counted, or zeros with 9, 1 and 2. So a desk that learns from replies
+-- Rule 10.14: a reply shows the largest pair accepted for its card so far, its own command counted, or zeros with 9, 1 and 2. So a desk that learns from replies
 -- learns nothing but what accepted commands carried.
 abbrev pub PairShown : Type 0
 PairShown =

@@ -7,11 +7,11 @@ use mathlib.Core.List.{List, [], _∷_}
 use mathlib.Core.Bool.{Bool, true, false, cond, not, _&&_, _||_}
 use borrow.Author.Tests.{eqb-true, eqb-false, ltb-true, ltb-false, lt-ltb, ne-eqb, not-true}
 use lib.Dec.{T, eqb, ltb, ltb→lt}
-use Rattle.lists.specs.Table.{all, allFrom}
+use Rattle.lists.specs.Table.{all, allFrom, listed}
 use Rattle.lists.proofs.Tests.{cases, to-T, from-T, and-in, and-left, and-right, T-or-cases, T-and-right, or-right, not-in}
 use Rattle.stamps.specs.Stamp.{stamp, deskNumber, deskStart, deskOf, own, stampValid, sessionChecks, shared, exclusive, stale, largerOfEach}
 use Rattle.stamps.specs.declared.Pair.{Pair}
-use Rattle.lists.proofs.Table.{given}
+use Rattle.lists.proofs.Table.{given, first-all}
 use Rattle.stamps.proofs.Stamp.{stamp-desk, stamp-desk-start, stamp-valid}
 use Rattle.lock_queue.specs.Queue.{State, desk}
 use Rattle.lock_queue.specs.declared.Waiting.{Waiting}
@@ -24,7 +24,7 @@ use Rattle.lock_queue_claims.specs.Course.{queueAfter}
 use Rattle.proposals.specs.declared.Known.{Known}
 use Rattle.proposals.specs.Propose.{learnt, nextT, ownAbove, lastT, pairFor, proposalRows, proposed}
 use Rattle.proposals.proofs.Propose.{made-rules, own-above, own-least, made-pair}
-use Rattle.proposal_claims.specs.Claims.{OfDesk, SmallestAbove, Smallest, Spent, Fine, WellProposed, entered, quiet, NotDenied, EachProposal, Unmoved}
+use Rattle.proposal_claims.specs.Claims.{OfDesk, SmallestAbove, Smallest, Spent, Fine, WellProposed, entered, quiet, NotDenied, EachProposal, Unmoved, proposalNumbers, ProposalListed}
 
 -- A number with this desk and start is the stamp of its T.
 own-stamp : (desk start m : ℕ) → OfDesk desk start m → m ≡ stamp (m / 4294967296) desk start
@@ -179,3 +179,7 @@ each-proposal k mode n = given (proposalRows k mode) tt n
 pub unmoved : Unmoved
 unfolding proposed
 unmoved k mode n e = (rw e, rw e)
+
+pub proposal-listed : ProposalListed
+unfolding proposed
+proposal-listed k mode = first-all (listed proposalNumbers) (proposalRows k mode) tt tt

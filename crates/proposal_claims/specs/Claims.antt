@@ -6,7 +6,7 @@ use mathlib.Core.Logic.{_↔_}
 use mathlib.Core.List.{List, [], _∷_}
 use mathlib.Core.Bool.{Bool, true, false, not, _&&_}
 use lib.Dec.{T, eqb}
-use Rattle.lists.specs.Table.{all, applies, noRow, earlier}
+use Rattle.lists.specs.Table.{all, applies, noRow, earlier, listed}
 use Rattle.stamps.specs.Stamp.{stamp, deskNumber, deskOf, stampValid, sessionChecks, shared, exclusive, noPair}
 use Rattle.stamps.specs.declared.Pair.{Pair}
 use Rattle.lock_queue.specs.Queue.{State}
@@ -71,7 +71,7 @@ NotDenied =
     (asks (record { mode = mode; pair = proposed (learnt k (answer lent q (asks new) .largest)) mode .pair }))
     ≡ PAIR-DENIED → ⊥
 
--- Rule 10.6: each number exactly when its row applies and no earlier row does.
+-- Rule 10.6: each number exactly when its row applies and none above it does.
 abbrev pub EachProposal : Type 0
 EachProposal =
     (k : Known) (mode n : ℕ) →
@@ -80,3 +80,10 @@ EachProposal =
 -- Rule 10.6: a refusal leaves what the desk knows, and gives no pair.
 abbrev pub Unmoved : Type 0
 Unmoved = (k : Known) (mode n : ℕ) → proposed k mode .number ≡ suc n → (proposed k mode .known ≡ k) × (proposed k mode .pair ≡ noPair)
+
+-- Rule 5.1: what a proposal may answer, besides 0.
+abbrev pub proposalNumbers : List ℕ
+proposalNumbers = 1 ∷ 16 ∷ []
+
+abbrev pub ProposalListed : Type 0
+ProposalListed = (k : Known) (mode : ℕ) → T (listed proposalNumbers (proposed k mode .number))

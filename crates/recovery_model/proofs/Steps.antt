@@ -18,7 +18,7 @@ use Rattle.model.specs.Serve.{serve}
 use Rattle.model.specs.Words.{Sent, imageAfter, history}
 use Rattle.model.proofs.Exact.{refusals}
 use Rattle.recovery_model.specs.Recovery.{Pairs, Recovery, recordIn, due, recoverySent, recoveryStep, recovering, recovered}
-use Rattle.recovery_model.specs.Claims.{AllTaken, StopsWith, Recovers, RecoversAll}
+use Rattle.recovery_model.specs.Claims.{AllTaken, StopsWith, Recovers, RecoversAll, RecoveryListed}
 
 -- The store's numbers, 0 to 9 and 17, are below 23.
 at-most : {n : ℕ} → (n ≤ 9) ⊎ (n ≡ 17) → n ≤ 17
@@ -71,7 +71,7 @@ module _ (pairs : Pairs) (rs : List LogRecord) (image : List ℕ) where
     pub accepted : R i .number ≡ 0 → AllTaken (history image (R i .sent))
     pub stopped : StopsWith (R i .number) (history image (R i .sent))
     pub line : R i .number ≡ 0 → R i .line ≡ 0
-    pub listed : R i .number ≤ 17
+    pub listed : (R i .number ≤ 9) ⊎ (R i .number ≡ 17)
     pub later : due rs 0 ≡ false → (R i .number ≡ 0 → ⊥) → 1 ≤ R i .line
 
   told-same : (i : ℕ) → R (suc i) ≡ R i → Told i → Told (suc i)
@@ -80,7 +80,7 @@ module _ (pairs : Pairs) (rs : List LogRecord) (image : List ℕ) where
         accepted = λ z. subst (λ (r : Recovery). AllTaken (history image (r .sent))) (sym e) (t .accepted (sym (ap (λ (r : Recovery). r .number) e) ∙ z));
         stopped = subst (λ (r : Recovery). StopsWith (r .number) (history image (r .sent))) (sym e) (t .stopped);
         line = λ z. ap (λ (r : Recovery). r .line) e ∙ t .line (sym (ap (λ (r : Recovery). r .number) e) ∙ z);
-        listed = subst (λ (r : Recovery). r .number ≤ 17) (sym e) (t .listed);
+        listed = subst (λ (r : Recovery). (r .number ≤ 9) ⊎ (r .number ≡ 17)) (sym e) (t .listed);
         later = λ f n. subst (λ (r : Recovery). 1 ≤ r .line) (sym e) (t .later f (λ z. n (ap (λ (r : Recovery). r .number) e ∙ z)));
       }
 
@@ -99,13 +99,13 @@ module _ (pairs : Pairs) (rs : List LogRecord) (image : List ℕ) where
         accepted = λ z. subst (λ (r : Recovery). AllTaken (history image (r .sent))) (sym (s .now)) (number ∙ sym (ap (λ (r : Recovery). r .number) (s .now)) ∙ z, t .accepted (s .so-far));
         stopped = subst (λ (r : Recovery). StopsWith (r .number) (history image (r .sent))) (sym (s .now)) (number, t .accepted (s .so-far));
         line = λ z. ap (λ (r : Recovery). r .line) (s .now) ∙ ap (λ (n : ℕ). settled n 0 i) (sym (ap (λ (r : Recovery). r .number) (s .now)) ∙ z);
-        listed = subst (λ (r : Recovery). r .number ≤ 17) (sym (s .now)) (at-most (refusals (R i .image) (S i .command) (S i .lent) .listed));
+        listed = subst (λ (r : Recovery). (r .number ≤ 9) ⊎ (r .number ≡ 17)) (sym (s .now)) (refusals (R i .image) (S i .command) (S i .lent) .listed);
         later = λ f n. subst (λ (r : Recovery). 1 ≤ r .line) (sym (s .now)) (above i s f (λ z. n (ap (λ (r : Recovery). r .number) (s .now) ∙ z)));
       }
 
   pub told : (i : ℕ) → Told i
   unfolding recovering history
-  told zero = record { accepted = λ z. tt; stopped = tt; line = λ z. refl; listed = omega arith; later = λ f n. absurd (n refl) }
+  told zero = record { accepted = λ z. tt; stopped = tt; line = λ z. refl; listed = inl (omega arith); later = λ f n. absurd (n refl) }
   told (suc i) = go (next i) (told i)
     where
       go : Idle i ⊎ Sends i → Told i → Told (suc i)
@@ -142,7 +142,7 @@ recovers pairs log image = go (goodLog log) refl
         record {
           sends = rw e (stands pairs (records log) image (length (records log)));
           stops = rw e (t .stopped);
-          bad = rw e ((λ z. absurd (omega (arith, t .listed))), (λ f. absurd (never-both refl f)));
+          bad = rw e ((λ z. absurd (omega (arith, at-most (t .listed)))), (λ f. absurd (never-both refl f)));
           silent = λ f. absurd (never-both e f);
           line = rw e (line-out (R pairs (records log) image (length (records log)) .number) refl t, λ h. line-in t h);
         }
@@ -157,7 +157,7 @@ recovers pairs log image = go (goodLog log) refl
             → (R pairs (records log) image (length (records log)) .number ≡ 0) ⊎ (R pairs (records log) image (length (records log)) .number ≡ 23)
             → R pairs (records log) image (length (records log)) .line ≡ 0
         line-in t (inl z) = t .line z
-        line-in t (inr z) = absurd (omega (arith, t .listed, z))
+        line-in t (inr z) = absurd (omega (arith, at-most (t .listed), z))
     go false e =
         record {
           sends = rw e;
@@ -166,3 +166,12 @@ recovers pairs log image = go (goodLog log) refl
           silent = λ f. rw e;
           line = rw e ((λ z. inr refl), (λ h. refl));
         }
+
+pub recovery-listed : RecoveryListed
+unfolding recovered
+recovery-listed pairs log image = go (goodLog log) refl
+  where
+    go : (g : Bool) → goodLog log ≡ g
+        → ((recovered pairs log image .number ≤ 9) ⊎ (recovered pairs log image .number ≡ 17)) ⊎ (recovered pairs log image .number ≡ 23)
+    go true e = rw e (inl (told pairs (records log) image (length (records log)) .listed))
+    go false e = rw e (inr refl)

@@ -1,6 +1,6 @@
 -- What is claimed of recovery. Proved in proofs/.
 -- Assumes nothing.
-use Prim.Native.Nat.{ℕ, zero, suc}
+use Prim.Native.Nat.{ℕ, zero, suc, _≤_}
 use mathlib.Core.Path.{_≡_}
 use mathlib.Core.Logic.{_⊎_, _↔_}
 use mathlib.Core.List.{List, [], _∷_, _++_, reverse}
@@ -34,6 +34,7 @@ abbrev pub StopsWith : ℕ → List Event → Type 0
 StopsWith number [] = Unit {0}
 StopsWith number (e ∷ log) = (e .answer .number ≡ number) × AllTaken log
 
+-- Rules 11.18 and 11.19, of any pairs, any bytes as a log and any as an image.
 pub record Recovers (pairs : Pairs) (log image : List ℕ) : Type 0 where
   -- the image is the one after its requests, each a request by itself, and nothing else
   pub sends : recovered pairs log image .image ≡ imageAfter image (recovered pairs log image .sent)
@@ -47,6 +48,12 @@ pub record Recovers (pairs : Pairs) (log image : List ℕ) : Type 0 where
 
 abbrev pub RecoversAll : Type 0
 RecoversAll = (pairs : Pairs) (log image : List ℕ) → Recovers pairs log image
+
+-- Rule 5.1: recovery answers a number of the store or 23.
+abbrev pub RecoveryListed : Type 0
+RecoveryListed =
+    (pairs : Pairs) (log image : List ℕ)
+    → ((recovered pairs log image .number ≤ 9) ⊎ (recovered pairs log image .number ≡ 17)) ⊎ (recovered pairs log image .number ≡ 23)
 
 -- ---- recovery's requests stand in demand 3's list (rule 11.20)
 
@@ -72,7 +79,7 @@ FitsDeeds [] = Unit {0}
 FitsDeeds (oneRequest s ∷ before) = SentBytes s × FitsDeeds before
 FitsDeeds (oneRecovery pairs log ∷ before) = (FitsPairs pairs × Bytes log) × FitsDeeds before
 
--- Any mixture of requests and recoveries from a fresh image is one list of requests, and demand 3 holds of it.
+-- Rule 11.20: requests and recoveries in any mixture, begun on a fresh image, make one list of requests, and demand 3 holds of it.
 pub record Mixed (n c : ℕ) (deeds : List Deed) : Type 0 where
   pub same : imageAfterDeeds (fresh n c) deeds ≡ imageAfter (fresh n c) (requestsOfDeeds (fresh n c) deeds)
   pub demand3 : Claim n (reverse (requestsOfDeeds (fresh n c) deeds)) (logOf n c (reverse (requestsOfDeeds (fresh n c) deeds)))
@@ -80,7 +87,7 @@ pub record Mixed (n c : ℕ) (deeds : List Deed) : Type 0 where
 abbrev pub Demand3Mixed : Type 0
 Demand3Mixed = (n c : ℕ) → T (shapeOk n c) → (deeds : List Deed) → FitsDeeds deeds → Mixed n c deeds
 
--- Every request is exclusive and under the pair given for its card, as verifier and as update pair.
+-- Rules 11.16 and 11.17: every request is exclusive and under the pair given for its card, as verifier and as update pair.
 abbrev pub AllUnder : Pairs → List Sent → Type 0
 AllUnder pairs [] = Unit {0}
 AllUnder pairs (s ∷ sent) =
@@ -118,7 +125,7 @@ rewritten rs l k (suc i) start = cond (rewrites rs l k i) (recordText (recordIn 
 abbrev pub textOf : List LogRecord → Language → ℕ → List ℕ → List ℕ
 textOf rs l k start = rewritten rs l k (length rs) start
 
--- Appends to a good log, the power failing after the first `stores` of all their stores, and then a recovery that answers 0: each text is that which
+-- Rules 11.14 and 11.21: appends to a good log, the power failing after the first `stores` of all their stores, and then a recovery that answers 0: each text is that which
 -- the records leave that stood in the log or were wholly appended.
 abbrev pub CutAnywhere : Type 0
 CutAnywhere =
@@ -128,13 +135,13 @@ CutAnywhere =
     → (l : Language) (k : ℕ)
     → textIn (recovered pairs (cutAfter stores log rs) image .image) l k ≡ textOf (records log ++ wholly stores (admittedOf log rs)) l k (textIn image l k)
 
--- Recovery from a log whose append was cut is recovery from the log before it.
+-- Rule 11.13: recovery from a log whose append was cut is recovery from the log before it.
 abbrev pub CutRecovers : Type 0
 CutRecovers =
     (budget : ℕ) (log : List ℕ) (r : LogRecord) → appendNumber budget log r ≡ 26
     → (pairs : Pairs) (image : List ℕ) → recovered pairs (appended budget log r) image ≡ recovered pairs log image
 
--- A second run, under other pairs if need be, leaves the texts as the first did, where neither has a write refused.
+-- Rule 11.21: a second run, under other pairs if need be, leaves the texts as the first did, where neither has a write refused.
 abbrev pub Twice : Type 0
 Twice =
     (pairs again : Pairs) (log image : List ℕ) → FitsPairs pairs → FitsPairs again → Bytes log → Bytes image → sound image ≡ true

@@ -34,7 +34,7 @@ commitsTo t r = eqb (r .kind) commitKind && eqb (recordTransaction r) t
 abbrev pub syncsFrom : ℕ → ℕ → LogRecord → Bool
 syncsFrom card t r = eqb (r .kind) syncedKind && eqb (recordCard r) card && leb t (recordTransaction r)
 
--- Record i is due: an update whose transaction is committed and whose card is not synced as of that transaction, wherever those records stand.
+-- Rule 11.15: record i is due, an update whose transaction is committed and whose card is not synced as of that transaction, wherever those records stand.
 unfoldable pub due : List LogRecord → ℕ → Bool
 due rs i =
     eqb (recordIn rs i .kind) updateKind
@@ -43,7 +43,7 @@ due rs i =
 
 -- ---- the command of an update (rules 11.16 and 11.17)
 
--- The pairs that recovery is given: the s and the x of each card, by number. A card beyond the end of a list has a zero there.
+-- The pairs that recovery is given (rule 11.16): the s and the x of each card, by number. A card beyond the end of a list has a zero there.
 pub record Pairs : Type 0 where
   pub s : List ℕ
   pub x : List ℕ
@@ -55,7 +55,7 @@ recoveryPair pairs k = record { s = getD (pairs .s) k 0; x = getD (pairs .x) k 0
 abbrev pub entryFor : List ℕ → ℕ → Entry
 entryFor image k = view 0 (getD (decode image .cards) k noCard)
 
--- An exclusive write under the pair, which is its verifier and its update pair: it expects the stored mark and leaves it, and a translation names the
+-- Rule 11.17: an exclusive write under the pair, which is its verifier and its update pair: it expects the stored mark and leaves it, and a translation names the
 -- stored edition.
 abbrev pub writeBy : Pair → Entry → LogRecord → Command
 writeBy pair e r =
@@ -97,7 +97,7 @@ recoveryStep i s r =
       sent = s ∷ r .sent;
     }
 
--- After the first i records: one request for each that is due, on the image as the one before left it, up to the first that is refused.
+-- Rule 11.18, after the first i records: one request for each that is due, on the image that the one before it left, up to the first that is refused.
 unfoldable pub recovering : Pairs → List LogRecord → List ℕ → ℕ → Recovery
 recovering pairs rs image zero = record { number = 0; line = 0; image = image; sent = [] }
 recovering pairs rs image (suc i) =
@@ -107,7 +107,7 @@ recovering pairs rs image (suc i) =
     (recovering pairs rs image i))
     (recovering pairs rs image i)
 
--- Recovery goes by what is read back of the log and by nothing else; a bad log gets 23 and no request.
+-- Rules 11.18 and 11.19: recovery goes by what is read back of the log and by nothing else; a bad log gets 23 and no request.
 unfoldable pub recovered : Pairs → List ℕ → List ℕ → Recovery
 recovered pairs log image =
     cond (goodLog log) (recovering pairs (records log) image (length (records log))) (record { number = 23; line = 0; image = image; sent = [] })

@@ -18,7 +18,7 @@ pub record Store : Type 0 where
   pub place : ℕ
   pub byte : ℕ
 
--- The log after stores, in order.
+-- The log after stores, in order (rule 11.9).
 unfoldable pub stored : List Store → List ℕ → List ℕ
 stored [] log = log
 stored (s ∷ more) log = stored more (set log (s .place) (s .byte))
@@ -55,6 +55,7 @@ LOG-FULL = 24
 abbrev pub APPEND-CUT : ℕ
 APPEND-CUT = 26
 
+-- Rule 11.11, in its order.
 abbrev pub appendRows : ℕ → List ℕ → LogRecord → List Row
 appendRows budget log r =
     -- a bad log, or a record that breaks its layout or its order
@@ -68,7 +69,7 @@ appendRows budget log r =
 abbrev pub appendNumber : ℕ → List ℕ → LogRecord → ℕ
 appendNumber budget log r = first (appendRows budget log r)
 
--- The log that an append leaves: as it was after 23 and 24, else as it is after the first so many stores (rule 11.12).
+-- The log that an append leaves (rule 11.12): as it was after 23 and 24, else as the first stores leave it, as many as the budget has.
 unfoldable pub appended : ℕ → List ℕ → LogRecord → List ℕ
 appended budget log r =
     cond (eqb (appendNumber budget log r) BAD-LOG || eqb (appendNumber budget log r) LOG-FULL) log (stored (take budget (stores log r)) log)

@@ -29,7 +29,7 @@ mostLog = 65536
 
 -- ---- a record (rules 11.3 and 11.4)
 
--- The four kinds.
+-- The four kinds (rule 11.3).
 abbrev pub beginKind : ℕ
 beginKind = 1
 
@@ -66,7 +66,7 @@ recordText r = drop 3 (r .body)
 abbrev pub recordTransaction : LogRecord → ℕ
 recordTransaction r = cond (eqb (r .kind) syncedKind) (field 2 4 (r .body)) (field 0 4 (r .body))
 
--- The body is laid out as the kind asks, and a u16 holds its length.
+-- Rule 11.4: the body is laid out as the kind asks, and a u16 holds its length.
 unfoldable pub shaped : LogRecord → Bool
 shaped r =
     ltb (length (r .body)) 65536
@@ -86,7 +86,7 @@ unfoldable pub opened : (ℕ → LogRecord) → ℕ → Bool
 opened f zero = false
 opened f (suc i) = eqb (f i .kind) beginKind || opened f i && not (eqb (f i .kind) commitKind)
 
--- The record may come next, where `last` was begun last and is open or not: an update needs it open; a synced record may come at any time; a begin
+-- Rule 11.5: the record may come next, where `last` was begun last and is open or not: an update needs it open; a synced record may come at any time; a begin
 -- needs a higher transaction; a commit closes the one that is open.
 unfoldable pub follows : ℕ → Bool → LogRecord → Bool
 follows last running r =
@@ -99,7 +99,7 @@ joins last running r = shaped r && follows last running r
 
 -- ---- the bytes (rule 11.2)
 
--- The sum of a body's bytes, as a u32 that wraps.
+-- The sum of a body's bytes, as a u32 that wraps (rule 11.2).
 unfoldable pub total : List ℕ → ℕ
 total [] = 0
 total (b ∷ l) = b + total l
@@ -111,7 +111,7 @@ checksum body = total body % 4294967296
 abbrev pub recordCount : List ℕ → ℕ
 recordCount log = getD log 0 0
 
--- Where line i begins, and its four fields.
+-- Where line i begins, and its four fields (rules 11.1 and 11.2).
 abbrev pub linePlace : ℕ → ℕ
 linePlace i = 1 + lineSize * i
 
@@ -148,6 +148,7 @@ recordOk log i =
     ∷ joins (lastBegun (recordAt log) i) (opened (recordAt log) i) (recordAt log i)
     ∷ [])
 
+-- Rule 11.6, with the limits of rule 11.1.
 unfoldable pub goodLog : List ℕ → Bool
 goodLog log =
     leb bodiesFrom (length log)
@@ -159,13 +160,13 @@ goodLog log =
 abbrev pub BAD-LOG : ℕ
 BAD-LOG = 23
 
--- What a check answers.
+-- What a check answers (rule 11.8).
 abbrev pub logNumber : List ℕ → ℕ
 logNumber log = cond (goodLog log) 0 BAD-LOG
 
 -- ---- what is read back (rule 11.7)
 
--- The counted records, in order.
+-- The counted records, in order (rule 11.7).
 unfoldable pub records : List ℕ → List LogRecord
 records log = table (recordAt log) (recordCount log)
 
@@ -173,6 +174,6 @@ records log = table (recordAt log) (recordCount log)
 abbrev pub readBack : List ℕ → List LogRecord
 readBack log = cond (goodLog log) (records log) []
 
--- Record i, for a reader who asks for one.
+-- Record i, for a reader who asks for one (rule 11.7).
 unfoldable pub readAt : List ℕ → ℕ → LogRecord
 readAt log i = getD (readBack log) i noRecord

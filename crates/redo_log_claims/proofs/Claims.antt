@@ -8,17 +8,31 @@ use mathlib.Core.Bool.{Bool, true, false}
 use borrow.Author.Tests.{ltb-true, ltb-false, le-leb, le-ltb, lt-ltb}
 use lib.ListN.{length, take, getD}
 use lib.Seq.{take-all, take-nil}
-use lib.Dec.{ltb}
+use lib.Dec.{T, ltb}
 use Rattle.lists.specs.Parts.{Bytes}
+use Rattle.lists.specs.Table.{listed}
 use Rattle.lists.proofs.Tests.{cases, and-left}
-use Rattle.lists.proofs.Table.{given, unapplied}
-use Rattle.redo_log.specs.Log.{LogRecord, bodiesFrom, mostRecords, mostLog, recordCount, goodLog, records}
+use Rattle.lists.proofs.Table.{given, unapplied, first-all}
+use Rattle.redo_log.specs.Log.{LogRecord, bodiesFrom, mostRecords, mostLog, recordCount, goodLog, logNumber, records}
 use Rattle.redo_log.specs.Append.{Store, stored, stores, accepts, lacks, appendRows, appendNumber, appended, Admitted}
 use Rattle.redo_log.proofs.Stores.{take-append, stored-append, length-stores, written, long-written, stores-written}
 use Rattle.redo_log.proofs.Steps.{admitted, left-23, left-24, left-26, left-0}
-use Rattle.redo_log_claims.specs.Claims.{Appending, Appends, needed, appendedAll, allStores, admittedOf, wholly, cutAfter, History, Histories}
+use Rattle.redo_log_claims.specs.Claims.{Appending, Appends, checkNumbers, appendNumbers, LogListed, needed, appendedAll, allStores, admittedOf, wholly, cutAfter, History, Histories}
 use Rattle.redo_log_claims.proofs.Same.{checks-same, records-same}
 use Rattle.redo_log_claims.proofs.Written.{full, same-written, front-before, count-before, bytes-written, written-full, good-there, records-there}
+
+-- ---- the numbers
+
+pub log-listed : LogListed
+log-listed =
+    record {
+      checked = λ log. go log (goodLog log) refl;
+      appends = λ budget log r. first-all (listed appendNumbers) (appendRows budget log r) tt tt;
+    }
+  where
+    go : (log : List ℕ) (good : Bool) → goodLog log ≡ good → T (listed checkNumbers (logNumber log))
+    go log true e = rw e tt
+    go log false e = rw e tt
 
 -- ---- one append
 

@@ -8,17 +8,17 @@ use mathlib.Core.Bool.{true, cond}
 use lib.ListN.{length, take, getD}
 use lib.Dec.{T, ltb}
 use Rattle.lists.specs.Parts.{Bytes}
-use Rattle.lists.specs.Table.{applies, earlier, noRow, settled}
-use Rattle.redo_log.specs.Log.{LogRecord, bodiesFrom, recordCount, goodLog, records}
+use Rattle.lists.specs.Table.{applies, earlier, noRow, settled, listed}
+use Rattle.redo_log.specs.Log.{LogRecord, bodiesFrom, recordCount, goodLog, logNumber, records}
 use Rattle.redo_log.specs.Append.{Store, stored, stores, appendRows, appendNumber, appended}
 
 -- ---- one append (rules 11.10 to 11.13)
 
--- Of an append with any budget, to any bytes, of any record.
+-- Of an append with any budget, to any bytes, of any record (rules 11.10 to 11.13).
 pub record Appending (budget : ℕ) (log : List ℕ) (r : LogRecord) : Type 0 where
   -- how many stores it has
   pub all : length (stores log r) ≡ length (r .body) + 12
-  -- a number is given exactly when its row applies and no earlier one does, and 0 exactly when none applies
+  -- each number exactly when its row applies and none above it does, and 0 exactly when no row applies
   pub each :
       (n : ℕ) → (appendNumber budget log r ≡ suc n)
       ↔ (T (applies (suc n) (appendRows budget log r)) × T (noRow (earlier (suc n) (appendRows budget log r))))
@@ -39,6 +39,17 @@ pub record Appending (budget : ℕ) (log : List ℕ) (r : LogRecord) : Type 0 wh
 
 abbrev pub Appends : Type 0
 Appends = (budget : ℕ) (log : List ℕ) (r : LogRecord) → Appending budget log r
+
+-- Rule 5.1: what a check and an append may answer, besides 0.
+abbrev pub checkNumbers : List ℕ
+checkNumbers = 23 ∷ []
+
+abbrev pub appendNumbers : List ℕ
+appendNumbers = 23 ∷ 24 ∷ 26 ∷ []
+
+pub record LogListed : Type 0 where
+  pub checked : (log : List ℕ) → T (listed checkNumbers (logNumber log))
+  pub appends : (budget : ℕ) (log : List ℕ) (r : LogRecord) → T (listed appendNumbers (appendNumber budget log r))
 
 -- ---- many appends, and one cut somewhere among all their stores (rule 11.14)
 
@@ -75,6 +86,7 @@ abbrev pub BytesOfRecords : List LogRecord → Type 0
 BytesOfRecords [] = Unit {0}
 BytesOfRecords (r ∷ rs) = Bytes (r .body) × BytesOfRecords rs
 
+-- Rule 11.14, of the first k stores.
 pub record History (k : ℕ) (log : List ℕ) (rs : List LogRecord) : Type 0 where
   -- the stores do what the appends do
   pub same : stored (allStores log rs) log ≡ appendedAll log rs

@@ -11,7 +11,7 @@ use Rattle.stamps.specs.declared.Pair.{Pair}
 abbrev pub stamp : ℕ → ℕ → ℕ → ℕ
 stamp t desk start = t * 4294967296 + desk * 65536 + start
 
--- The T of a stamp, its high 32 bits.
+-- The T of a stamp, its high 32 bits (rule 1.1).
 abbrev pub stampT : ℕ → ℕ
 stampT n = n / 4294967296
 
@@ -34,7 +34,7 @@ shared = 1
 abbrev pub exclusive : ℕ
 exclusive = 2
 
--- The mode's own stamp of a pair: s if shared, x if exclusive.
+-- The mode's own stamp of a pair (rules 1.3 and 1.4): s if shared, x if exclusive.
 abbrev pub own : ℕ → Pair → ℕ
 own mode pair = cond (eqb mode exclusive) (pair .x) (pair .s)
 
@@ -69,7 +69,7 @@ mostAhead = 1000000
 abbrev pub stampTooFar : ℕ → ℕ → Bool
 stampTooFar stored new = ltb (stampT stored + mostAhead) (stampT new)
 
--- A pair is too far ahead: one of its stamps is, of the stored one on its own side, whatever the mode.
+-- A pair is too far ahead (rule 4.9): one of its stamps is, of the stored one on its own side, whatever the mode.
 abbrev pub tooFar : Pair → Pair → Bool
 tooFar stored new = stampTooFar (stored .s) (new .s) || stampTooFar (stored .x) (new .x)
 
@@ -81,7 +81,7 @@ largerOfEach old new = record { s = max (old .s) (new .s); x = max (old .x) (new
 abbrev pub markWhole : Mark → Bool
 markWhole m = Bool·beq (eqb (m .desk) 0) (eqb (m .transaction) 0)
 
--- The expected mark passes the stored one: the same desk, and a transaction that is not lower. (003, section 3.4.2: a request is rejected whose commit
+-- Rule 4.3: the expected mark passes the stored one, by the same desk and a transaction that is not lower. (003, section 3.4.2: a request is rejected whose commit
 -- session identifier names another client or an older transaction.)
 abbrev pub markFits : Mark → Mark → Bool
 markFits stored expected = eqb (expected .desk) (stored .desk) && leb (stored .transaction) (expected .transaction)

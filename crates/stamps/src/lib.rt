@@ -4,7 +4,7 @@ ghost use Prim.Native.Nat.{max};
 ghost use Rattle.lists.specs.Table.{all};
 ghost use Rattle.stamps.specs.Stamp.{stampValid, own, deskOf, sessionChecks, stale, stampTooFar, tooFar, largerOfEach, markWhole, markFits};
 
-// A shared stamp s and an exclusive stamp x (Minuet: a session identifier). Zero means none.
+// Two stamps, s for shared and x for exclusive (Minuet: a session identifier). Zero means none.
 pub struct Pair {
     pub s: u64,
     pub x: u64,
@@ -89,7 +89,7 @@ pub fn too_far(stored: Pair, new: Pair) -> bool
     stamp_too_far(stored.s, new.s) | stamp_too_far(stored.x, new.x)
 }
 
-// Whether a commit mark is both zero or both not.
+// Whether both numbers of a commit mark are zero, or neither is.
 pub fn mark_whole(m: Mark) -> bool
     ensures { λ r. ⌜ r ≡ markWhole m ⌝ }
 {

@@ -35,7 +35,7 @@ abbrev pub orElse : Option ℕ → Option ℕ → Option ℕ
 orElse none later = later
 orElse (some at) later = some at
 
--- The place in the first text where the first unmatched step begins, or just past the section in which the second has a step more (rule 12.10); none where
+-- The place in the first text at which its first step without a match begins, or just past the section in which the second has a step more (rule 12.10); none where
 -- all match. The step, or the steps, of the first begin at `at`. A section step matches a section step, and the steps in it begin three bytes on: behind
 -- 4, 1 and the count.
 unfoldable mutual

@@ -6,10 +6,11 @@ use mathlib.Core.List.{List, [], _++_, append-nil}
 use mathlib.Core.Option.{Option, none, some}
 use lib.Dec.{T}
 use lib.ListN.{length}
+use Rattle.lists.specs.Table.{listed}
 use Rattle.texts.specs.Text.{Section, stepsBytes, sectionBytes, Says, WellFormedText, deepest}
 use Rattle.texts.specs.Agree.{agreeSteps, unmatched, Verdict, verdict, placed, Compared, firstIll, secondIll, judged}
 use Rattle.texts.proofs.Once.{section-once}
-use Rattle.texts_claims.specs.Claims.{OneReading, NoneBehind, OneVerdict, Agreed, Disagreed, VerdictExactly, TextClaims}
+use Rattle.texts_claims.specs.Claims.{OneReading, NoneBehind, OneVerdict, Agreed, Disagreed, VerdictExactly, compareNumbers, TextClaims}
 use Rattle.texts_claims.proofs.Agree.{matched-agree, place-inside}
 
 -- ---- readings
@@ -110,6 +111,15 @@ exactly a b v (secondIll g x e) = record {
 }
 exactly a b v (judged s t p q e) = both-exactly a b s t p q v (unmatched s t 2) refl e
 
+numbers : (a b : List ℕ) (v : Verdict) → Compared a b v → T (listed compareNumbers (v .number))
+numbers a b v (firstIll x e) = rw (number-of e) tt
+numbers a b v (secondIll g x e) = rw (number-of e) tt
+numbers a b v (judged s t p q e) = go (unmatched s t 2) refl
+  where
+    go : (o : Option ℕ) → unmatched s t 2 ≡ o → T (listed compareNumbers (v .number))
+    go none u = rw (number-of e, u) tt
+    go (some place) u = rw (number-of e, u) tt
+
 pub text-claims : TextClaims
 text-claims = record {
   oneReading = one-reading;
@@ -118,4 +128,5 @@ text-claims = record {
   placeInside = place-inside;
   oneVerdict = one-verdict;
   exactly = exactly;
+  numbers = numbers;
 }
