@@ -6,6 +6,7 @@ pub mod histories;
 pub mod images;
 pub mod inner;
 pub mod log;
+pub mod outputs;
 pub mod queues;
 pub mod shown;
 pub mod streams;

@@ -1,4 +1,5 @@
+pub mod Decimal
+pub mod Puts
 pub mod Lines
 pub mod Running
 pub mod Answered
-pub mod Cases

@@ -1,11 +1,11 @@
--- Laws of lines: how many numbers one has, and lines end to end. Assumes nothing.
-use Prim.Native.Nat.{ℕ, _+_, _*_, _≤_}
+-- Laws of lines. Assumes nothing.
+use Prim.Native.Nat.{ℕ, _+_, _≤_, _<_}
 use mathlib.Core.Path.{_≡_, refl}
-use mathlib.Core.List.{List, _++_}
-use lib.ListN.{length}
-use native.Mathlib.Omega.{arith}
-use Rattle.lists.specs.Parts.{splice}
-use Rattle.lists.proofs.Parts.{splice-adjacent}
+use mathlib.Core.List.{List, [], _++_}
+use lib.ListN.{length, drop, getD, drop-of-length-le}
+use Rattle.lists.specs.Parts.{spread}
+use Rattle.lists.proofs.Parts.{drop-left}
+use Rattle.program.specs.Text.{spaced}
 use Rattle.guard.specs.declared.Answer.{Answer}
 use Rattle.program.specs.Program.{numbersOf, perLine}
 
@@ -13,9 +13,11 @@ pub per-line : (a : Answer) → length (numbersOf a) ≡ perLine
 unfolding numbersOf
 per-line a = refl
 
--- One line more, behind so many.
-pub line-more : (count : ℕ) (a : Answer) (rest out : List ℕ) → count * perLine ≤ length out →
-    splice ((count + 1) * perLine) rest (splice (count * perLine) (numbersOf a) out) ≡ splice (count * perLine) (numbersOf a ++ rest) out
-line-more count a rest out h =
-    let place : (count + 1) * perLine ≡ count * perLine + length (numbersOf a) = omega (arith, per-line a) in
-    rw place (splice-adjacent (count * perLine) (numbersOf a) rest out h)
+-- The numbers from place i on, by the first of them, and behind the last.
+pub numbers-left : (l : List ℕ) {i : ℕ} → i < length l → spread spaced (drop i l) ≡ spaced (getD l i 0) ++ spread spaced (drop (i + 1) l)
+unfolding spread
+numbers-left l h = rw (drop-left l 0 h)
+
+pub numbers-end : (l : List ℕ) {i : ℕ} → length l ≤ i → spread spaced (drop i l) ≡ []
+unfolding spread
+numbers-end l h = rw (drop-of-length-le l h)

@@ -1,100 +1,82 @@
 -- Laws of a run: what the loop of `run` keeps. Assumes nothing.
-use Prim.Native.Nat.{ℕ, _+_, _-_, _*_, _≤_, _<_}
+use Prim.Native.Nat.{ℕ, _+_, _-_, _*_, _/_, _≤_, _<_}
 use mathlib.Core.Path.{_≡_, refl, sym, ap, _∙_}
-use mathlib.Core.List.{List}
+use mathlib.Core.List.{List, []}
 use lib.ListN.{length, take, drop}
 use native.Mathlib.Omega.{arith}
-use native.Mathlib.Nat.{zero-add}
-use Rattle.lists.specs.Parts.{part, splice, spread}
-use Rattle.lists.proofs.Parts.{splice-nil, length-splice}
+use Rattle.lists.specs.Parts.{part}
+use Rattle.program.specs.Text.{Put}
+use Rattle.program.proofs.Puts.{put-put, put-wide, Putting, putting-none, putting-more, putting-done}
 use Rattle.guard.specs.declared.Answer.{Answer}
-use Rattle.program.specs.Program.{numbersOf, perLine, runs, printed}
-use Rattle.program.proofs.Lines.{per-line, line-more}
+use Rattle.commands.specs.Bytes.{fixed}
+use Rattle.program.specs.Program.{lineOf, linesFrom, lastLine, mostLine, runs, printed, mostPrinted}
 use Rattle.model.specs.Serve.{serve}
-use Rattle.stream.specs.Stream.{commands, nextAt}
+use Rattle.stream.specs.Stream.{commands, nextAt, endOf}
 use Rattle.stream.specs.declared.Next.the-variants.{Whole, Cut}
-use Rattle.stream.proofs.Commands.{Walked, walked-none, walked-more}
+use Rattle.stream.proofs.Commands.{Walked, walked-none, walked-more, walked-done}
 use Rattle.stream.proofs.Walks as walk
 
--- A run that has come to a place of the stream, after so many commands: what is left to run from there on leaves what the whole run leaves.
-pub record Running (image₀ reply₀ stream out₀ image reply out : List ℕ) (at count : ℕ) : Type 0 where
-  pub walked : Walked stream at
-  pub few : count ≤ at
-  pub room : length (commands stream) * perLine ≤ length out₀
-  pub counted : count + length (commands (drop at stream)) ≡ length (commands stream)
+-- A run that has come to a byte of the stream: the lines that are left to write are those of what is left to run.
+pub record Running (start : ℕ) (image₀ reply₀ stream out₀ image reply out : List ℕ) (from place to : ℕ) : Type 0 where
+  pub room : start + mostPrinted stream ≤ length out₀
+  pub walked : Walked stream from
+  pub few : place * fixed ≤ from + fixed
+  pub far : to + mostLine ≤ start + place * mostLine
   pub wide : length image ≡ length image₀
   pub deep : length reply ≡ length reply₀
-  pub long : length out ≡ length out₀
-  pub left-image : runs image reply (commands (drop at stream)) .image ≡ runs image₀ reply₀ (commands stream) .image
-  pub left-reply : runs image reply (commands (drop at stream)) .reply ≡ runs image₀ reply₀ (commands stream) .reply
-  pub left-out : splice (count * perLine) (printed (runs image reply (commands (drop at stream)))) out ≡ splice 0 (printed (runs image₀ reply₀ (commands stream))) out₀
+  pub lines : Putting start to (linesFrom 1 (runs image₀ reply₀ (commands stream) .answers)) (linesFrom place (runs image reply (commands (drop from stream)) .answers)) out₀ out
 
-pub running-none : (image reply stream out : List ℕ) → length (commands stream) * perLine ≤ length out → Running image reply stream out image reply out 0 0
-running-none image reply stream out h =
+pub running-none : (start : ℕ) (image reply stream out : List ℕ) → start + mostPrinted stream ≤ length out → Running start image reply stream out image reply out 0 1 start
+running-none start image reply stream out h =
     record {
+      room = h;
       walked = walked-none stream;
       few = omega arith;
-      room = h;
-      counted = zero-add (length (commands stream));
+      far = omega arith;
       wide = refl;
       deep = refl;
-      long = refl;
-      left-image = refl;
-      left-reply = refl;
-      left-out = refl;
+      lines = putting-none start _ out;
     }
 
-module _ (image₀ reply₀ stream out₀ image reply out : List ℕ) (at count : ℕ) (r : Running image₀ reply₀ stream out₀ image reply out at count) where
-  pub running-within : (end : ℕ) → nextAt stream at ≡ Whole end → (at < end) × (end ≤ length stream) × (count * perLine + perLine ≤ length out) × (count < end)
+module _ {start : ℕ} {image₀ reply₀ stream out₀ image reply out : List ℕ} {from place to : ℕ} (r : Running start image₀ reply₀ stream out₀ image reply out from place to) where
+  pub running-within : (end : ℕ) → nextAt stream from ≡ Whole end → (from < end) × (end ≤ length stream) × (place < end) × (to + mostLine ≤ length out)
   running-within end e =
-      let s = walk.passes stream at end e in
-      let n = rw (s .2) at (r .counted) in
-      (omega (arith, s .0), s .1, omega (arith, n, r .room, r .long), omega (arith, s .0, r .few))
+      let s = walk.passes stream from end e in
+      (omega (arith, s .0), s .1, omega (arith, s .0, r .few), omega (arith, s .0, s .1, r .few, r .far, r .room, r .lines .long))
 
-  pub running-more : (end : ℕ) (a : Answer) (image′ reply′ out′ : List ℕ) → nextAt stream at ≡ Whole end →
-      a ≡ serve image (take (end - at) (drop at stream)) reply .answer →
-      image′ ≡ serve image (take (end - at) (drop at stream)) reply .image →
-      reply′ ≡ serve image (take (end - at) (drop at stream)) reply .reply →
-      out′ ≡ splice (count * perLine) (numbersOf a) out →
+  pub running-more : (end : ℕ) (a : Answer) (image′ reply′ out′ : List ℕ) (to′ : ℕ) → nextAt stream from ≡ Whole end →
+      a ≡ serve image (take (end - from) (drop from stream)) reply .answer →
+      image′ ≡ serve image (take (end - from) (drop from stream)) reply .image →
+      reply′ ≡ serve image (take (end - from) (drop from stream)) reply .reply →
+      Put to mostLine (lineOf place a) out out′ to′ →
       length image′ ≡ length image →
       length reply′ ≡ length reply →
-      Running image₀ reply₀ stream out₀ image′ reply′ out′ end (count + 1)
-  unfolding runs part spread
-  running-more end a image′ reply′ out′ e l p q o wide deep =
-      let s = walk.passes stream at end e in
-      let n = rw (s .2) at (r .counted) in
+      Running start image₀ reply₀ stream out₀ image′ reply′ out′ end (place + 1) to′
+  unfolding runs part linesFrom
+  running-more end a image′ reply′ out′ to′ e l p q o wide deep =
+      let s = walk.passes stream from end e in
       let w = running-within end e in
-      let fits : count * perLine + length (numbersOf a) ≤ length out = omega (arith, per-line a, w .2) in
       record {
-        walked = walked-more stream at end (r .walked) e .0;
-        few = omega (arith, s .0, r .few);
         room = r .room;
-        counted = omega (arith, n);
+        walked = walked-more stream from end (r .walked) e .0;
+        few = omega (arith, s .0, r .few);
+        far = omega (arith, o .few, r .far);
         wide = wide ∙ r .wide;
         deep = deep ∙ r .deep;
-        long = ap length o ∙ length-splice (count * perLine) (numbersOf a) out fits ∙ r .long;
-        left-image = rw (p, q) (rw (s .2) at (r .left-image));
-        left-reply = rw (p, q) (rw (s .2) at (r .left-reply));
-        left-out =
-            rw (p, q, o, l)
-            (line-more count _ _ out (omega (arith, w .2)) ∙ rw (s .2) at (r .left-out));
+        lines = putting-more (lineOf place a) _ (r .lines) (rw (s .2, l, p, q)) o (w .3);
       }
 
-  pub running-less : (end : ℕ) → nextAt stream at ≡ Whole end → length stream - end < length stream - at
-  running-less end e = walked-more stream at end (r .walked) e .1
+  pub running-less : (end : ℕ) → nextAt stream from ≡ Whole end → length stream - end < length stream - from
+  running-less end e = walked-more stream from end (r .walked) e .1
 
-  module _ (e : nextAt stream at ≡ Cut) where
-    pub running-count : count ≡ length (commands stream)
-    running-count = let n = rw (walk.stops stream at e) at (r .counted) in omega (arith, n)
+  module _ (e : nextAt stream from ≡ Cut) where
+    pub running-fits : to + mostLine ≤ length out
+    running-fits = omega (arith, r .walked .within, r .few, r .far, r .room, r .lines .long)
 
-    pub running-image : image ≡ runs image₀ reply₀ (commands stream) .image
-    unfolding runs
-    running-image = rw (walk.stops stream at e) at (r .left-image)
-
-    pub running-reply : reply ≡ runs image₀ reply₀ (commands stream) .reply
-    unfolding runs
-    running-reply = rw (walk.stops stream at e) at (r .left-reply)
-
-    pub running-out : out ≡ splice 0 (printed (runs image₀ reply₀ (commands stream))) out₀
-    unfolding runs spread
-    running-out = sym (splice-nil (count * perLine) out) ∙ rw (walk.stops stream at e) at (r .left-out)
+    pub running-done : {out′ : List ℕ} {to′ left : ℕ} → left ≡ length stream - from → Put to mostLine (lastLine left) out out′ to′ → Put start (mostPrinted stream) (printed image₀ reply₀ stream) out₀ out′ to′
+    unfolding runs linesFrom
+    running-done {left = left} k p =
+        let at = walked-done stream from (r .walked) e in
+        let last : left ≡ length stream - endOf stream = omega (arith, k, at) in
+        let done = putting-done (to - start) (r .lines) (rw (walk.stops stream from e)) (omega arith) in
+        put-wide (omega (arith, r .walked .within, r .few, r .far)) (put-put (omega arith) done (rw last at p))

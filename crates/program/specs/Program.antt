@@ -1,37 +1,22 @@
--- The program's input: an image in front, a stream behind it (rules 8.3 to 8.5).
+-- What the program prints for its input, byte for byte (rules 8.3 to 8.6).
 -- Assumes nothing.
-use Prim.Native.Nat.{ℕ, _*_, _/_, _≤_, _-_}
-use mathlib.Core.List.{List, [], _∷_}
-use mathlib.Core.Bool.{cond, _&&_, not}
-use lib.Dec.{ltb}
+use Prim.Native.Nat.{ℕ, _+_, _*_, _-_, _/_, _≤_}
+use mathlib.Core.List.{List, [], _∷_, _++_}
+use mathlib.Core.Bool.{cond}
+use lib.Dec.{ltb, eqb}
 use lib.ListN.{length, take, drop, replicate}
 use Rattle.image.specs.Layout.{mostBytes, mostRoom}
 use Rattle.image.specs.Bytes.{countOf, roomOf}
 use Rattle.image.specs.Image.{goodFront, frontSize}
 use Rattle.guard.specs.Replies.{replyFields}
 use Rattle.guard.specs.declared.Answer.{Answer}
-use Rattle.lists.specs.Parts.{spread, splice}
+use Rattle.lists.specs.Parts.{spread}
 use Rattle.model.specs.Serve.{serve}
 use Rattle.commands.specs.Bytes.{fixed}
 use Rattle.stream.specs.Stream.{commands, endOf}
-use Rattle.program.specs.declared.Summary.{Summary}
-use Rattle.program.specs.declared.Report.{Report}
-use Rattle.program.specs.declared.Report.the-variants.{TooLong, BadStore, Lines}
+use Rattle.program.specs.Text.{quoted, decimal, spaced, mostDigits}
 
--- The longest input (rule 8.3).
-abbrev pub mostInput : ℕ
-mostInput = 65536
-
--- ---- What a line of the program's output shows of an answer (rule 8.4).
-
--- The numbers of a line behind its place, and how many they are (rule 8.4).
-unfoldable pub numbersOf : Answer → List ℕ
-numbersOf a = a .number ∷ replyFields a
-
-abbrev pub perLine : ℕ
-perLine = 8
-
--- ---- A run of commands over one image (rule 8.5): the answers, what is printed of them, and what is left.
+-- ---- A run of commands over one image (rule 8.5).
 
 -- A run of commands over an image, with one reply buffer for all of them: the answers in order, the image and the reply buffer after.
 pub record Run : Type 0 where
@@ -49,51 +34,88 @@ runs image reply (c ∷ cs) =
       reply = runs (serve image c reply .image) (serve image c reply .reply) cs .reply;
     }
 
--- What is printed of a run, line after line.
-abbrev pub printed : Run → List ℕ
-printed r = spread numbersOf (r .answers)
+-- ---- The lines (rule 8.4).
 
--- ---- What the program makes of its input: a run of the stream over the image in front of it (rules 8.3 and 8.5).
+-- The first line tells how many cards the image has.
+unfoldable pub firstLine : ℕ → List ℕ
+firstLine cards = quoted "cards" ++ spaced cards ++ quoted "\n"
 
--- As many numbers as the lines of the longest input can have: a command has at least 52 bytes.
-abbrev pub mostNumbers : ℕ
-mostNumbers = mostInput / fixed * perLine
+-- The numbers that a command's line shows of its answer, and how many they are.
+unfoldable pub numbersOf : Answer → List ℕ
+numbersOf a = a .number ∷ replyFields a
 
--- The image is so many bytes, the stream is what follows, and the reply buffer has C zeros.
-abbrev pub runBehind : ℕ → ℕ → List ℕ → Run
-runBehind size room input = runs (take size input) (replicate room 0) (commands (drop size input))
+abbrev pub perLine : ℕ
+perLine = 8
 
--- What the judging of an input needs: an image within the input and the limits, and a place for each number that is to be printed.
-pub record Lent (input : List ℕ) (size room : ℕ) (out : List ℕ) : Type 0 where
-  pub within : size ≤ length input
-  pub small : size ≤ mostBytes
-  pub most : room ≤ mostRoom
-  pub lines : length (commands (drop size input)) * perLine ≤ length out
+-- A command's line: its place, then these numbers.
+unfoldable pub lineOf : ℕ → Answer → List ℕ
+lineOf place a = decimal place ++ spread spaced (numbersOf a) ++ quoted "\n"
 
--- ---- What the program prints for an input (rules 8.3 and 8.4).
+-- The lines of answers, counted on from a place.
+unfoldable pub linesFrom : ℕ → List Answer → List ℕ
+linesFrom place [] = []
+linesFrom place (a ∷ more) = lineOf place a ++ linesFrom (place + 1) more
 
--- The bytes behind the image.
+-- The last line tells how many bytes are left over, if any.
+unfoldable pub lastLine : ℕ → List ℕ
+lastLine left = cond (eqb left 0) (quoted "end\n") (quoted "cut" ++ spaced left ++ quoted "\n")
+
+-- The bytes behind a stream's last whole command.
+abbrev pub leftOver : List ℕ → ℕ
+leftOver stream = length stream - endOf stream
+
+-- The lines of a stream that is run over an image with a reply buffer: one for each whole command, counted from 1, and the last.
+abbrev pub printed : List ℕ → List ℕ → List ℕ → List ℕ
+printed image reply stream = linesFrom 1 (runs image reply (commands stream) .answers) ++ lastLine (leftOver stream)
+
+-- ---- The whole output for an input (rule 8.3).
+
+-- The longest input.
+abbrev pub mostInput : ℕ
+mostInput = 65536
+
+-- The input taken apart: the image in front, the stream behind it; and C zeros to reply in.
+abbrev pub imageOf : List ℕ → List ℕ
+imageOf input = take (frontSize input) input
+
 abbrev pub streamOf : List ℕ → List ℕ
 streamOf input = drop (frontSize input) input
 
+abbrev pub blankOf : List ℕ → List ℕ
+blankOf input = replicate (roomOf input) 0
+
 -- The run of an input.
 abbrev pub runOf : List ℕ → Run
-runOf input = runBehind (frontSize input) (roomOf input) input
+runOf input = runs (imageOf input) (blankOf input) (commands (streamOf input))
 
--- The first line has N; there is one line for each whole command; the last tells how many bytes are left over, if any.
-abbrev pub summaryOf : List ℕ → Summary
-summaryOf input =
-    record {
-      cards = countOf input;
-      lines = length (commands (streamOf input));
-      left = length (streamOf input) - endOf (streamOf input);
-    }
+-- From the bytes of standard input to the bytes of standard output.
+unfoldable pub outputOf : List ℕ → List ℕ
+outputOf input =
+    cond (ltb mostInput (length input)) (quoted "too long\n")
+    (cond (goodFront input) (firstLine (countOf input) ++ printed (imageOf input) (blankOf input) (streamOf input))
+    (quoted "bad store\n"))
 
--- Rule 8.3, in its order.
-unfoldable pub reportOf : List ℕ → Report
-reportOf input = cond (ltb mostInput (length input)) TooLong (cond (goodFront input) (Lines (summaryOf input)) BadStore)
+-- ---- How long it can be.
 
--- The numbers of the lines, written from the front of a list; nothing where there are no lines.
-unfoldable pub shownOf : List ℕ → List ℕ → List ℕ
-shownOf input out =
-    cond (not (ltb mostInput (length input)) && goodFront input) (splice 0 (printed (runOf input)) out) out
+-- A line has at most nine numbers, and one byte more with each.
+abbrev pub mostLine : ℕ
+mostLine = (perLine + 1) * (1 + mostDigits)
+
+-- A command has at least its fixed part; and there is the last line.
+abbrev pub mostPrinted : List ℕ → ℕ
+mostPrinted stream = (length stream / fixed + 1) * mostLine
+
+-- 1,260 commands of 52 bytes, the first line and the last.
+abbrev pub mostOutput : ℕ
+mostOutput = (mostInput / fixed + 2) * mostLine
+
+-- What is written where so many bytes are lent: nothing where they are too few for the longest output (rule 8.6).
+unfoldable pub outputWithin : ℕ → List ℕ → List ℕ
+outputWithin lent input = cond (ltb lent mostOutput) [] (outputOf input)
+
+-- What the run behind an image of `size` bytes needs: an image within the input and the limits, and a place for every line.
+pub record Lent (input : List ℕ) (size room : ℕ) (out : List ℕ) (at : ℕ) : Type 0 where
+  pub within : size ≤ length input
+  pub small : size ≤ mostBytes
+  pub most : room ≤ mostRoom
+  pub lines : at + mostPrinted (drop size input) ≤ length out

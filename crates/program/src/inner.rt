@@ -1,5 +1,5 @@
 // What other crates need, and what asks something of its caller.
-pub mod batch;
-pub mod input;
 pub mod lines;
+pub mod output;
 pub mod run;
+pub mod text;

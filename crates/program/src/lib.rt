@@ -1,42 +1,22 @@
-// The program's whole answer to an input, as a value, before anything is printed.
+// The program's whole output for an input, as bytes in a lent buffer.
 pub mod inner;
 
 ghost use mathlib.Core.Path.{_≡_};
-ghost use Rattle.program.specs.Program.{reportOf, shownOf};
-use inner::batch::MOST_NUMBERS;
-use inner::input::MOST_INPUT;
+ghost use lib.ListN.{length};
+ghost use Rattle.lists.specs.Parts.{splice};
+ghost use Rattle.program.specs.Program.{outputWithin};
 
-// What the stream behind a good store came to: how many cards the image has, how many lines there are, and how many bytes are left over.
-pub struct Summary {
-    pub cards: u16,
-    pub lines: usize,
-    pub left: usize,
-}
+// As many bytes as the output for the longest input can have: a line for each of 1,260 commands, the first line and the last, of 189 bytes each.
+pub const MOST_OUTPUT: usize = 238518;
 
-// What there is to print.
-pub enum Report {
-    TooLong,
-    BadStore,
-    Lines(Summary),
-}
-
-// Judges an input whole, and writes the numbers of every line into `out`, end to end.
-pub fn answer(input: &[u8], out: &mut [u64; MOST_NUMBERS]) -> Report
-    ensures report { λ r. ⌜ r ≡ reportOf (now (input .entry)) ⌝ }
-    ensures out { λ _. ⌜ now (out .exit) ≡ shownOf (now (input .entry)) (now (out .entry)) ⌝ }
+// Writes the whole output for an input into the first bytes of `out`, and hands back how many they are. Where `out` has fewer than `MOST_OUTPUT`
+// bytes, nothing is written, and it hands back 0; no output is empty.
+pub fn output(input: &[u8], out: &mut [u8]) -> usize
+    ensures count { λ r. ⌜ r ≡ length (outputWithin (length (now (out .entry))) (now (input .entry))) ⌝ }
+    ensures out { λ _. ⌜ now (out .exit) ≡ splice 0 (outputWithin (length (now (out .entry))) (now (input .entry))) (now (out .entry)) ⌝ }
 {
-    if MOST_INPUT < input.len() {
-        return Report::TooLong;
+    if out.len() < MOST_OUTPUT {
+        return 0;
     }
-    let front = image::front(input);
-    let size = front.size;
-    if size == 0 {
-        return Report::BadStore;
-    }
-    let lines = inner::batch::answers(input, size, front.room as usize, out);
-    Report::Lines(Summary {
-        cards: front.cards,
-        lines,
-        left: inner::input::left_over(&input[size..]),
-    })
+    inner::output::write(input, out)
 }

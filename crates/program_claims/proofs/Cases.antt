@@ -1,5 +1,10 @@
 -- Case P, by computation on bytes. Assumes nothing.
-use mathlib.Core.Path.{refl}
+use Prim.Native.Nat.{ℕ}
+use native.Mathlib.Omega.{arith}
+use mathlib.Core.Path.{_≡_, refl}
+use lib.ListN.{length, replicate, length-replicate}
+use Rattle.image.proofs.InFront.{front-sound}
+use Rattle.program.proofs.Answered.{long-output, bad-output}
 use Rattle.lists.specs.Parts.{part, splice, table, spread, every, zeros}
 use Rattle.lists.specs.Table.{all, allFrom}
 use Rattle.lists.specs.Le.{le, toLe}
@@ -14,9 +19,38 @@ use Rattle.image.specs.Image.{bodies, encode, cardAt, decode, tailZero, cardSou
 use Rattle.model.specs.Serve.{stepped, serveBy, serve}
 use Rattle.stream.specs.Stream.{extent, whole, commandsWithin, commands, endWithin, endOf}
 use Rattle.image.specs.Image.{goodFront}
-use Rattle.program.specs.Program.{numbersOf, runs, reportOf}
-use Rattle.program_claims.specs.Cases.{CaseP}
+use Rattle.program.specs.Program.{numbersOf, lineOf, linesFrom, firstLine, lastLine, runs, outputOf}
+use Rattle.program.specs.Text.{quoted, decimalWithin, decimal}
+use Rattle.program_claims.specs.Cases.{CaseP, ShortCases, Decimals}
 
 pub case-p : CaseP
-unfolding reportOf runs numbersOf goodFront commands commandsWithin endOf endWithin whole extent serve serveBy stepped sound headerSound cardSound tailZero decode cardAt entryAt readEntry encode bodies pad entryBytes header shapeOk fresh replied raise entrySound commandBytes formed payload fieldsOf wellFormed all allFrom le toLe part splice table spread every zeros
-case-p = record { report = refl; lines = refl }
+unfolding outputOf quoted decimalWithin decimal firstLine lineOf linesFrom lastLine runs numbersOf goodFront commands commandsWithin endOf endWithin whole extent serve serveBy stepped sound headerSound cardSound tailZero decode cardAt entryAt readEntry encode bodies pad entryBytes header shapeOk fresh replied raise entrySound commandBytes formed payload fieldsOf wellFormed all allFrom le toLe part splice table spread every zeros
+case-p = refl
+
+longest : outputOf (replicate 65536 0) ≡ quoted "bad store\n"
+unfolding sound headerSound all allFrom le part
+longest =
+    let n : length (replicate {A = ℕ} 65536 0) ≡ 65536 = length-replicate {A = ℕ} 65536 0 in
+    bad-output _ (omega (arith, n)) (front-sound (replicate 65536 0) 16 refl (omega (arith, n)) (omega (arith, n)))
+
+longer : outputOf (replicate 65537 0) ≡ quoted "too long\n"
+longer = let n : length (replicate {A = ℕ} 65537 0) ≡ 65537 = length-replicate {A = ℕ} 65537 0 in long-output _ (omega (arith, n))
+
+pub short-cases : ShortCases
+unfolding outputOf quoted decimalWithin decimal firstLine lineOf linesFrom lastLine runs numbersOf goodFront commands commandsWithin endOf endWithin whole extent serve serveBy stepped sound headerSound cardSound tailZero decode cardAt entryAt readEntry encode bodies pad entryBytes header shapeOk fresh replied raise entrySound commandBytes formed payload fieldsOf wellFormed all allFrom le toLe part splice table spread every zeros
+short-cases = record { empty = refl; alone = refl; lacking = refl; longest = longest; longer = longer }
+
+pub decimals : Decimals
+unfolding quoted decimalWithin decimal
+decimals =
+    record {
+      none = refl;
+      one = refl;
+      two = refl;
+      last-two = refl;
+      three = refl;
+      byte = refl;
+      four = refl;
+      commands = refl;
+      twenty = refl;
+    }

@@ -1,17 +1,23 @@
 -- The claims hold. Assumes nothing.
-use Prim.Native.Nat.{ℕ, zero, suc, _<_}
-use native.Mathlib.Nat.{le-of-suc-le-suc, not-suc-le-zero}
-use mathlib.Core.Path.{_≡_, refl, ap}
-use mathlib.Core.List.{List, [], _∷_}
-use lib.ListN.{length, take, getD}
-use Rattle.lists.proofs.Spread.{part-spread}
+use Prim.Native.Nat.{ℕ, zero, suc, _+_, _<_}
+use native.Mathlib.Omega.{arith}
+use native.Mathlib.Nat.{le-of-suc-le-suc, not-suc-le-zero, add-zero}
+use mathlib.Core.Path.{_≡_, refl, sym, ap, _∙_}
+use mathlib.Core.List.{List, [], _∷_, _++_, append-assoc}
+use mathlib.Core.Bool.{Bool, true, false, cond}
+use lib.Dec.{ltb, lit<}
+use lib.ListN.{length, take, drop, getD}
 use Rattle.guard.specs.declared.Answer.{Answer}
 use Rattle.model.specs.Serve.{serve}
-use Rattle.program.specs.Program.{numbersOf, perLine, runs}
-use Rattle.program_claims.specs.Claims.{ProgramClaims}
+use Rattle.image.specs.Bytes.{countOf}
+use Rattle.image.specs.Image.{goodFront}
+use Rattle.program.specs.Text.{quoted}
+use Rattle.program.specs.Program.{lineOf, linesFrom, firstLine, printed, mostInput, imageOf, blankOf, streamOf, runs, outputOf}
+use Rattle.program_claims.specs.Claims.{NeverEmpty, ProgramClaims}
 use Rattle.program_claims.proofs.Log.{logs}
 use Rattle.program_claims.proofs.Served.{guarded, serves}
-use Rattle.program.proofs.Lines.{per-line}
+use Rattle.program_claims.proofs.Prints.{prints}
+use Rattle.program_claims.proofs.Numerals.{numerals}
 
 one-each : (image reply : List ℕ) (cs : List (List ℕ)) → length (runs image reply cs .answers) ≡ length cs
 unfolding runs
@@ -25,6 +31,44 @@ each image reply [] i none h = absurd (not-suc-le-zero h)
 each image reply (c ∷ cs) zero none h = refl
 each image reply (c ∷ cs) (suc i) none h = each (serve image c reply .image) (serve image c reply .reply) cs i none (le-of-suc-le-suc h)
 
+-- Of the first commands, the first answers.
+first-answers : (image reply : List ℕ) (cs : List (List ℕ)) (i : ℕ) → runs image reply (take i cs) .answers ≡ take i (runs image reply cs .answers)
+unfolding runs
+first-answers image reply [] zero = refl
+first-answers image reply [] (suc i) = refl
+first-answers image reply (c ∷ cs) zero = refl
+first-answers image reply (c ∷ cs) (suc i) =
+    ap (λ (l : List Answer). serve image c reply .answer ∷ l) (first-answers (serve image c reply .image) (serve image c reply .reply) cs i)
+
+lines-apart : (p i : ℕ) (l : List Answer) (none : Answer) → i < length l →
+    linesFrom p l ≡ linesFrom p (take i l) ++ (lineOf (p + i) (getD l i none) ++ linesFrom (p + i + 1) (drop (suc i) l))
+unfolding linesFrom
+lines-apart p i [] none h = absurd (not-suc-le-zero h)
+lines-apart p zero (a ∷ l) none h = rw add-zero
+lines-apart p (suc i) (a ∷ l) none h =
+    let place : p + 1 + i ≡ p + suc i = omega arith in
+    ap (λ (m : List ℕ). lineOf p a ++ m) (rw place at (lines-apart (p + 1) i l none (le-of-suc-le-suc h)))
+    ∙ sym (append-assoc (lineOf p a) _ _)
+
+lines : (image reply : List ℕ) (cs : List (List ℕ)) (i : ℕ) (none : Answer) → i < length cs →
+    linesFrom 1 (runs image reply cs .answers)
+    ≡ linesFrom 1 (runs image reply (take i cs) .answers)
+    ++ (lineOf (i + 1) (getD (runs image reply cs .answers) i none) ++ linesFrom (i + 2) (drop (i + 1) (runs image reply cs .answers)))
+lines image reply cs i none h =
+    let a : 1 + i ≡ i + 1 = omega arith in
+    let b : i + 1 + 1 ≡ i + 2 = omega arith in
+    let c : suc i ≡ i + 1 = omega arith in
+    rw (first-answers image reply cs i) (rw (c, b) at (rw a at (lines-apart 1 i (runs image reply cs .answers) none (rw (one-each image reply cs) h))))
+
+never-empty : NeverEmpty
+unfolding outputOf quoted firstLine
+never-empty input = go (ltb mostInput (length input)) (goodFront input)
+  where
+    go : (a b : Bool) → 0 < length (cond a (quoted "too long\n") (cond b (firstLine (countOf input) ++ printed (imageOf input) (blankOf input) (streamOf input)) (quoted "bad store\n")))
+    go true b = lit< tt
+    go false true = omega arith
+    go false false = lit< tt
+
 pub claims : ProgramClaims
 claims =
     record {
@@ -32,9 +76,12 @@ claims =
           record {
             whole = one-each image reply cs;
             each = each image reply cs;
-            lines = λ i none h. part-spread numbersOf perLine per-line (runs image reply cs .answers) i none (rw (one-each image reply cs) h);
+            lines = lines image reply cs;
           };
       logs = logs;
       guarded = guarded;
       serves = serves;
+      prints = prints;
+      numerals = numerals;
+      never-empty = never-empty;
     }

@@ -1,14 +1,15 @@
--- What is claimed of a run, and of the program's (rules 8.5 and 9.1).
+-- What is claimed of a run, and of the program's output (rules 8.4, 8.5 and 9.1).
 -- Assumes nothing.
-use Prim.Native.Nat.{ℕ, _*_, _<_}
+use Prim.Native.Nat.{ℕ, _+_, _-_, _*_, _≤_, _<_}
 use mathlib.Core.Path.{_≡_}
 use mathlib.Core.List.{List, [], _∷_, _++_, map, reverse}
 use mathlib.Core.Bool.{true}
 use lib.Dec.{T, eqb}
-use lib.ListN.{length, take, getD, replicate}
-use Rattle.lists.specs.Parts.{part, Bytes}
+use lib.ListN.{length, take, drop, getD, replicate}
+use Rattle.lists.specs.Parts.{Bytes}
 use Rattle.guard.specs.declared.Answer.{Answer}
 use Rattle.image.specs.Layout.{shapeOk}
+use Rattle.image.specs.Bytes.{countOf, roomOf}
 use Rattle.image.specs.Image.{sound, fresh}
 use Rattle.model.specs.Serve.{serve}
 use Rattle.model.specs.Words.{Sent, Event, imageAfter, history}
@@ -16,7 +17,8 @@ use Rattle.lists.specs.Search.{none}
 use Rattle.model.specs.Claims.{Claim}
 use Rattle.stream.specs.Stream.{commands}
 use Rattle.image.specs.Image.{goodFront}
-use Rattle.program.specs.Program.{numbersOf, perLine, runs, printed, runOf}
+use Rattle.program.specs.Text.{decimal}
+use Rattle.program.specs.Program.{firstLine, lineOf, linesFrom, lastLine, leftOver, mostInput, runs, runOf, outputOf}
 
 -- The answers of a run are those of judging command by command: one for each command, and each is the store's, on the image and the reply
 -- buffer as the commands before leave them.
@@ -24,9 +26,11 @@ pub record Stepwise (image reply : List ℕ) (cs : List (List ℕ)) : Type 0 whe
   pub whole : length (runs image reply cs .answers) ≡ length cs
   pub each : (i : ℕ) (none : Answer) → i < length cs →
       getD (runs image reply cs .answers) i none ≡ serve (runs image reply (take i cs) .image) (getD cs i []) (runs image reply (take i cs) .reply) .answer
-  -- Line i, counted from 0, has the numbers of answer i.
+  -- Line i, counted from 0, stands behind the lines of the first i commands, and shows its place, counted from 1, and answer i.
   pub lines : (i : ℕ) (none : Answer) → i < length cs →
-      part (i * perLine) perLine (printed (runs image reply cs)) ≡ numbersOf (getD (runs image reply cs .answers) i none)
+      linesFrom 1 (runs image reply cs .answers)
+      ≡ linesFrom 1 (runs image reply (take i cs) .answers)
+      ++ (lineOf (i + 1) (getD (runs image reply cs .answers) i none) ++ linesFrom (i + 2) (drop (i + 1) (runs image reply cs .answers)))
 
 -- ---- a run and the log that demand 3 speaks of
 
@@ -72,8 +76,35 @@ pub record Served (input : List ℕ) : Type 0 where
 abbrev pub Serves : Type 0
 Serves = (input : List ℕ) → Bytes input → goodFront input ≡ true → Served input
 
+-- ---- what is printed
+
+-- The number that digits stand for, read from the left behind what was read so far.
+unfoldable pub readOn : ℕ → List ℕ → ℕ
+readOn sum [] = sum
+readOn sum (d ∷ ds) = readOn (sum * 10 + (d - 48)) ds
+
+-- A number in decimal can be read back, each byte of it is a digit, and only 0 begins with a zero.
+pub record Numeral (n : ℕ) : Type 0 where
+  pub back : readOn 0 (decimal n) ≡ n
+  pub each : (i : ℕ) → i < length (decimal n) → (48 ≤ getD (decimal n) i 0) × (getD (decimal n) i 0 ≤ 57)
+  pub front : 0 < n → 48 < getD (decimal n) 0 0
+
+-- Behind a sound image in front, within the limit, the output is the first line, a line for each answer of the run that the claims above speak of,
+-- and the last line.
+abbrev pub Prints : Type 0
+Prints =
+    (image stream : List ℕ) → sound image ≡ true → length (image ++ stream) ≤ mostInput
+    → outputOf (image ++ stream) ≡ firstLine (countOf image) ++ (linesFrom 1 (runs image (replicate (roomOf image) 0) (commands stream) .answers) ++ lastLine (leftOver stream))
+
+-- No output is empty. So where nothing is written, because too few bytes were lent, the count tells it.
+abbrev pub NeverEmpty : Type 0
+NeverEmpty = (input : List ℕ) → 0 < length (outputOf input)
+
 pub record ProgramClaims : Type 0 where
   pub stepwise : (image reply : List ℕ) (cs : List (List ℕ)) → Stepwise image reply cs
   pub logs : (image reply : List ℕ) (cs : List (List ℕ)) → Logged image reply cs
   pub guarded : Guarded
   pub serves : Serves
+  pub prints : Prints
+  pub numerals : (n : ℕ) → Numeral n
+  pub never-empty : NeverEmpty

@@ -13,7 +13,8 @@ use Rattle.lists.specs.Le.{le}
 use Rattle.lists.proofs.Parts.{part-drop, part-take, part-append-left}
 use Rattle.lists.proofs.Tests.{and-in, and-right}
 use Rattle.commands.specs.Bytes.{fixed}
-use Rattle.stream.specs.Stream.{extent, whole, nextAt}
+use Rattle.stream.specs.Stream.{extent, whole, nextAt, onward}
+use Rattle.stream.specs.declared.Next.{Next}
 use Rattle.stream.specs.declared.Next.the-variants.{Whole, Cut}
 
 -- ---- the command that begins some bytes
@@ -95,3 +96,20 @@ module _ (stream : List ℕ) (at : ℕ) where
       go : (b : Bool) → whole (drop at stream) ≡ b → whole (drop at stream) ≡ false
       go true q = let never : Whole (at + extent (drop at stream)) ≡ Cut = sym (next-whole q) ∙ e in let z : _≡_ {A = ℕ} 0 1 = cc in absurd (omega arith)
       go false q = q
+
+  -- A step goes on behind a whole command, and only there.
+  pub went : {end : ℕ} → end ≡ onward at (nextAt stream at) → (end ≡ at → ⊥) → nextAt stream at ≡ Whole end
+  went {end} h moved = go (nextAt stream at) refl
+    where
+      go : (n : Next) → nextAt stream at ≡ n → nextAt stream at ≡ Whole end
+      go (Whole to) e = e ∙ ap Whole (sym (h ∙ ap (onward at) e))
+      go Cut e = absurd (moved (h ∙ ap (onward at) e))
+
+  pub stayed : {end : ℕ} → end ≡ onward at (nextAt stream at) → end ≡ at → nextAt stream at ≡ Cut
+  stayed {end} h same = go (nextAt stream at) refl
+    where
+      go : (n : Next) → nextAt stream at ≡ n → nextAt stream at ≡ Cut
+      go (Whole to) e =
+          let there : to ≡ at = sym (h ∙ ap (onward at) e) ∙ same in
+          absurd (omega (arith, there, says-whole to e .ends, extent-fixed (drop at stream)))
+      go Cut e = e

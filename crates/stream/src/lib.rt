@@ -1,6 +1,6 @@
 // A stream: commands end to end, and a reader that keeps the lent stream and its place.
 ghost use mathlib.Core.Path.{_≡_};
-ghost use Rattle.stream.specs.Stream.{nextAt, endOf, begun, movedTo};
+ghost use Rattle.stream.specs.Stream.{nextAt, onward, endOf, begun, passed};
 use commands::FIXED;
 use commands::LENGTH;
 use slices::inner::fixed_width::read_u16;
@@ -31,16 +31,13 @@ pub fn next_at(stream: &[u8], at: usize) -> Next
     Next::Whole(at + FIXED + payload)
 }
 
-// The byte where the first command that is not whole begins, or the stream's end.
-pub fn end_of(stream: &[u8]) -> usize
-    ensures { λ r. ⌜ r ≡ endOf (now (stream .entry)) ⌝ }
+// Where a walk that has come to `at` goes on: behind the whole command there; where none is whole it stays.
+fn onward_from(stream: &[u8], at: usize) -> usize
+    ensures { λ r. ⌜ r ≡ onward at (nextAt (now (stream .entry)) at) ⌝ }
 {
-    let mut at = 0;
-    loop {
-        let Next::Whole(end) = next_at(stream, at) else {
-            break at;
-        };
-        at = end;
+    match next_at(stream, at) {
+        Next::Whole(end) => end,
+        Next::Cut => at,
     }
 }
 
@@ -60,33 +57,36 @@ impl<'a> Reader<'a> {
         Reader { stream, at: 0 }
     }
 
-    // The next command: what stands at the reader's place.
-    pub fn next(self) -> Next
-        ensures { λ n. ⌜ n ≡ nextAt (now (self .entry .stream)) (self .entry .at) ⌝ }
-    {
-        next_at(self.stream, self.at)
-    }
-
-    // The reader at another place of its stream.
-    pub fn moved(self, at: usize) -> Reader<'a>
-        ensures { λ r. ⌜ r ≡ movedTo (self .entry) at ⌝ }
+    // The next command: the reader moves on behind it, and so the command is what lies between the two places. Where none is whole it stays.
+    pub fn next(self) -> Reader<'a>
+        ensures { λ r. ⌜ r ≡ passed (self .entry) ⌝ }
     {
         Reader {
             stream: self.stream,
-            at,
+            at: onward_from(self.stream, self.at),
         }
     }
 }
 
-// A reader that is moved on from command to command, up to the first that is not whole: the place where it stands then.
-pub fn read_to_end(stream: &[u8]) -> usize
-    ensures { λ end. ⌜ end ≡ endOf (now (stream .entry)) ⌝ }
+// ---- The walk, over plain parameters.
+
+// One step of a walk that has come to any place: where a reader that stands there goes on.
+pub fn next_from(stream: &[u8], at: usize) -> usize
+    ensures { λ end. ⌜ end ≡ onward at (nextAt (now (stream .entry)) at) ⌝ }
 {
-    let mut reader = Reader::new(stream);
+    Reader { stream, at }.next().at
+}
+
+// The byte where the first command that is not whole begins, or the stream's end.
+pub fn end_of(stream: &[u8]) -> usize
+    ensures { λ r. ⌜ r ≡ endOf (now (stream .entry)) ⌝ }
+{
+    let mut at = 0;
     loop {
-        let Next::Whole(end) = reader.next() else {
-            break reader.at;
-        };
-        reader = reader.moved(end);
+        let end = next_from(stream, at);
+        if end == at {
+            break at;
+        }
+        at = end;
     }
 }

@@ -5,6 +5,7 @@
 //! - [`run`]: how a difference is told. [`coverage`]: what a run counts.
 //! - [`answers`], [`images`], [`lists`], [`queues`], [`desks`], [`streams`],
 //!   [`texts`], [`logs`], [`program`]: what is compared, part by part.
+//! - [`outputs`]: what the program prints, whole and in process.
 //! - [`upgrades`]: lists of turns from an empty queue, in which standing desks
 //!   ask again. [`lapses`]: desks that fall silent.
 //! - [`history`]: the history engine, beside the store. [`swaps`]: commands for
@@ -27,6 +28,7 @@ pub mod images;
 pub mod lapses;
 pub mod lists;
 pub mod logs;
+pub mod outputs;
 pub mod pairs;
 pub mod program;
 pub mod proposals;

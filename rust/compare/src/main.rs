@@ -10,8 +10,8 @@ use std::time::{Instant, SystemTime, UNIX_EPOCH};
 use compare::coverage::Run;
 use compare::run::Compared;
 use compare::{
-    answers, desks, history, images, lapses, lists, logs, program, proposals, queues, streams,
-    swaps, systems, texts, trials, upgrades,
+    answers, desks, history, images, lapses, lists, logs, outputs, program, proposals, queues,
+    streams, swaps, systems, texts, trials, upgrades,
 };
 use second::random::Random;
 
@@ -75,6 +75,7 @@ fn compared(run: &mut Run, seed: u64, cases: u64, inputs: u64) -> Compared<()> {
         }
     }
     texts::ties(run)?;
+    outputs::any(run, &mut random, inputs)?;
     program::any(run, &mut random, inputs)?;
     let seconds = started.elapsed().as_secs();
     println!("compare: {} cases, {seconds} s", run.cases);

@@ -1,8 +1,11 @@
 //! The program's binary against the second program's output, on whole inputs.
 
 use std::fs::{self, File};
+use std::io::Write;
+use std::os::unix::process::ExitStatusExt;
 use std::path::{Path, PathBuf};
-use std::process::{Command, Stdio};
+use std::process::{Command, ExitStatus, Stdio};
+use std::time::Duration;
 
 use second::generate;
 use second::program::INPUT_LIMIT;
@@ -11,6 +14,7 @@ use second::short::fresh;
 use second::Layout;
 
 use crate::coverage::{Kind, Run};
+use crate::outputs;
 use crate::run::{bytes, same, Compared};
 
 /// The program's binary, and the file through which it gets its inputs, which
@@ -43,7 +47,49 @@ impl Program {
             .stderr(Stdio::inherit())
             .output()
             .map_err(failed)?;
+        let told = || bytes("standard input", input);
+        same("exit status", output.status.code(), Some(0), told)?;
         Ok(String::from_utf8_lossy(&output.stdout).into_owned())
+    }
+
+    /// How the binary ends whose output nobody reads: its pipe is closed before
+    /// it gets its input. The signal is let through, or ignored.
+    fn unread(&self, input: &[u8], ignored: bool) -> Compared<ExitStatus> {
+        let failed = |error: std::io::Error| format!("a closed pipe: {error}");
+        let trap = if ignored { "trap '' PIPE; " } else { "" };
+        let mut child = Command::new("sh")
+            .arg("-c")
+            .arg(format!("{trap}exec \"$0\""))
+            .arg(&self.binary)
+            .stdin(Stdio::piped())
+            .stdout(Stdio::piped())
+            .spawn()
+            .map_err(failed)?;
+        drop(child.stdout.take());
+        if let Some(mut stdin) = child.stdin.take() {
+            stdin.write_all(input).map_err(failed)?;
+        }
+        for _ in 0..10_000 {
+            if let Some(status) = child.try_wait().map_err(failed)? {
+                return Ok(status);
+            }
+            std::thread::sleep(Duration::from_millis(1));
+        }
+        child.kill().map_err(failed)?;
+        Err("a closed pipe: the program does not end".to_owned())
+    }
+
+    /// Output that nobody reads ends the program: by the signal, or, where that
+    /// is ignored, by the write that fails, with status 0.
+    fn closed_pipes(&self, run: &mut Run, input: &[u8]) -> Compared<()> {
+        let told = || bytes("standard input", input);
+        let status = self.unread(input, false)?;
+        same("signal", status.signal(), Some(SIGPIPE), told)?;
+        run.seen_at(Kind::ClosedPipes, 0);
+        let status = self.unread(input, true)?;
+        same("exit status", status.code(), Some(0), told)?;
+        run.seen_at(Kind::ClosedPipes, 1);
+        Ok(())
     }
 
     /// What both print for an input.
@@ -51,6 +97,7 @@ impl Program {
         let (proved, second) = (self.printed(input)?, second::output(input));
         let lent = || bytes("standard input", input);
         same("program", &proved, &second, lent)?;
+        run.seen(Kind::ExitStatus);
         let last = proved.lines().last().unwrap_or_default();
         let kind = match last.split(' ').next() {
             Some("too") => 0,
@@ -79,8 +126,13 @@ impl Drop for Program {
     }
 }
 
-/// The edges of an input's length, and of what an image leaves of it.
-const EDGES: u64 = 12 + 2 * FRONTS.len() as u64;
+/// The signal of a pipe that nobody reads.
+const SIGPIPE: i32 = 13;
+
+/// The edges of an input's length, and of what an image leaves of it; then the
+/// sorts of inputs with long outputs.
+const EDGES: u64 = LENGTHS + outputs::SORTS;
+const LENGTHS: u64 = 12 + 2 * FRONTS.len() as u64;
 
 /// N and C of images that leave room for twenty commands in an input, for two,
 /// and for none.
@@ -103,7 +155,8 @@ fn input(random: &mut Random, edge: u64) -> Vec<u8> {
         }
         9 => return random.bytes(INPUT_LIMIT + 1),
         10 | 11 => {}
-        12..EDGES => {
+        LENGTHS..EDGES => return outputs::input(random, edge - LENGTHS),
+        12..LENGTHS => {
             let (cards, room) = FRONTS[(edge - 12) as usize % FRONTS.len()];
             let image = generate::sound_image_of(random, cards, room);
             let past = (edge - 12) as usize / FRONTS.len();
@@ -160,6 +213,9 @@ fn worker(number: u64, seed: u64, inputs: u64) -> Compared<Run> {
         let edge = if count < EDGES { count } else { any };
         let input = input(&mut random, edge);
         program.output(&mut run, &input)?;
+        if count < 4 {
+            program.closed_pipes(&mut run, &outputs::input(&mut random, count))?;
+        }
         if number == 1 && count % 5_000 == 4_999 {
             let (done, all) = (2 * count + 2, 2 * inputs);
             println!("compare: the program, {done} inputs of {all}");

@@ -51,6 +51,12 @@ mod exported {
         ) -> u8;
         pub fn lupaniele_next(stream: *const u8, length: usize, at: u64, end: *mut u64) -> bool;
         pub fn lupaniele_end(stream: *const u8, length: usize) -> u64;
+        pub fn lupaniele_output(
+            input: *const u8,
+            input_length: usize,
+            out: *mut u8,
+            out_length: usize,
+        ) -> u64;
     }
 }
 
@@ -223,4 +229,10 @@ pub fn next(stream: &[u8], at: u64) -> (bool, u64) {
 pub fn end(stream: &[u8]) -> u64 {
     // SAFETY: the pointer and the length are the slice's.
     unsafe { exported::lupaniele_end(stream.as_ptr(), stream.len()) }
+}
+
+/// Writes what the program prints for an input, and tells how many bytes.
+pub fn output(input: &[u8], out: &mut [u8]) -> u64 {
+    // SAFETY: the pointers and lengths are the slices', which do not overlap.
+    unsafe { exported::lupaniele_output(input.as_ptr(), input.len(), out.as_mut_ptr(), out.len()) }
 }

@@ -1,9 +1,13 @@
-// A line of the program's output, as the numbers that it shows of an answer.
+// The lines of the program's output. Each function writes one from `at` on, and hands back the place behind it.
 ghost use mathlib.Core.Path.{_≡_};
-ghost use Rattle.program.specs.Program.{numbersOf, perLine};
-ghost use Prim.Native.Nat.{_+_, _≤_};
+ghost use Prim.Native.Nat.{_+_, _*_, _≤_};
 ghost use lib.ListN.{length};
-ghost use Rattle.lists.specs.Parts.{splice};
+ghost use Rattle.lists.specs.Parts.{spread};
+ghost use Rattle.program.specs.Program.{numbersOf, lineOf, firstLine, lastLine, perLine, mostLine};
+ghost use Rattle.program.specs.Text.{spaced, mostDigits, Put};
+use crate::inner::text::put_decimal;
+use crate::inner::text::put_spaced;
+use crate::inner::text::put_text;
 use guard::Answer;
 
 // How many numbers a line has behind its place: the answer's number and seven fields.
@@ -27,15 +31,50 @@ pub fn numbers_of(a: Answer) -> [u64; PER_LINE]
     ]
 }
 
-// Writes the numbers of an answer's line into `out` from `at` on.
-pub fn put_line(out: &mut [u64], at: usize, a: Answer)
-    requires { ⌜ at + perLine ≤ length (now out) ⌝ }
-    ensures { λ _. ⌜ now (out .exit) ≡ splice at (numbersOf a) (now (out .entry)) ⌝ }
+// The numbers of an answer's line, each behind a space.
+fn put_numbers(out: &mut [u8], at: usize, a: Answer) -> usize
+    requires { ⌜ at + perLine * (1 + mostDigits) ≤ length (now out) ⌝ }
+    ensures { λ r. ⌜ Put at (perLine * (1 + mostDigits)) (spread spaced (numbersOf a)) (now (out .entry)) (now (out .exit)) r ⌝ }
 {
     let numbers = numbers_of(a);
+    let mut to = at;
     let mut i = 0;
     while i < PER_LINE {
-        out[at + i] = numbers[i];
+        to = put_spaced(out, to, numbers[i]);
         i += 1;
     }
+    to
+}
+
+// The line of an answer: the command's place, then its numbers.
+pub fn put_line(out: &mut [u8], at: usize, place: u64, a: Answer) -> usize
+    requires { ⌜ at + mostLine ≤ length (now out) ⌝ }
+    ensures { λ r. ⌜ Put at mostLine (lineOf place a) (now (out .entry)) (now (out .exit)) r ⌝ }
+{
+    let numbers = put_decimal(out, at, place);
+    let end = put_numbers(out, numbers, a);
+    put_text(out, end, b"\n")
+}
+
+// The first line: how many cards the image has.
+pub fn put_first(out: &mut [u8], at: usize, cards: u64) -> usize
+    requires { ⌜ at + mostLine ≤ length (now out) ⌝ }
+    ensures { λ r. ⌜ Put at mostLine (firstLine cards) (now (out .entry)) (now (out .exit)) r ⌝ }
+{
+    let number = put_text(out, at, b"cards");
+    let end = put_spaced(out, number, cards);
+    put_text(out, end, b"\n")
+}
+
+// The last line: `end`, or `cut` and the bytes left over.
+pub fn put_last(out: &mut [u8], at: usize, left: u64) -> usize
+    requires { ⌜ at + mostLine ≤ length (now out) ⌝ }
+    ensures { λ r. ⌜ Put at mostLine (lastLine left) (now (out .entry)) (now (out .exit)) r ⌝ }
+{
+    if left == 0 {
+        return put_text(out, at, b"end\n");
+    }
+    let number = put_text(out, at, b"cut");
+    let end = put_spaced(out, number, left);
+    put_text(out, end, b"\n")
 }

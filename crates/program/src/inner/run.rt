@@ -1,32 +1,28 @@
 // A run: the commands of a stream judged one after another on one image.
-ghost use mathlib.Core.Path.{_≡_};
-ghost use Prim.Native.Nat.{_*_, _≤_};
+ghost use Prim.Native.Nat.{_+_, _≤_};
 ghost use lib.ListN.{length};
-ghost use Rattle.lists.specs.Parts.{splice};
-ghost use Rattle.program.specs.Program.{perLine, runs, printed};
-ghost use Rattle.stream.specs.Stream.{commands};
+ghost use Rattle.program.specs.Text.{Put};
+ghost use Rattle.program.specs.Program.{printed, mostPrinted};
 use crate::inner::lines;
-use crate::inner::lines::PER_LINE;
-use stream::Next;
 
-// Judges the stream's commands one after another and writes the numbers of each answer's line into `out`, end to end. Hands back how many
-// commands there were.
-pub fn run(image: &mut [u8], stream: &[u8], reply: &mut [u8], out: &mut [u64]) -> usize
-    requires { ⌜ length (commands (now stream)) * perLine ≤ length (now out) ⌝ }
-    ensures count { λ r. ⌜ r ≡ length (commands (now (stream .entry))) ⌝ }
-    ensures image { λ _. ⌜ now (image .exit) ≡ runs (now (image .entry)) (now (reply .entry)) (commands (now (stream .entry))) .image ⌝ }
-    ensures reply { λ _. ⌜ now (reply .exit) ≡ runs (now (image .entry)) (now (reply .entry)) (commands (now (stream .entry))) .reply ⌝ }
-    ensures out { λ _. ⌜ now (out .exit) ≡ splice 0 (printed (runs (now (image .entry)) (now (reply .entry)) (commands (now (stream .entry))))) (now (out .entry)) ⌝ }
+// Judges the stream's commands in one walk, and writes a line for each and the last line into `out` from `at` on. Hands back the place behind
+// them.
+pub fn run(image: &mut [u8], stream: &[u8], reply: &mut [u8], out: &mut [u8], at: usize) -> usize
+    requires { ⌜ at + mostPrinted (now stream) ≤ length (now out) ⌝ }
+    ensures { λ r. ⌜ Put at (mostPrinted (now (stream .entry))) (printed (now (image .entry)) (now (reply .entry)) (now (stream .entry))) (now (out .entry)) (now (out .exit)) r ⌝ }
 {
-    let mut at = 0;
-    let mut count = 0;
-    loop {
-        let Next::Whole(end) = stream::next_at(stream, at) else {
-            break count;
-        };
-        let answer = store::answer(image, &stream[at..end], reply);
-        lines::put_line(out, count * PER_LINE, answer);
-        count += 1;
-        at = end;
-    }
+    let mut from = 0;
+    let mut place = 1;
+    let mut to = at;
+    let cut = loop {
+        let end = stream::next_from(stream, from);
+        if end == from {
+            break from;
+        }
+        let answer = store::answer(image, &stream[from..end], reply);
+        to = lines::put_line(out, to, place, answer);
+        place += 1;
+        from = end;
+    };
+    lines::put_last(out, to, (stream.len() - cut) as u64)
 }

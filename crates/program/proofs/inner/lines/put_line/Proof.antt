@@ -1,79 +1,38 @@
--- The loop: after i numbers those of the line from place i on are left to write. Assumes nothing.
-use mathlib.Core.Path.{_≡_, ap, _∙_}
-use Prim.Native.Nat.{_-_, _≤_, _<_}
+-- One text behind the other. Assumes nothing.
 use native.Mathlib.Omega.{arith}
+use Rattle.program.proofs.Puts.{put-put, put-wide}
+use Rattle.program.specs.Text.{quoted}
+use Rattle.program.specs.Program.{lineOf}
 use borrow.Author.Needs.{needs}
-use lib.ListN.{length, drop, drop-of-length-le}
-use Rattle.lists.proofs.Parts.{drop-left}
-use Rattle.slices.proofs.Loops.{Writing, writing-none, writing-more, writing-done}
-use Rattle.program.specs.Program.{perLine}
-use Rattle.program.proofs.Lines.{per-line}
 use Rattle.program.proofs.inner.lines.put_line.Statement.{statement}
 use Rattle.program.proofs.inner.lines.put_line.Tie as tie
 
-abbrev Inv-loop : tie.InvT-loop
-Inv-loop out₀ at numbers i₀ out i = Writing at i numbers (drop i numbers) out₀ out × (i ≤ perLine)
+put-decimal-requires : tie.Need-put-decimal-requires
+put-decimal-requires c κs = search needs
 
-abbrev μ-loop : tie.MeasureT-loop
-μ-loop out₀ at numbers i₀ out i = perLine - i
+put-numbers-requires : tie.Need-put-numbers-requires
+put-numbers-requires c κs = search needs
 
-numbers-of-requires : tie.Need-numbers-of-requires Inv-loop μ-loop
-numbers-of-requires c κs = search needs
+slice-aggregate-put-text : tie.Need-slice-aggregate-put-text
+slice-aggregate-put-text c = search needs
 
-loop-holds : tie.Need-loop-holds Inv-loop μ-loop
-loop-holds c = (writing-none _ _ _, omega arith)
+put-text-requires : tie.Need-put-text-requires
+put-text-requires c κs = search needs
 
-mul-out : tie.Need-mul-out Inv-loop μ-loop
-mul-out c = omega arith
+same-length : tie.Need-same-length
+same-length c = search needs
 
-array-read-out : tie.Need-array-read-out Inv-loop μ-loop
-array-read-out c = omega arith
-
-add-out : tie.Need-add-out Inv-loop μ-loop
-add-out c = omega arith
-
-mul-out-2 : tie.Need-mul-out-2 Inv-loop μ-loop
-mul-out-2 c = omega arith
-
-slice-write-out : tie.Need-slice-write-out Inv-loop μ-loop
-slice-write-out c = omega arith
-
-add-i : tie.Need-add-i Inv-loop μ-loop
-add-i c = omega arith
-
-loop-less : tie.Need-loop-less Inv-loop μ-loop
-loop-less c = omega arith
-
-loop-again : tie.Need-loop-again Inv-loop μ-loop
-loop-again c =
-    let n : length (c .before .before .numbers-of .result) ≡ perLine = ap length (c .before .before .numbers-of .ensures) ∙ per-line _ in
-    let h : c .before .loop .i < length (c .before .before .numbers-of .result) = omega arith in
-    (writing-more _ _ (c .before .loop .inv .0) (drop-left (c .before .before .numbers-of .result) 0 h) (omega arith), omega arith)
-
-same-length : tie.Need-same-length Inv-loop μ-loop
-same-length c = c .before .loop .inv .0 .long
-
-returns : tie.Need-returns Inv-loop μ-loop
-returns c =
-    let n : length (c .before .before .numbers-of .result) ≡ perLine = ap length (c .before .before .numbers-of .ensures) ∙ per-line _ in
-    let h : length (c .before .before .numbers-of .result) ≤ c .before .loop .i = omega arith in
-    writing-done (c .before .loop .inv .0) (drop-of-length-le (c .before .before .numbers-of .result) h) ∙ rw (c .before .before .numbers-of .ensures)
+returns : tie.Need-returns
+unfolding lineOf quoted
+returns c = put-wide (omega arith) (put-put (omega arith) (put-put (omega arith) (c .before .before .before .before .before .before .before .before .before .before .before .put-decimal .ensures) (c .before .before .before .before .before .before .before .put-numbers .ensures)) (c .before .before .put-text .ensures))
 
 pub put-line-spec : {M : Type 1} → statement M
 put-line-spec =
     tie.close
     (tie.spec
-    Inv-loop
-    μ-loop
-    numbers-of-requires
-    loop-holds
-    mul-out
-    array-read-out
-    add-out
-    mul-out-2
-    slice-write-out
-    add-i
-    loop-less
-    loop-again
+    put-decimal-requires
+    put-numbers-requires
+    slice-aggregate-put-text
+    put-text-requires
     same-length
     returns)

@@ -1,70 +1,65 @@
--- The loop: what is left to run leaves what the whole run leaves. The measure is what is left of the stream. Assumes nothing.
+-- The loop: the lines of what is left to run are left to write. The measure is what is left of the stream. Assumes nothing.
 use Prim.Native.Nat.{_-_}
-use mathlib.Core.Path.{sym, _∙_}
 use borrow.Author.Needs.{needs}
 use native.Mathlib.Omega.{arith}
 use lib.ListN.{length}
-use Rattle.program.proofs.Running.{Running, running-none, running-within, running-more, running-less, running-count, running-image, running-reply, running-out}
+use Rattle.stream.proofs.Place.{went, stayed}
+use Rattle.program.proofs.Running.{Running, running-none, running-within, running-more, running-less, running-fits, running-done}
 use Rattle.program.proofs.inner.run.run.Statement.{statement}
 use Rattle.program.proofs.inner.run.run.Tie as tie
 
 abbrev Inv-loop : tie.InvT-loop
-Inv-loop image₀ stream reply₀ out₀ at₀ count₀ image reply out at count = Running image₀ reply₀ stream out₀ image reply out at count
+Inv-loop image₀ stream reply₀ out₀ at from₀ place₀ to₀ image reply out from place to = Running at image₀ reply₀ stream out₀ image reply out from place to
 
 abbrev μ-loop : tie.MeasureT-loop
-μ-loop image₀ stream reply₀ out₀ at₀ count₀ image reply out at count = length stream - at
+μ-loop image₀ stream reply₀ out₀ at from₀ place₀ to₀ image reply out from place to = length stream - from
 
 loop-holds : tie.Need-loop-holds Inv-loop μ-loop
-loop-holds c = running-none _ _ _ _ (c .before .before .before .before .pre)
+loop-holds c = running-none _ _ _ _ _ (c .before .before .before .before .pre)
 
-next-at-requires : tie.Need-next-at-requires Inv-loop μ-loop
-next-at-requires c κs = search needs
-
-enum-known-end : tie.Need-enum-known-end Inv-loop μ-loop
-enum-known-end c = search needs
-
-enum-told : tie.Need-enum-told Inv-loop μ-loop
-enum-told c = search needs
+next-from-requires : tie.Need-next-from-requires Inv-loop μ-loop
+next-from-requires c κs = search needs
 
 sub-answer : tie.Need-sub-answer Inv-loop μ-loop
 sub-answer c =
-    let w = running-within _ _ _ _ _ _ _ _ _ (c .before .before .before .before .before .loop .inv) _ (sym (c .before .before .before .before .next-at .ensures) ∙ c .before .before .end .given .1) in
+    let w = running-within (c .before .before .before .loop .inv) _ (went _ _ (c .before .before .next-from .ensures) (c .before .if1 .left)) in
     omega (arith, w .0, w .1, w .2, w .3)
 
 part-answer-start : tie.Need-part-answer-start Inv-loop μ-loop
 part-answer-start c =
-    let w = running-within _ _ _ _ _ _ _ _ _ (c .before .before .before .before .before .loop .inv) _ (sym (c .before .before .before .before .next-at .ensures) ∙ c .before .before .end .given .1) in
+    let w = running-within (c .before .before .before .loop .inv) _ (went _ _ (c .before .before .next-from .ensures) (c .before .if1 .left)) in
     omega (arith, w .0, w .1, w .2, w .3)
 
 part-answer-end : tie.Need-part-answer-end Inv-loop μ-loop
 part-answer-end c =
-    let w = running-within _ _ _ _ _ _ _ _ _ (c .before .before .before .before .before .loop .inv) _ (sym (c .before .before .before .before .next-at .ensures) ∙ c .before .before .end .given .1) in
+    let w = running-within (c .before .before .before .loop .inv) _ (went _ _ (c .before .before .next-from .ensures) (c .before .if1 .left)) in
     omega (arith, w .0, w .1, w .2, w .3)
 
 answer-requires : tie.Need-answer-requires Inv-loop μ-loop
 answer-requires c κs = search needs
 
-mul-put-line : tie.Need-mul-put-line Inv-loop μ-loop
-mul-put-line c =
-    let w = running-within _ _ _ _ _ _ _ _ _ (c .before .before .before .before .before .before .before .before .before .before .before .before .before .loop .inv) _ (sym (c .before .before .before .before .before .before .before .before .before .before .before .before .next-at .ensures) ∙ c .before .before .before .before .before .before .before .before .before .before .end .given .1) in
-    omega (arith, w .0, w .1, w .2, w .3)
-
 put-line-requires : tie.Need-put-line-requires Inv-loop μ-loop
 put-line-requires c κs =
-    let w = running-within _ _ _ _ _ _ _ _ _ (c .before .before .before .before .before .before .before .before .before .before .before .before .before .loop .inv) _ (sym (c .before .before .before .before .before .before .before .before .before .before .before .before .next-at .ensures) ∙ c .before .before .before .before .before .before .before .before .before .before .end .given .1) in
+    let w = running-within (c .before .before .before .before .before .before .before .before .before .before .before .loop .inv) _ (went _ _ (c .before .before .before .before .before .before .before .before .before .before .next-from .ensures) (c .before .before .before .before .before .before .before .before .before .if1 .left)) in
     omega (arith, w .0, w .1, w .2, w .3)
 
-add-count : tie.Need-add-count Inv-loop μ-loop
-add-count c =
-    let w = running-within _ _ _ _ _ _ _ _ _ (c .before .before .before .before .before .before .before .before .before .before .before .before .before .before .before .before .loop .inv) _ (sym (c .before .before .before .before .before .before .before .before .before .before .before .before .before .before .before .next-at .ensures) ∙ c .before .before .before .before .before .before .before .before .before .before .before .before .before .end .given .1) in
+add-place : tie.Need-add-place Inv-loop μ-loop
+add-place c =
+    let w = running-within (c .before .before .before .before .before .before .before .before .before .before .before .before .before .before .loop .inv) _ (went _ _ (c .before .before .before .before .before .before .before .before .before .before .before .before .before .next-from .ensures) (c .before .before .before .before .before .before .before .before .before .before .before .before .if1 .left)) in
     omega (arith, w .0, w .1, w .2, w .3)
 
 loop-less : tie.Need-loop-less Inv-loop μ-loop
-loop-less c = running-less _ _ _ _ _ _ _ _ _ (c .before .before .before .before .before .before .before .before .before .before .before .before .before .before .before .before .loop .inv) _ (sym (c .before .before .before .before .before .before .before .before .before .before .before .before .before .before .before .next-at .ensures) ∙ c .before .before .before .before .before .before .before .before .before .before .before .before .before .end .given .1)
+loop-less c = running-less (c .before .before .before .before .before .before .before .before .before .before .before .before .before .before .loop .inv) _ (went _ _ (c .before .before .before .before .before .before .before .before .before .before .before .before .before .next-from .ensures) (c .before .before .before .before .before .before .before .before .before .before .before .before .if1 .left))
 
 loop-again : tie.Need-loop-again Inv-loop μ-loop
 loop-again c =
-    running-more _ _ _ _ _ _ _ _ _ (c .before .before .before .before .before .before .before .before .before .before .before .before .before .before .before .before .loop .inv) _ _ _ _ _ (sym (c .before .before .before .before .before .before .before .before .before .before .before .before .before .before .before .next-at .ensures) ∙ c .before .before .before .before .before .before .before .before .before .before .before .before .before .end .given .1) (c .before .before .before .before .before .before .before .before .answer .ensures .0) (c .before .before .before .before .before .before .before .before .answer .ensures .1 .0) (c .before .before .before .before .before .before .before .before .answer .ensures .1 .1) (c .before .before .put-line .ensures) (search needs) (search needs)
+    running-more (c .before .before .before .before .before .before .before .before .before .before .before .before .before .before .loop .inv) _ _ _ _ _ _ (went _ _ (c .before .before .before .before .before .before .before .before .before .before .before .before .before .next-from .ensures) (c .before .before .before .before .before .before .before .before .before .before .before .before .if1 .left)) (c .before .before .before .before .before .before .before .before .answer .ensures .0) (c .before .before .before .before .before .before .before .before .answer .ensures .1 .0) (c .before .before .before .before .before .before .before .before .answer .ensures .1 .1) (c .before .before .put-line .ensures) (search needs) (search needs)
+
+sub-put-last : tie.Need-sub-put-last Inv-loop μ-loop
+sub-put-last c = omega (arith, c .before .before .before .loop .inv .walked .within)
+
+put-last-requires : tie.Need-put-last-requires Inv-loop μ-loop
+put-last-requires c κs = running-fits (c .before .before .before .loop .inv) (stayed _ _ (c .before .before .next-from .ensures) (c .before .if1 .taken))
 
 same-length : tie.Need-same-length Inv-loop μ-loop
 same-length c = search needs
@@ -76,10 +71,7 @@ same-length-3 : tie.Need-same-length-3 Inv-loop μ-loop
 same-length-3 c = search needs
 
 returns : tie.Need-returns Inv-loop μ-loop
-returns c =
-    let cut = sym (c .before .before .next-at .ensures) ∙ c .enum-told .given .1 in
-    let r = c .before .before .before .loop .inv in
-    (running-count _ _ _ _ _ _ _ _ _ r cut, (running-image _ _ _ _ _ _ _ _ _ r cut, (running-reply _ _ _ _ _ _ _ _ _ r cut, running-out _ _ _ _ _ _ _ _ _ r cut)))
+returns c = running-done (c .before .before .before .before .before .before .loop .inv) (stayed _ _ (c .before .before .before .before .before .next-from .ensures) (c .before .before .before .before .if1 .taken)) (search needs) (c .before .before .put-last .ensures)
 
 pub run-spec : {M : Type 1} → statement M
 run-spec =
@@ -88,18 +80,17 @@ run-spec =
     Inv-loop
     μ-loop
     loop-holds
-    next-at-requires
-    enum-known-end
-    enum-told
+    next-from-requires
     sub-answer
     part-answer-start
     part-answer-end
     answer-requires
-    mul-put-line
     put-line-requires
-    add-count
+    add-place
     loop-less
     loop-again
+    sub-put-last
+    put-last-requires
     same-length
     same-length-2
     same-length-3

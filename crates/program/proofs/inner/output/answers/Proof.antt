@@ -1,0 +1,65 @@
+-- The image's copy is the front of the input, and the reply buffer is zeros. Assumes nothing.
+use mathlib.Core.Path.{sym, _∙_}
+use native.Mathlib.Omega.{arith}
+use lib.Seq.{length-take-le}
+use Rattle.program.proofs.Answered.{back-of, answered-by}
+use borrow.Author.Needs.{needs}
+use Rattle.program.proofs.inner.output.answers.Statement.{statement}
+use Rattle.program.proofs.inner.output.answers.Tie as tie
+
+slice-aggregate-put : tie.Need-slice-aggregate-put
+slice-aggregate-put c = search needs
+
+slice-aggregate-put-2 : tie.Need-slice-aggregate-put-2
+slice-aggregate-put-2 c = sym (length-take-le _ _ (c .before .before .before .before .pre .within))
+
+put-requires : tie.Need-put-requires
+put-requires c κs = let lent = length-take-le (c .before .before .before .before .args .size) (c .before .before .before .before .args .input .now) (c .before .before .before .before .pre .within) in omega (arith, lent, c .before .before .before .before .pre .small)
+
+array-borrow-prefix-image : tie.Need-array-borrow-prefix-image
+array-borrow-prefix-image c = search needs
+
+slice-aggregate-run : tie.Need-slice-aggregate-run
+slice-aggregate-run c = sym (length-take-le _ _ (omega (arith, c .before .before .before .before .before .before .before .pre .small)))
+
+sub-run : tie.Need-sub-run
+sub-run c = search needs
+
+part-run-start : tie.Need-part-run-start
+part-run-start c = search needs
+
+part-run-end : tie.Need-part-run-end
+part-run-end c = search needs
+
+array-borrow-prefix-reply : tie.Need-array-borrow-prefix-reply
+array-borrow-prefix-reply c = search needs
+
+slice-aggregate-run-2 : tie.Need-slice-aggregate-run-2
+slice-aggregate-run-2 c = sym (length-take-le _ _ (omega (arith, c .before .before .before .before .before .before .before .before .before .pre .most)))
+
+run-requires : tie.Need-run-requires
+run-requires c κs = rw (back-of (c .before .before .before .before .before .before .before .before .before .before .args .size) (c .before .before .before .before .before .before .before .before .before .before .args .input .now)) (c .before .before .before .before .before .before .before .before .before .before .pre .lines)
+
+same-length : tie.Need-same-length
+same-length c = search needs
+
+returns : tie.Need-returns
+returns c = answered-by (c .before .before .before .before .before .before .before .before .before .before .before .before .before .before .before .args .size) (c .before .before .before .before .before .before .before .before .before .before .before .before .before .before .before .args .room) (c .before .before .before .before .before .before .before .before .before .before .before .before .before .before .before .args .input .now) _ _ (c .before .before .before .before .before .before .before .before .before .before .before .before .before .before .before .pre .within) (c .before .before .before .before .before .before .before .before .before .before .before .before .before .before .before .pre .most) (c .before .before .before .before .before .before .before .before .before .before .put .ensures) (c .before .before .before .before .run .ensures)
+
+pub answers-spec : {M : Type 1} → statement M
+answers-spec =
+    tie.close
+    (tie.spec
+    slice-aggregate-put
+    slice-aggregate-put-2
+    put-requires
+    array-borrow-prefix-image
+    slice-aggregate-run
+    sub-run
+    part-run-start
+    part-run-end
+    array-borrow-prefix-reply
+    slice-aggregate-run-2
+    run-requires
+    same-length
+    returns)
