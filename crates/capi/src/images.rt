@@ -1,6 +1,7 @@
 // Images, for Rust and C: made, looked at, and one request on one.
 ghost use mathlib.Core.Path.{_≡_};
 ghost use lib.ListN.{length};
+ghost use Rattle.formats.specs.declared.Format.the-variants.{V1};
 ghost use Rattle.lists.specs.Table.{settled};
 ghost use Rattle.image.specs.Image.{sound, makeNumber, fresh};
 ghost use Rattle.model.specs.Serve.{serve};
@@ -10,9 +11,9 @@ use crate::inner::answers::write_fields;
 // Makes a fresh image of `cards` cards with room `room`: 0, or 14 and nothing written.
 #[no_mangle]
 pub extern "C" fn lupaniele_make(image: &mut [u8], cards: u64, room: u64) -> u8
-    ensures number { λ r. ⌜ r ≡ makeNumber cards room (length (now (image .entry))) ⌝ }
+    ensures number { λ r. ⌜ r ≡ makeNumber V1 cards room (length (now (image .entry))) ⌝ }
     ensures bytes { λ _. ⌜ now (image .exit)
-        ≡ settled (makeNumber cards room (length (now (image .entry)))) (fresh cards room) (now (image .entry)) ⌝ }
+        ≡ settled (makeNumber V1 cards room (length (now (image .entry)))) (fresh V1 cards room) (now (image .entry)) ⌝ }
 {
     image::make(image, cards as usize, room as usize)
 }
@@ -20,7 +21,7 @@ pub extern "C" fn lupaniele_make(image: &mut [u8], cards: u64, room: u64) -> u8
 // Whether the lent bytes are a sound image.
 #[no_mangle]
 pub extern "C" fn lupaniele_sound(image: &[u8]) -> bool
-    ensures { λ r. ⌜ r ≡ sound (now (image .entry)) ⌝ }
+    ensures { λ r. ⌜ r ≡ sound V1 (now (image .entry)) ⌝ }
 {
     image::sound(image)
 }
@@ -34,10 +35,10 @@ pub extern "C" fn lupaniele_answer(
     reply: &mut [u8],
     fields: &mut [u64; 7],
 ) -> u8
-    ensures number { λ r. ⌜ r ≡ serve (now (image .entry)) (now (command .entry)) (now (reply .entry)) .answer .number ⌝ }
-    ensures fields { λ _. ⌜ now (fields .exit) ≡ replyFields (serve (now (image .entry)) (now (command .entry)) (now (reply .entry)) .answer) ⌝ }
-    ensures image { λ _. ⌜ now (image .exit) ≡ serve (now (image .entry)) (now (command .entry)) (now (reply .entry)) .image ⌝ }
-    ensures reply { λ _. ⌜ now (reply .exit) ≡ serve (now (image .entry)) (now (command .entry)) (now (reply .entry)) .reply ⌝ }
+    ensures number { λ r. ⌜ r ≡ serve V1 (now (image .entry)) (now (command .entry)) (now (reply .entry)) .answer .number ⌝ }
+    ensures fields { λ _. ⌜ now (fields .exit) ≡ replyFields (serve V1 (now (image .entry)) (now (command .entry)) (now (reply .entry)) .answer) ⌝ }
+    ensures image { λ _. ⌜ now (image .exit) ≡ serve V1 (now (image .entry)) (now (command .entry)) (now (reply .entry)) .image ⌝ }
+    ensures reply { λ _. ⌜ now (reply .exit) ≡ serve V1 (now (image .entry)) (now (command .entry)) (now (reply .entry)) .reply ⌝ }
 {
     let served = store::answer(image, command, reply);
     write_fields(fields, served);

@@ -7,7 +7,7 @@ use lib.Dec.{leb, eqb}
 use Rattle.lists.specs.Table.{all, allFrom}
 use Rattle.lists.proofs.Tests.{allFrom-and, all-out, and-left, and-right, beq-true}
 use Rattle.stamps.specs.Stamp.{exclusive, sessionChecks, markWhole}
-use Rattle.commands.specs.Command.{translation, writes, isWrite, verifier, update, verifierChecks, checks, wellFormed}
+use Rattle.commands.specs.Command.{writesTranslation, isWrite, languageNamed, verifier, update, verifierChecks, checks, wellFormed}
 use Rattle.stamps.proofs.Stamp.{SessionRules, session-rules}
 use Rattle.commands.specs.declared.Command.{Command}
 
@@ -24,11 +24,11 @@ ownRules c =
 abbrev pub pairRules : Command → Bool
 pairRules c = ownRules c && all (sessionChecks (c .mode) (update c)) && all (verifierChecks c)
 
-pub by-session : (c : Command) → wellFormed c ≡ (pairRules c && markWhole (c .expected) && markWhole (c .next))
+pub by-session : (c : Command) → wellFormed c ≡ (pairRules c && markWhole (c .expected) && markWhole (c .next) && languageNamed c)
 unfolding wellFormed all allFrom
 by-session c =
-    ap (λ (b : Bool). allFrom b (verifierChecks c) && markWhole (c .expected) && markWhole (c .next)) (allFrom-and (ownRules c) (sessionChecks (c .mode) (update c)))
-    ∙ ap (λ (b : Bool). b && markWhole (c .expected) && markWhole (c .next))
+    ap (λ (b : Bool). allFrom b (verifierChecks c) && markWhole (c .expected) && markWhole (c .next) && languageNamed c) (allFrom-and (ownRules c) (sessionChecks (c .mode) (update c)))
+    ∙ ap (λ (b : Bool). b && markWhole (c .expected) && markWhole (c .next) && languageNamed c)
     (allFrom-and (ownRules c && all (sessionChecks (c .mode) (update c))) (verifierChecks c))
 
 -- The rules of a well-formed command, one by one.
@@ -36,10 +36,11 @@ pub record CommandRules (c : Command) : Type 0 where
   pub least : 1 ≤ c .act
   pub most : c .act ≤ 5
   pub writing : (not (isWrite c) || eqb (c .mode) exclusive) ≡ true
-  pub edition : writes (translation 0) c ≡ not (eqb (c .edition) 0)
+  pub edition : writesTranslation c ≡ not (eqb (c .edition) 0)
   pub length : (eqb (c .length) 0 || isWrite c) ≡ true
   pub expected : markWhole (c .expected) ≡ true
   pub next : markWhole (c .next) ≡ true
+  pub language : languageNamed c ≡ true
   pub session : SessionRules (c .mode) (update c)
   -- no stamp of the verifier is above the update pair's
   pub reached : (verifier c .s ≤ update c .s) × (verifier c .x ≤ update c .x)
@@ -55,12 +56,14 @@ command-rules c h =
       length = all-out (checks c) h 3;
       expected = all-out (checks c) h 12;
       next = all-out (checks c) h 13;
+      language = all-out (checks c) h 14;
       session =
           session-rules (c .mode) (update c)
           (and-right (ownRules c) (all (sessionChecks (c .mode) (update c)))
           (and-left (ownRules c && all (sessionChecks (c .mode) (update c))) (all (verifierChecks c))
           (and-left (pairRules c) (markWhole (c .expected))
-          (and-left (pairRules c && markWhole (c .expected)) (markWhole (c .next)) (sym (by-session c) ∙ h)))));
+          (and-left (pairRules c && markWhole (c .expected)) (markWhole (c .next))
+          (and-left (pairRules c && markWhole (c .expected) && markWhole (c .next)) (languageNamed c) (sym (by-session c) ∙ h))))));
       reached =
           (leb-true (verifier c .s) (update c .s) (all-out (checks c) h 10), leb-true (verifier c .x) (update c .x) (all-out (checks c) h 11));
     }

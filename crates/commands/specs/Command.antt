@@ -1,37 +1,42 @@
 -- A command: its numbers, its two pairs and its rules (rules 3.2 to 3.4).
 -- Assumes nothing.
-use Prim.Native.Nat.{ℕ, zero, suc, _<_}
+use Prim.Native.Nat.{ℕ, _<_}
 use mathlib.Core.List.{List, [], _∷_, _++_}
-use mathlib.Core.Bool.{Bool, false, cond, not, _&&_, _||_, Bool·beq}
+use mathlib.Core.Bool.{Bool, cond, not, _&&_, _||_, Bool·beq}
 use lib.Dec.{leb, eqb}
 use Rattle.lists.specs.Table.{all}
 use Rattle.stamps.specs.Stamp.{deskOf, exclusive, stampValid, sessionChecks, markWhole, FitsPair, FitsMark}
 use Rattle.commands.specs.declared.Command.{Command}
 use Rattle.stamps.specs.declared.Pair.{Pair}
 
--- The language of a text: the original or a translation, by its number. Commands reach translation 0 alone.
+-- The language of a text: the original or a translation, by its number.
 pub data Language : Type 0 where
   original : Language
   translation : ℕ → Language
 
--- Which act reads and which writes a language (rule 3.2).
+-- The command reads, or writes, a translation (rule 3.2): the one that it names.
+abbrev pub readsTranslation : Command → Bool
+readsTranslation c = eqb (c .act) 2
+
+abbrev pub writesTranslation : Command → Bool
+writesTranslation c = eqb (c .act) 4
+
+-- The command reads, or writes, the text of a language (rule 3.2).
 abbrev pub reads : Language → Command → Bool
 reads original c = eqb (c .act) 1
-reads (translation zero) c = eqb (c .act) 2
-reads (translation (suc t)) c = false
+reads (translation t) c = readsTranslation c && eqb (c .language) t
 
 abbrev pub writes : Language → Command → Bool
 writes original c = eqb (c .act) 3
-writes (translation zero) c = eqb (c .act) 4
-writes (translation (suc t)) c = false
-
--- The translation that a command names, by its number: acts 2 and 4 reach no other. A command names translation 0.
-abbrev pub language : Command → ℕ
-language c = 0
+writes (translation t) c = writesTranslation c && eqb (c .language) t
 
 -- The command writes a text.
 abbrev pub isWrite : Command → Bool
-isWrite c = writes original c || writes (translation 0) c
+isWrite c = writes original c || writesTranslation c
+
+-- A translation is named by a number up to 3, and only by a command that reads or writes one; every other command has 0 there (rule 3.3).
+abbrev pub languageNamed : Command → Bool
+languageNamed c = leb (c .language) 3 && (readsTranslation c || writesTranslation c || eqb (c .language) 0)
 
 -- The two pairs of a command (rule 3.4). Staleness judges the verifier. The update pair raises the stored pair and names the session; it is the
 -- verifier where the bytes for it are all zero. Minuet (003, section 3.2): session verifier and session update.
@@ -71,8 +76,8 @@ checks c =
     ∷ Bool·beq (eqb (c .act) 4) (not (eqb (c .edition) 0))
     -- only a write has a payload
     ∷ (eqb (c .length) 0 || isWrite c)
-    -- the mode and the update pair (rule 1.4), the verifier, and both marks (rule 1.7)
-    ∷ (sessionChecks (c .mode) (update c) ++ (verifierChecks c ++ (markWhole (c .expected) ∷ markWhole (c .next) ∷ [])))
+    -- the mode and the update pair (rule 1.4), the verifier, both marks (rule 1.7), and the language
+    ∷ (sessionChecks (c .mode) (update c) ++ (verifierChecks c ++ (markWhole (c .expected) ∷ markWhole (c .next) ∷ languageNamed c ∷ [])))
 
 unfoldable pub wellFormed : Command → Bool
 wellFormed c = all (checks c)
@@ -81,6 +86,7 @@ wellFormed c = all (checks c)
 pub record FitsCommand (c : Command) : Type 0 where
   pub act : c .act < 256
   pub mode : c .mode < 256
+  pub language : c .language < 256
   pub card : c .card < 65536
   pub pair : FitsPair (c .pair)
   pub opened : FitsPair (c .opened)

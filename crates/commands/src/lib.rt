@@ -6,10 +6,12 @@ ghost use mathlib.Core.Bool.{Bool·beq, not, _&&_, _||_};
 ghost use lib.Dec.{leb, eqb};
 ghost use Rattle.stamps.specs.Stamp.{exclusive};
 ghost use Rattle.lists.specs.Table.{all};
-ghost use Rattle.commands.specs.Command.{Language, reads, writes, isWrite, update, verifierChecks, wellFormed};
+ghost use Rattle.commands.specs.Command.{Language, readsTranslation, writesTranslation, reads, writes, isWrite, languageNamed, update, verifierChecks, wellFormed};
 ghost use Prim.Native.Nat.{_+_, _≤_};
 ghost use lib.ListN.{length};
-ghost use Rattle.commands.specs.Bytes.{markAt, pairAt, parsed};
+ghost use Rattle.formats.specs.declared.Format.the-variants.{V1};
+ghost use Rattle.commands.specs.Bytes.{markAt, pairAt, languageAt, parsed};
+use formats::Format;
 use stamps::EXCLUSIVE;
 use stamps::Mark;
 use stamps::Pair;
@@ -20,10 +22,11 @@ use stamps::stamp_valid;
 // ---- A command: its numbers and its rules.
 
 // The numbers of a command. Its payload stands behind the fixed part in the lent bytes. `pair` is the verifier; `opened` is what was sent as the
-// update pair, zeros where that is the verifier too.
+// update pair, zeros where that is the verifier too. `language` is the translation that is read or written.
 pub struct Command {
     pub act: u8,
     pub mode: u8,
+    pub language: u8,
     pub card: u16,
     pub pair: Pair,
     pub opened: Pair,
@@ -44,6 +47,9 @@ pub const WRITE_TRANSLATION: u8 = 4;
 
 pub const VERIFY: u8 = 5;
 
+// The last language.
+const MOST_LANGUAGE: u8 = 3;
+
 impl Command {
     // Act 1 reads the original.
     pub fn reads_original(self) -> bool
@@ -52,9 +58,9 @@ impl Command {
         self.act == READ_ORIGINAL
     }
 
-    // Act 2 reads the translation.
+    // Act 2 reads a translation.
     pub fn reads_translation(self) -> bool
-        ensures { λ r. ⌜ r ≡ reads (Language.translation 0) self ⌝ }
+        ensures { λ r. ⌜ r ≡ readsTranslation self ⌝ }
     {
         self.act == READ_TRANSLATION
     }
@@ -66,9 +72,9 @@ impl Command {
         self.act == WRITE_ORIGINAL
     }
 
-    // Act 4 writes the translation.
+    // Act 4 writes a translation.
     pub fn writes_translation(self) -> bool
-        ensures { λ r. ⌜ r ≡ writes (Language.translation 0) self ⌝ }
+        ensures { λ r. ⌜ r ≡ writesTranslation self ⌝ }
     {
         self.act == WRITE_TRANSLATION
     }
@@ -108,6 +114,16 @@ impl Command {
         (self.length == 0) | self.is_write()
     }
 
+    // The language is 0 to 3 for acts 2 and 4 and zero for every other act.
+    fn language_named(self) -> bool
+        ensures { λ r. ⌜ r ≡ languageNamed self ⌝ }
+    {
+        (self.language <= MOST_LANGUAGE)
+            & ((self.act == READ_TRANSLATION)
+                | (self.act == WRITE_TRANSLATION)
+                | (self.language == 0))
+    }
+
     // The update pair: the verifier where none was sent.
     pub fn update(self) -> Pair
         ensures { λ r. ⌜ r ≡ update self ⌝ }
@@ -143,6 +159,7 @@ impl Command {
             & self.verifier_ok()
             & mark_whole(self.expected)
             & mark_whole(self.next)
+            & self.language_named()
     }
 }
 
@@ -154,9 +171,7 @@ pub enum Parsed {
     Formed(Command),
 }
 
-// The bytes of a command before its payload, and where its fields begin.
-pub const FIXED: usize = 52;
-
+// Where the fields begin that stand at one place in every version.
 const ACT: usize = 0;
 
 const MODE: usize = 1;
@@ -165,7 +180,8 @@ const CARD: usize = 2;
 
 const VERIFIER: usize = 4;
 
-const UPDATE: usize = 20;
+// Where version 2 has the language.
+const LANGUAGE: usize = 20;
 
 const EXPECTED: usize = 36;
 
@@ -197,16 +213,39 @@ fn pair_at(bytes: &[u8], at: usize) -> Pair
     }
 }
 
-// Lent bytes as a command.
-pub fn parse(bytes: &[u8]) -> Parsed
-    ensures { λ r. ⌜ r ≡ parsed (now (bytes .entry)) ⌝ }
+// The language that a command names.
+fn language_at(f: Format, bytes: &[u8]) -> u8
+    requires { ⌜ 52 ≤ length (now bytes) ⌝ }
+    ensures { λ r. ⌜ r ≡ languageAt f (now (bytes .entry)) ⌝ }
 {
-    if bytes.len() < FIXED {
+    match f {
+        Format::V1 => 0,
+        Format::V2 => bytes[LANGUAGE],
+    }
+}
+
+// Lent bytes as a command of a version.
+pub fn parse_as(f: Format, bytes: &[u8]) -> Parsed
+    ensures { λ r. ⌜ r ≡ parsed f (now (bytes .entry)) ⌝ }
+{
+    let fixed = formats::inner::fixed(f);
+    if bytes.len() < fixed {
         return Parsed::Malformed;
     }
-    let c = inner::fields(bytes);
-    if (bytes.len() == FIXED + (c.length as usize)) & c.well_formed() {
+    let c = inner::fields(f, bytes);
+    let blank = formats::inner::blank_at(f);
+    if (bytes.len() == fixed + (c.length as usize))
+        & slices::all_zero(&bytes[blank..EXPECTED])
+        & c.well_formed()
+    {
         return Parsed::Formed(c);
     }
     Parsed::Malformed
+}
+
+// Lent bytes as a command of version 1.
+pub fn parse(bytes: &[u8]) -> Parsed
+    ensures { λ r. ⌜ r ≡ parsed V1 (now (bytes .entry)) ⌝ }
+{
+    parse_as(Format::V1, bytes)
 }

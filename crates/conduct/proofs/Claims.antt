@@ -3,10 +3,11 @@ use Prim.Native.Nat.{ℕ, zero, suc, _≤_, _<_}
 use native.Mathlib.Omega.{arith}
 use mathlib.Core.Path.{_≡_, refl, sym, ap, subst, _∙_}
 use mathlib.Core.Logic.{_⊎_, inl, inr}
-use mathlib.Core.List.{List, [], _∷_, _++_, reverse, reverse-cons}
+use mathlib.Core.List.{List, [], _∷_, _++_, map, reverse, reverse-cons}
 use mathlib.Core.Bool.{Bool, true, false, not, _&&_}
 use borrow.Author.Tests.{eqb-true}
 use lib.Dec.{T, eqb, ltb}
+use Rattle.formats.specs.declared.Format.{Format}
 use Rattle.lists.specs.Table.{settled}
 use Rattle.lists.proofs.Tests.{cases, and-left, and-right, never-both}
 use Rattle.stamps.specs.Stamp.{shared, exclusive, deskStart, noPair}
@@ -17,12 +18,12 @@ use Rattle.image.specs.Layout.{shapeOk}
 use Rattle.image.specs.Image.{fresh}
 use Rattle.model.specs.Serve.{serve}
 use Rattle.lists.specs.Search.{any}
-use Rattle.model.specs.Words.{Sent, Event, imageAfter, sentFor, carries, under, premise}
+use Rattle.model.specs.Words.{Sent, Event, Received, received, imageAfter, formedFor, carries, under, premise}
 use Rattle.model.specs.Claims.{SentBytes, AllBytes}
-use Rattle.model.specs.Meaning.{Among}
-use Rattle.model.proofs.Meaning.{among-here, among-later, among-right, carries-means, premise-means}
+use Rattle.model.specs.Meaning.{Among, Ordered}
+use Rattle.model.proofs.Meaning.{among-here, among-later, among-right, among-mapped, carries-means, premise-means}
 use Rattle.model.proofs.Cases.{image-first}
-use Rattle.model.proofs.Demand.{demand3}
+use Rattle.model.proofs.Demand.{demand3, premise-logged}
 use Rattle.proposals.specs.Propose.{proposed}
 use Rattle.conduct.specs.System.{System, Made, Told, Move, begin, propose, ask, leave, lose, send, learn, opening, isMade, allowed, knows, nowKnows, withMade, stepTo, course, byRules, sentOf, sentBy}
 use Rattle.conduct.specs.Claims.{ByRules, PremiseKept, DesksIsolated, OneStore, StampsOnce}
@@ -31,9 +32,9 @@ use Rattle.conduct.proofs.Kept.{Once, Kept, Proposal, is-made, if-forme
 
 -- ---- the start
 
-kept-opening : (n c : ℕ) (lent : ℕ → ℕ) → Kept n c (opening n c lent)
+kept-opening : (v : Format) (n c : ℕ) (lent : ℕ → ℕ) → Kept v n c (opening v n c lent)
 unfolding imageAfter
-kept-opening n c lent =
+kept-opening v n c lent =
     record {
       store = record { sent = []; image-is = refl; bytes = tt; backed = λ s a. among-none a };
       queued = λ k. backed-none (λ m a. among-none a) k;
@@ -52,29 +53,29 @@ bytes-both : (s l : List Sent) → AllBytes (s ++ l) → AllBytes s × AllBytes 
 bytes-both [] l b = (tt, b)
 bytes-both (a ∷ s) l b = let rest = bytes-both s l (b .1) in ((b .0, rest .0), rest .1)
 
-module _ (lent : ℕ → ℕ) where
-  kept-next : (n c : ℕ) → T (shapeOk n c) → (y : System) (s : Move) → Kept n c y → AllBytes (sentOf s) → allowed y s ≡ true → Kept n c (stepTo lent y s)
-  kept-next n c shape y (begin who) k b h = kept-begin n c shape y k lent who h
-  kept-next n c shape y (propose who card mode) k b h = kept-propose n c shape y k lent who card mode h
-  kept-next n c shape y (ask card new) k b h = kept-ask n c shape y k lent card new h
-  kept-next n c shape y (leave card desk) k b h = kept-leave n c shape y k lent card desk
-  kept-next n c shape y (lose card places) k b h = kept-lose n c shape y k lent card places
-  kept-next n c shape y (send s) k b h = kept-send n c shape y k lent s (b .0) h
-  kept-next n c shape y (learn who card pair) k b h = kept-learn n c shape y k lent who card pair h
+module _ (v : Format) (lent : ℕ → ℕ) where
+  kept-next : (n c : ℕ) → T (shapeOk v n c) → (y : System) (s : Move) → Kept v n c y → AllBytes (sentOf s) → allowed v y s ≡ true → Kept v n c (stepTo v lent y s)
+  kept-next n c shape y (begin who) k b h = kept-begin v n c shape y k lent who h
+  kept-next n c shape y (propose who card mode) k b h = kept-propose v n c shape y k lent who card mode h
+  kept-next n c shape y (ask card new) k b h = kept-ask v n c shape y k lent card new h
+  kept-next n c shape y (leave card desk) k b h = kept-leave v n c shape y k lent card desk
+  kept-next n c shape y (lose card places) k b h = kept-lose v n c shape y k lent card places
+  kept-next n c shape y (send s) k b h = kept-send v n c shape y k lent s (b .0) h
+  kept-next n c shape y (learn who card pair) k b h = kept-learn v n c shape y k lent who card pair h
 
-  kept-run : (n c : ℕ) → T (shapeOk n c) → (y : System) (steps : List Move) → Kept n c y → AllBytes (sentBy steps) → byRules lent y steps ≡ true
-      → Kept n c (course lent y steps)
+  kept-run : (n c : ℕ) → T (shapeOk v n c) → (y : System) (steps : List Move) → Kept v n c y → AllBytes (sentBy steps) → byRules v lent y steps ≡ true
+      → Kept v n c (course v lent y steps)
   unfolding course byRules sentBy
   kept-run n c shape y [] k b h = k
   kept-run n c shape y (s ∷ steps) k b h =
       let bytes = bytes-both (sentOf s) (sentBy steps) b in
-      kept-run n c shape (stepTo lent y s) steps
-      (kept-next n c shape y s k (bytes .0) (and-left (allowed y s) (byRules lent (stepTo lent y s) steps) h))
+      kept-run n c shape (stepTo v lent y s) steps
+      (kept-next n c shape y s k (bytes .0) (and-left (allowed v y s) (byRules v lent (stepTo v lent y s) steps) h))
       (bytes .1)
-      (and-right (allowed y s) (byRules lent (stepTo lent y s) steps) h)
+      (and-right (allowed v y s) (byRules v lent (stepTo v lent y s) steps) h)
 
   -- Proposals stay.
-  made-next : (y : System) (s : Move) (m : Made) → Among m (y .made) → Among m (stepTo lent y s .made)
+  made-next : (y : System) (s : Move) (m : Made) → Among m (y .made) → Among m (stepTo v lent y s .made)
   unfolding stepTo
   made-next y (propose who card mode) m a = go (proposed (knows y who card) mode .number)
     where
@@ -91,24 +92,24 @@ module _ (lent : ℕ → ℕ) where
   made-next y (send s) m a = a
   made-next y (learn who card pair) m a = a
 
-  made-run : (y : System) (steps : List Move) (m : Made) → Among m (y .made) → Among m (course lent y steps .made)
+  made-run : (y : System) (steps : List Move) (m : Made) → Among m (y .made) → Among m (course v lent y steps .made)
   unfolding course
   made-run y [] m a = a
-  made-run y (s ∷ steps) m a = made-run (stepTo lent y s) steps m (made-next y s m a)
+  made-run y (s ∷ steps) m a = made-run (stepTo v lent y s) steps m (made-next y s m a)
 
   -- Each well-formed command that was sent is under a pair that was proposed, for its card and in its mode.
   abbrev Sanctioned : List Made → Sent → Type 0
   Sanctioned made a =
-      formed (a .command) ≡ true
-      → Proposal made (fieldsOf (a .command) .card) (fieldsOf (a .command) .mode) (update (fieldsOf (a .command)))
+      formed v (a .command) ≡ true
+      → Proposal made (fieldsOf v (a .command) .card) (fieldsOf v (a .command) .mode) (update (fieldsOf v (a .command)))
 
-  sanctioned-now : (y : System) (s : Move) → allowed y s ≡ true → (a : Sent) → Among a (sentOf s) → Sanctioned (y .made) a
+  sanctioned-now : (y : System) (s : Move) → allowed v y s ≡ true → (a : Sent) → Among a (sentOf s) → Sanctioned (y .made) a
   sanctioned-now y (send s) h a m = go (among-cases m)
     where
       here : Sanctioned (y .made) s
       here f =
-          is-made (y .made) (fieldsOf (s .command) .card) (fieldsOf (s .command) .mode) (update (fieldsOf (s .command)))
-          (if-formed (formed (s .command)) h f)
+          is-made (y .made) (fieldsOf v (s .command) .card) (fieldsOf v (s .command) .mode) (update (fieldsOf v (s .command)))
+          (if-formed (formed v (s .command)) h f)
 
       go : (a ≡ s) ⊎ Among a [] → Sanctioned (y .made) a
       go (inl e) = subst (Sanctioned (y .made)) (sym e) here
@@ -120,30 +121,30 @@ module _ (lent : ℕ → ℕ) where
   sanctioned-now y (lose card places) h a m = among-none m
   sanctioned-now y (learn who card pair) h a m = among-none m
 
-  sanctioned : (y : System) (steps : List Move) → byRules lent y steps ≡ true → (a : Sent) → Among a (sentBy steps)
-      → Sanctioned (course lent y steps .made) a
+  sanctioned : (y : System) (steps : List Move) → byRules v lent y steps ≡ true → (a : Sent) → Among a (sentBy steps)
+      → Sanctioned (course v lent y steps .made) a
   unfolding course byRules sentBy
   sanctioned y [] h a m f = among-none m
   sanctioned y (s ∷ steps) h a m f =
       go (among-both (sentOf s) (sentBy steps) m)
-      (λ n. sanctioned (stepTo lent y s) steps (and-right (allowed y s) (byRules lent (stepTo lent y s) steps) h) a n f)
+      (λ n. sanctioned (stepTo v lent y s) steps (and-right (allowed v y s) (byRules v lent (stepTo v lent y s) steps) h) a n f)
     where
       go : Among a (sentOf s) ⊎ Among a (sentBy steps) →
-          (Among a (sentBy steps) → Proposal (course lent (stepTo lent y s) steps .made) (fieldsOf (a .command) .card) (fieldsOf (a .command) .mode) (update (fieldsOf (a .command)))) →
-          Proposal (course lent (stepTo lent y s) steps .made) (fieldsOf (a .command) .card) (fieldsOf (a .command) .mode) (update (fieldsOf (a .command)))
+          (Among a (sentBy steps) → Proposal (course v lent (stepTo v lent y s) steps .made) (fieldsOf v (a .command) .card) (fieldsOf v (a .command) .mode) (update (fieldsOf v (a .command)))) →
+          Proposal (course v lent (stepTo v lent y s) steps .made) (fieldsOf v (a .command) .card) (fieldsOf v (a .command) .mode) (update (fieldsOf v (a .command)))
       go (inr n) rest = rest n
       go (inl n) rest =
-          let p = sanctioned-now y s (and-left (allowed y s) (byRules lent (stepTo lent y s) steps) h) a n f in
+          let p = sanctioned-now y s (and-left (allowed v y s) (byRules v lent (stepTo v lent y s) steps) h) a n f in
           record {
             m = p .m;
-            among = made-run (stepTo lent y s) steps (p .m) (made-next y s (p .m) (p .among));
+            among = made-run (stepTo v lent y s) steps (p .m) (made-next y s (p .m) (p .among));
             card-is = p .card-is;
             mode-is = p .mode-is;
             pair-same = p .pair-same;
           }
 
   -- A proposal writes nothing.
-  proposed-image : (y : System) (who card mode : ℕ) → stepTo lent y (propose who card mode) .image ≡ y .image
+  proposed-image : (y : System) (who card mode : ℕ) → stepTo v lent y (propose who card mode) .image ≡ y .image
   unfolding stepTo
   proposed-image y who card mode = go (proposed (knows y who card) mode .number)
     where
@@ -155,68 +156,80 @@ module _ (lent : ℕ → ℕ) where
       go (suc n) = refl
 
   -- The image is as the list of what was sent leaves it.
-  image-run : (y : System) (steps : List Move) → course lent y steps .image ≡ imageAfter (y .image) (reverse (sentBy steps))
+  image-run : (y : System) (steps : List Move) → course v lent y steps .image ≡ imageAfter v (y .image) (reverse (sentBy steps))
   unfolding course stepTo sentBy imageAfter
   image-run y [] = refl
   image-run y (send s ∷ steps) =
-      image-run (stepTo lent y (send s)) steps
-      ∙ sym (image-first (y .image) s (reverse (sentBy steps)))
-      ∙ ap (imageAfter (y .image)) (sym (reverse-cons s (sentBy steps)))
-  image-run y (begin who ∷ steps) = image-run (stepTo lent y (begin who)) steps
+      image-run (stepTo v lent y (send s)) steps
+      ∙ sym (image-first v (y .image) s (reverse (sentBy steps)))
+      ∙ ap (imageAfter v (y .image)) (sym (reverse-cons s (sentBy steps)))
+  image-run y (begin who ∷ steps) = image-run (stepTo v lent y (begin who)) steps
   image-run y (propose who card mode ∷ steps) =
-      image-run (stepTo lent y (propose who card mode)) steps
-      ∙ ap (λ (i : List ℕ). imageAfter i (reverse (sentBy steps))) (proposed-image y who card mode)
-  image-run y (ask card new ∷ steps) = image-run (stepTo lent y (ask card new)) steps
-  image-run y (leave card desk ∷ steps) = image-run (stepTo lent y (leave card desk)) steps
-  image-run y (lose card places ∷ steps) = image-run (stepTo lent y (lose card places)) steps
-  image-run y (learn who card pair ∷ steps) = image-run (stepTo lent y (learn who card pair)) steps
+      image-run (stepTo v lent y (propose who card mode)) steps
+      ∙ ap (λ (i : List ℕ). imageAfter v i (reverse (sentBy steps))) (proposed-image y who card mode)
+  image-run y (ask card new ∷ steps) = image-run (stepTo v lent y (ask card new)) steps
+  image-run y (leave card desk ∷ steps) = image-run (stepTo v lent y (leave card desk)) steps
+  image-run y (lose card places ∷ steps) = image-run (stepTo v lent y (lose card places)) steps
+  image-run y (learn who card pair ∷ steps) = image-run (stepTo v lent y (learn who card pair)) steps
 
 -- ---- the claims
 
 pub premise-kept : PremiseKept
-premise-kept n c lent steps r k = premise-means k (sentBy steps) .1 order
+premise-kept v n c lent steps r k = premise-means k (map (received v) (sentBy steps)) .1 ordered
   where
     final : System
-    final = course lent (opening n c lent) steps
+    final = course v lent (opening v n c lent) steps
 
-    kept : Kept n c final
-    kept = kept-run lent n c (r .shape) (opening n c lent) steps (kept-opening n c lent) (r .bytes) (r .rules)
+    kept : Kept v n c final
+    kept = kept-run v lent n c (r .shape) (opening v n c lent) steps (kept-opening v n c lent) (r .bytes) (r .rules)
 
-    order : (a b : Sent) → Among a (sentBy steps) → Among b (sentBy steps) → sentFor k a ≡ true → sentFor k b ≡ true
-        → carries (fieldsOf (a .command)) ≡ true
-        → under (update (fieldsOf (a .command)) .x) (fieldsOf (b .command)) ≡ true
-        → update (fieldsOf (b .command)) .s < update (fieldsOf (a .command)) .s
+    order : (a b : Sent) → Among a (sentBy steps) → Among b (sentBy steps) → formedFor k (received v a) ≡ true → formedFor k (received v b) ≡ true
+        → carries (fieldsOf v (a .command)) ≡ true
+        → under (update (fieldsOf v (a .command)) .x) (fieldsOf v (b .command)) ≡ true
+        → update (fieldsOf v (b .command)) .s < update (fieldsOf v (a .command)) .s
     order a b ma mb fa fb ca ub =
-        let ca-card : Bool = eqb (fieldsOf (a .command) .card) k in
-        let cb-card : Bool = eqb (fieldsOf (b .command) .card) k in
-        let pa = sanctioned lent (opening n c lent) steps (r .rules) a ma (and-left (formed (a .command)) ca-card fa) in
-        let pb = sanctioned lent (opening n c lent) steps (r .rules) b mb (and-left (formed (b .command)) cb-card fb) in
-        let card-a = eqb-true (fieldsOf (a .command) .card) k (and-right (formed (a .command)) ca-card fa) in
-        let card-b = eqb-true (fieldsOf (b .command) .card) k (and-right (formed (b .command)) cb-card fb) in
-        let mode-a = carries-means (fieldsOf (a .command)) .0 ca .mode in
-        let mode-b = eqb-true (fieldsOf (b .command) .mode) exclusive (and-left (eqb (fieldsOf (b .command) .mode) exclusive) (eqb (update (fieldsOf (b .command)) .x) (update (fieldsOf (a .command)) .x)) ub) in
-        let stamp = eqb-true (update (fieldsOf (b .command)) .x) (update (fieldsOf (a .command)) .x) (and-right (eqb (fieldsOf (b .command) .mode) exclusive) (eqb (update (fieldsOf (b .command)) .x) (update (fieldsOf (a .command)) .x)) ub) in
+        let ca-card : Bool = eqb (fieldsOf v (a .command) .card) k in
+        let cb-card : Bool = eqb (fieldsOf v (b .command) .card) k in
+        let pa = sanctioned v lent (opening v n c lent) steps (r .rules) a ma (and-left (formed v (a .command)) ca-card fa) in
+        let pb = sanctioned v lent (opening v n c lent) steps (r .rules) b mb (and-left (formed v (b .command)) cb-card fb) in
+        let card-a = eqb-true (fieldsOf v (a .command) .card) k (and-right (formed v (a .command)) ca-card fa) in
+        let card-b = eqb-true (fieldsOf v (b .command) .card) k (and-right (formed v (b .command)) cb-card fb) in
+        let mode-a = carries-means (fieldsOf v (a .command)) .0 ca .mode in
+        let mode-b = eqb-true (fieldsOf v (b .command) .mode) exclusive (and-left (eqb (fieldsOf v (b .command) .mode) exclusive) (eqb (update (fieldsOf v (b .command)) .x) (update (fieldsOf v (a .command)) .x)) ub) in
+        let stamp = eqb-true (update (fieldsOf v (b .command)) .x) (update (fieldsOf v (a .command)) .x) (and-right (eqb (fieldsOf v (b .command) .mode) exclusive) (eqb (update (fieldsOf v (b .command)) .x) (update (fieldsOf v (a .command)) .x)) ub) in
         let below =
         kept .ordered (pa .m) (pb .m) (pa .among) (pb .among)
         (pa .card-is ∙ card-a ∙ sym card-b ∙ sym (pb .card-is))
         (pa .mode-is ∙ mode-a)
         (pb .mode-is ∙ mode-b)
         (ap (λ (p : Pair). p .x) (pa .pair-same) ∙ sym stamp ∙ sym (ap (λ (p : Pair). p .x) (pb .pair-same))) in
-        subst (λ (p : Pair). update (fieldsOf (b .command)) .s < p .s) (pa .pair-same)
+        subst (λ (p : Pair). update (fieldsOf v (b .command)) .s < p .s) (pa .pair-same)
         (subst (λ (p : Pair). p .s < pa .m .pair .s) (pb .pair-same) below)
 
+    ordered : Ordered k (map (received v) (sentBy steps))
+    ordered a b ma mb =
+        let from-a = among-mapped (received v) (sentBy steps) ma in
+        let from-b = among-mapped (received v) (sentBy steps) mb in
+        subst
+        (λ (d : Received). formedFor k d ≡ true → formedFor k b ≡ true → carries (d .numbers) ≡ true → under (update (d .numbers) .x) (b .numbers) ≡ true → update (b .numbers) .s < update (d .numbers) .s)
+        (sym (from-a .is))
+        (subst
+        (λ (d : Received). formedFor k (received v (from-a .from)) ≡ true → formedFor k d ≡ true → carries (received v (from-a .from) .numbers) ≡ true → under (update (received v (from-a .from) .numbers) .x) (d .numbers) ≡ true → update (d .numbers) .s < update (received v (from-a .from) .numbers) .s)
+        (sym (from-b .is))
+        (order (from-a .from) (from-b .from) (from-a .among) (from-b .among)))
+
 pub desks-isolated : DesksIsolated
-desks-isolated n c lent steps r k later b between a before split by-a by-b one =
-    demand3 n c (r .shape) (sentBy steps) (r .bytes) .isolation k later b between a before (premise-kept n c lent steps r k) split by-a by-b one
+desks-isolated v n c lent steps r k later b between a before split by-a by-b one =
+    demand3 v n c (r .shape) (sentBy steps) (r .bytes) .isolation k later b between a before (premise-logged v n c k (sentBy steps) (premise-kept v n c lent steps r k)) split by-a by-b one
 
 pub one-store : OneStore
-one-store n c lent steps = image-run lent (opening n c lent) steps
+one-store v n c lent steps = image-run v lent (opening v n c lent) steps
 
 once-at : (later : List Made) (p : Made) (rest : List Made) → Once (later ++ p ∷ rest) → Once (p ∷ rest)
 once-at [] p rest o = o
 once-at (m ∷ later) p rest o = once-at later p rest (o .1)
 
 pub stamps-once : StampsOnce
-stamps-once n c lent steps r later p between q before split same ep eq z =
-    let kept = kept-run lent n c (r .shape) (opening n c lent) steps (kept-opening n c lent) (r .bytes) (r .rules) in
+stamps-once v n c lent steps r later p between q before split same ep eq z =
+    let kept = kept-run v lent n c (r .shape) (opening v n c lent) steps (kept-opening v n c lent) (r .bytes) (r .rules) in
     once-at later p (between ++ q ∷ before) (subst Once split (kept .once)) .0 q (among-right between (among-here q before)) ep same eq z

@@ -7,6 +7,7 @@ use mathlib.Core.List.{List, [], _∷_, _++_}
 use mathlib.Core.Bool.{Bool, true, false, cond, not, _&&_, _||_}
 use borrow.Author.Tests.{eqb-true, eqb-false, eq-eqb, ne-eqb, ltb-true, not-true, not-false}
 use lib.Dec.{T, eqb, ltb}
+use Rattle.formats.specs.declared.Format.{Format}
 use Rattle.lists.specs.Table.{settled}
 use Rattle.lists.proofs.Tests.{cases, and-left, and-right, or-cases, or-right, never-both}
 use Rattle.stamps.specs.Stamp.{stamp, deskStart, shared, exclusive, largerOfEach, noPair}
@@ -58,16 +59,16 @@ Once (m ∷ before) =
     ((d : Made) → Among d before → m .mode ≡ exclusive → m .card ≡ d .card → d .mode ≡ exclusive → m .pair .x ≡ d .pair .x → ⊥) × Once before
 
 -- The image is as the commands so far left it, latest first, and their pairs are backed.
-pub record Stored (n c : ℕ) (image : List ℕ) (made : List Made) : Type 0 where
+pub record Stored (v : Format) (n c : ℕ) (image : List ℕ) (made : List Made) : Type 0 where
   pub sent : List Sent
-  pub image-is : image ≡ imageAfter (fresh n c) sent
+  pub image-is : image ≡ imageAfter v (fresh v n c) sent
   pub bytes : AllBytes sent
   pub backed :
-      (s : Sent) → Among s sent → formed (s .command) ≡ true
-      → Backed made (fieldsOf (s .command) .card) (update (fieldsOf (s .command)))
+      (s : Sent) → Among s sent → formed v (s .command) ≡ true
+      → Backed made (fieldsOf v (s .command) .card) (update (fieldsOf v (s .command)))
 
-pub record Kept (n c : ℕ) (y : System) : Type 0 where
-  pub store : Stored n c (y .image) (y .made)
+pub record Kept (v : Format) (n c : ℕ) (y : System) : Type 0 where
+  pub store : Stored v n c (y .image) (y .made)
   -- every pair in circulation is backed: in a queue, known, told and proposed
   pub queued : (k : ℕ) → Backed (y .made) k (y .queues k .largest)
   pub knowing : (w k : ℕ) → Backed (y .made) k (y .known w k)
@@ -126,7 +127,7 @@ raised y who new = largerOfEach (y .known who (new .card)) (new .pair)
 abbrev proposedTo : System → ℕ → Made → System
 proposedTo y who new = withMade new (nowKnows who (new .card) (raised y who new) y)
 
-module _ (n c : ℕ) (shape : T (shapeOk n c)) (y : System) (k : Kept n c y) where
+module _ (v : Format) (n c : ℕ) (shape : T (shapeOk v n c)) (y : System) (k : Kept v n c y) where
   stamped : Stamped (y .made)
   stamped m a e = k .marked m a e .some
 
@@ -147,7 +148,7 @@ module _ (n c : ℕ) (shape : T (shapeOk n c)) (y : System) (k : Kept n c y) whe
 
   -- ---- a desk starts
 
-  pub kept-begin : (lent : ℕ → ℕ) (who : ℕ) → allowed y (begin who) ≡ true → Kept n c (stepTo lent y (begin who))
+  pub kept-begin : (lent : ℕ → ℕ) (who : ℕ) → allowed v y (begin who) ≡ true → Kept v n c (stepTo v lent y (begin who))
   unfolding stepTo
   kept-begin lent who h =
       record {
@@ -180,7 +181,7 @@ module _ (n c : ℕ) (shape : T (shapeOk n c)) (y : System) (k : Kept n c y) whe
 
   -- A desk learns a backed pair that is not below what it knew.
   kept-known : (who card : ℕ) (pair : Pair) → Backed (y .made) card pair → y .known who card .x ≤ pair .x
-      → Kept n c (nowKnows who card pair y)
+      → Kept v n c (nowKnows who card pair y)
   kept-known who card pair b up =
       record {
         store = k .store;
@@ -207,8 +208,8 @@ module _ (n c : ℕ) (shape : T (shapeOk n c)) (y : System) (k : Kept n c y) whe
       still m d =
           record { some = d .some; low = let r = rises (deskStart (m .pair .x)) (m .card) in let l = d .low in omega arith; running = d .running }
 
-  pub kept-learn : (lent : ℕ → ℕ) (who card : ℕ) (pair : Pair) → allowed y (learn who card pair) ≡ true
-      → Kept n c (stepTo lent y (learn who card pair))
+  pub kept-learn : (lent : ℕ → ℕ) (who card : ℕ) (pair : Pair) → allowed v y (learn who card pair) ≡ true
+      → Kept v n c (stepTo v lent y (learn who card pair))
   unfolding stepTo learnt
   kept-learn lent who card pair h =
       kept-known who card (largerOfEach (y .known who card) pair) (backed-larger (y .known who card) pair (k .knowing who card) heard) (omega arith)
@@ -247,7 +248,7 @@ module _ (n c : ℕ) (shape : T (shapeOk n c)) (y : System) (k : Kept n c y) whe
       reached : new .pair .x ≤ nowKnows who (new .card) (raised y who new) y .known who (new .card) .x
       reached = rw (eq-eqb who who refl, eq-eqb (new .card) (new .card) refl) (omega arith)
 
-      kept-more : Kept n c (proposedTo y who new)
+      kept-more : Kept v n c (proposedTo y who new)
       kept-more =
           record {
             store =
@@ -255,7 +256,7 @@ module _ (n c : ℕ) (shape : T (shapeOk n c)) (y : System) (k : Kept n c y) whe
                   sent = k .store .sent;
                   image-is = k .store .image-is;
                   bytes = k .store .bytes;
-                  backed = λ s a f. more (fieldsOf (s .command) .card) (update (fieldsOf (s .command))) (k .store .backed s a f);
+                  backed = λ s a f. more (fieldsOf v (s .command) .card) (update (fieldsOf v (s .command))) (k .store .backed s a f);
                 };
             queued = λ j. more j (y .queues j .largest) (k .queued j);
             knowing =
@@ -371,7 +372,7 @@ module _ (n c : ℕ) (shape : T (shapeOk n c)) (y : System) (k : Kept n c y) whe
           go m c e z (inl same) = let s : m .pair .s ≡ y .known who card .s = ap (λ (d : Made). d .pair .s) same in omega arith
           go m c e z (inr a) = absurd (unused m a c e z)
 
-      kept-exclusive : Kept n c (proposedTo y who newX)
+      kept-exclusive : Kept v n c (proposedTo y who newX)
       kept-exclusive =
           kept-more who newX running (λ e. (mine-desk, mine-some)) (λ p b e z. unknown p b z) own-x (λ d a h c e z. absurd (omega arith))
 
@@ -383,32 +384,32 @@ module _ (n c : ℕ) (shape : T (shapeOk n c)) (y : System) (k : Kept n c y) whe
             stems = λ z. k .knowing who card .stems z;
           })
 
-      kept-shared : Kept n c (proposedTo y who newS)
+      kept-shared : Kept v n c (proposedTo y who newS)
       kept-shared =
           kept-more who newS running (λ e. absurd (omega arith)) (λ p b e z. absurd (omega arith)) own-s
           (λ d a h c e z. let low = k .knowing who card .covers d a (sym c) e (sym z) in let u = up (y .known who card .s) in omega arith)
 
   -- A proposal, by its number.
-  pub kept-propose : (lent : ℕ → ℕ) (who card mode : ℕ) → allowed y (propose who card mode) ≡ true → Kept n c (stepTo lent y (propose who card mode))
+  pub kept-propose : (lent : ℕ → ℕ) (who card mode : ℕ) → allowed v y (propose who card mode) ≡ true → Kept v n c (stepTo v lent y (propose who card mode))
   unfolding stepTo proposed learnt
   kept-propose lent who card mode running = go (proposed (knows y who card) mode .number) refl
     where
-      go : (given : ℕ) → proposed (knows y who card) mode .number ≡ given → Kept n c (stepTo lent y (propose who card mode))
+      go : (given : ℕ) → proposed (knows y who card) mode .number ≡ given → Kept v n c (stepTo v lent y (propose who card mode))
       go (suc j) e = rw e k
       go zero e = rw e (by-mode (made-rules (knows y who card) mode e))
         where
           by-mode : ((mode ≡ shared) ⊎ (mode ≡ exclusive)) × (who / 65536 ≡ 0 → ⊥)
-              → Kept n c (proposedTo y who (record { card = card; mode = mode; pair = pairFor (knows y who card) mode }))
+              → Kept v n c (proposedTo y who (record { card = card; mode = mode; pair = pairFor (knows y who card) mode }))
           by-mode r = pick (r .0)
             where
-              pick : (mode ≡ shared) ⊎ (mode ≡ exclusive) → Kept n c (proposedTo y who (record { card = card; mode = mode; pair = pairFor (knows y who card) mode }))
+              pick : (mode ≡ shared) ⊎ (mode ≡ exclusive) → Kept v n c (proposedTo y who (record { card = card; mode = mode; pair = pairFor (knows y who card) mode }))
               pick (inl s) =
-                  subst (λ (m : ℕ). Kept n c (proposedTo y who (record { card = card; mode = m; pair = pairFor (knows y who card) m }))) (sym s)
-                  (subst (λ (p : Pair). Kept n c (proposedTo y who (record { card = card; mode = shared; pair = p }))) (sym (pair-shared (knows y who card)))
+                  subst (λ (m : ℕ). Kept v n c (proposedTo y who (record { card = card; mode = m; pair = pairFor (knows y who card) m }))) (sym s)
+                  (subst (λ (p : Pair). Kept v n c (proposedTo y who (record { card = card; mode = shared; pair = p }))) (sym (pair-shared (knows y who card)))
                   (kept-shared who card running (r .1)))
               pick (inr x) =
-                  subst (λ (m : ℕ). Kept n c (proposedTo y who (record { card = card; mode = m; pair = pairFor (knows y who card) m }))) (sym x)
-                  (subst (λ (p : Pair). Kept n c (proposedTo y who (record { card = card; mode = exclusive; pair = p }))) (sym (pair-exclusive (knows y who card)))
+                  subst (λ (m : ℕ). Kept v n c (proposedTo y who (record { card = card; mode = m; pair = pairFor (knows y who card) m }))) (sym x)
+                  (subst (λ (p : Pair). Kept v n c (proposedTo y who (record { card = card; mode = exclusive; pair = p }))) (sym (pair-exclusive (knows y who card)))
                   (kept-exclusive who card running (r .1)))
 
   -- ---- a queue answers
@@ -438,7 +439,7 @@ module _ (n c : ℕ) (shape : T (shapeOk n c)) (y : System) (k : Kept n c y) whe
         go false = after-backed
 
     -- The queue and the answers after it; nothing else has moved.
-    kept-queue : Kept n c (queueStep (lent card) y card r)
+    kept-queue : Kept v n c (queueStep (lent card) y card r)
     kept-queue =
         record {
           store = k .store;
@@ -453,7 +454,7 @@ module _ (n c : ℕ) (shape : T (shapeOk n c)) (y : System) (k : Kept n c y) whe
           numbered = k .numbered;
         }
 
-  pub kept-ask : (lent : ℕ → ℕ) (card : ℕ) (new : Waiting) → allowed y (ask card new) ≡ true → Kept n c (stepTo lent y (ask card new))
+  pub kept-ask : (lent : ℕ → ℕ) (card : ℕ) (new : Waiting) → allowed v y (ask card new) ≡ true → Kept v n c (stepTo v lent y (ask card new))
   unfolding stepTo
   kept-ask lent card new h =
       kept-queue lent card (asks new)
@@ -463,12 +464,12 @@ module _ (n c : ℕ) (shape : T (shapeOk n c)) (y : System) (k : Kept n c y) whe
       (proposal-backed (is-made (y .made) card (new .mode) (new .pair)
       (if-formed (wellFormed new) h (subst (λ (v : Waiting). wellFormed v ≡ true) (sym same) f)))))
 
-  pub kept-leave : (lent : ℕ → ℕ) (card desk : ℕ) → Kept n c (stepTo lent y (leave card desk))
+  pub kept-leave : (lent : ℕ → ℕ) (card desk : ℕ) → Kept v n c (stepTo v lent y (leave card desk))
   unfolding stepTo
   kept-leave lent card desk = kept-queue lent card (leaves desk) (λ w e f. let z : _≡_ {A = ℕ} 0 1 = cc in absurd (omega arith))
 
   -- A queue that is lost has no largest pair.
-  pub kept-lose : (lent : ℕ → ℕ) (card : ℕ) (places : List Waiting) → Kept n c (stepTo lent y (lose card places))
+  pub kept-lose : (lent : ℕ → ℕ) (card : ℕ) (places : List Waiting) → Kept v n c (stepTo v lent y (lose card places))
   unfolding stepTo
   kept-lose lent card places =
       record {
@@ -488,79 +489,79 @@ module _ (n c : ℕ) (shape : T (shapeOk n c)) (y : System) (k : Kept n c y) whe
 
   -- The largest pair of what was accepted is backed where what was sent is.
   largest-backed : (start : List ℕ) (sent : List Sent) (j : ℕ)
-      → ((s : Sent) → Among s sent → formed (s .command) ≡ true → Backed (y .made) (fieldsOf (s .command) .card) (update (fieldsOf (s .command))))
-      → Backed (y .made) j (largestPair j (history start sent))
+      → ((s : Sent) → Among s sent → formed v (s .command) ≡ true → Backed (y .made) (fieldsOf v (s .command) .card) (update (fieldsOf v (s .command))))
+      → Backed (y .made) j (largestPair j (history v start sent))
   unfolding history
   largest-backed start [] j b = nothing j
   largest-backed start (s ∷ earlier) j b =
       go (cases (accepted j event)) (largest-backed start earlier j (λ a m. b a (among-later s m)))
     where
       event : Event
-      event = eventOf s (serve (imageAfter start earlier) (s .command) (s .lent))
+      event = eventOf v s (serve v (imageAfter v start earlier) (s .command) (s .lent))
 
-      own : accepted j event ≡ true → Backed (y .made) j (update (fieldsOf (s .command)))
+      own : accepted j event ≡ true → Backed (y .made) j (update (fieldsOf v (s .command)))
       own h =
           let means = accepted-means j event .0 h in
-          subst (λ (i : ℕ). Backed (y .made) i (update (fieldsOf (s .command)))) (means .1)
-          (b s (among-here s earlier) (accepted-formed (imageAfter start earlier) (s .command) (s .lent) (means .0)))
+          subst (λ (i : ℕ). Backed (y .made) i (update (fieldsOf v (s .command)))) (means .1)
+          (b s (among-here s earlier) (accepted-formed v (imageAfter v start earlier) (s .command) (s .lent) (means .0)))
 
-      go : (accepted j event ≡ true) ⊎ (accepted j event ≡ false) → Backed (y .made) j (largestPair j (history start earlier))
-          → Backed (y .made) j (largestPair j (event ∷ history start earlier))
-      go (inl h) rest = rw h (backed-larger (largestPair j (history start earlier)) (update (fieldsOf (s .command))) rest (own h))
+      go : (accepted j event ≡ true) ⊎ (accepted j event ≡ false) → Backed (y .made) j (largestPair j (history v start earlier))
+          → Backed (y .made) j (largestPair j (event ∷ history v start earlier))
+      go (inl h) rest = rw h (backed-larger (largestPair j (history v start earlier)) (update (fieldsOf v (s .command))) rest (own h))
       go (inr h) rest = rw h rest
 
-  module _ (lent : ℕ → ℕ) (s : Sent) (bytes : SentBytes s) (h : allowed y (send s) ≡ true) where
+  module _ (lent : ℕ → ℕ) (s : Sent) (bytes : SentBytes s) (h : allowed v y (send s) ≡ true) where
     abbrev command : Command
-    command = fieldsOf (s .command)
+    command = fieldsOf v (s .command)
 
     -- The pair of a well-formed command is one that was proposed, now and before.
-    sent-backed : (a : Sent) → Among a (s ∷ k .store .sent) → formed (a .command) ≡ true
-        → Backed (y .made) (fieldsOf (a .command) .card) (update (fieldsOf (a .command)))
+    sent-backed : (a : Sent) → Among a (s ∷ k .store .sent) → formed v (a .command) ≡ true
+        → Backed (y .made) (fieldsOf v (a .command) .card) (update (fieldsOf v (a .command)))
     sent-backed a m f = go (among-cases m)
       where
-        now : formed (s .command) ≡ true → Backed (y .made) (command .card) (update command)
-        now g = proposal-backed (is-made (y .made) (command .card) (command .mode) (update command) (if-formed (formed (s .command)) h g))
+        now : formed v (s .command) ≡ true → Backed (y .made) (command .card) (update command)
+        now g = proposal-backed (is-made (y .made) (command .card) (command .mode) (update command) (if-formed (formed v (s .command)) h g))
 
-        go : (a ≡ s) ⊎ Among a (k .store .sent) → Backed (y .made) (fieldsOf (a .command) .card) (update (fieldsOf (a .command)))
+        go : (a ≡ s) ⊎ Among a (k .store .sent) → Backed (y .made) (fieldsOf v (a .command) .card) (update (fieldsOf v (a .command)))
         go (inl e) =
-            subst (λ (d : Sent). Backed (y .made) (fieldsOf (d .command) .card) (update (fieldsOf (d .command)))) (sym e)
-            (now (subst (λ (d : Sent). formed (d .command) ≡ true) e f))
+            subst (λ (d : Sent). Backed (y .made) (fieldsOf v (d .command) .card) (update (fieldsOf v (d .command)))) (sym e)
+            (now (subst (λ (d : Sent). formed v (d .command) ≡ true) e f))
         go (inr l) = k .store .backed a l f
 
     abbrev event : Event
-    event = eventOf s (serve (imageAfter (fresh n c) (k .store .sent)) (s .command) (s .lent))
+    event = eventOf v s (serve v (imageAfter v (fresh v n c) (k .store .sent)) (s .command) (s .lent))
 
     -- The reply shows the largest pair that was accepted, or zeros.
     reply-backed : Backed (y .made) (command .card) (event .answer .pair)
     unfolding history
     reply-backed =
         subst (Backed (y .made) (command .card)) (sym shown)
-        (go (blankReply (event .answer .number)) (largest-backed (fresh n c) (s ∷ k .store .sent) (command .card) sent-backed))
+        (go (blankReply (event .answer .number)) (largest-backed (fresh v n c) (s ∷ k .store .sent) (command .card) sent-backed))
       where
-        shown : Shows event (history (fresh n c) (k .store .sent))
-        shown = shows-history n c shape (s ∷ k .store .sent) (bytes, k .store .bytes) .0
+        shown : Shows event (history v (fresh v n c) (k .store .sent))
+        shown = shows-history v n c shape (s ∷ k .store .sent) (bytes, k .store .bytes) .0
 
-        go : (b : Bool) → Backed (y .made) (command .card) (largestPair (command .card) (event ∷ history (fresh n c) (k .store .sent)))
-            → Backed (y .made) (command .card) (cond b noPair (largestPair (command .card) (event ∷ history (fresh n c) (k .store .sent))))
+        go : (b : Bool) → Backed (y .made) (command .card) (largestPair (command .card) (event ∷ history v (fresh v n c) (k .store .sent)))
+            → Backed (y .made) (command .card) (cond b noPair (largestPair (command .card) (event ∷ history v (fresh v n c) (k .store .sent))))
         go true l = nothing (command .card)
         go false l = l
 
-    pub kept-send : Kept n c (stepTo lent y (send s))
+    pub kept-send : Kept v n c (stepTo v lent y (send s))
     unfolding stepTo imageAfter
     kept-send =
         record {
           store =
               record {
                 sent = s ∷ k .store .sent;
-                image-is = ap (λ (i : List ℕ). serve i (s .command) (s .lent) .image) (k .store .image-is);
+                image-is = ap (λ (i : List ℕ). serve v i (s .command) (s .lent) .image) (k .store .image-is);
                 bytes = (bytes, k .store .bytes);
                 backed = sent-backed;
               };
           queued = k .queued;
           knowing = k .knowing;
           telling =
-              told-more (record { card = command .card; number = serve (y .image) (s .command) (s .lent) .answer .number; pair = serve (y .image) (s .command) (s .lent) .answer .pair })
-              (subst (λ (i : List ℕ). Backed (y .made) (command .card) (serve i (s .command) (s .lent) .answer .pair)) (sym (k .store .image-is)) reply-backed);
+              told-more (record { card = command .card; number = serve v (y .image) (s .command) (s .lent) .answer .number; pair = serve v (y .image) (s .command) (s .lent) .answer .pair })
+              (subst (λ (i : List ℕ). Backed (y .made) (command .card) (serve v i (s .command) (s .lent) .answer .pair)) (sym (k .store .image-is)) reply-backed);
           making = k .making;
           marked = k .marked;
           ordered = k .ordered;

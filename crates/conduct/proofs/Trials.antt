@@ -10,7 +10,7 @@ use Rattle.guard.specs.Judge.{raise}
 use Rattle.guard.specs.Replies.{replied}
 use Rattle.image.specs.Layout.{shapeOk}
 use Rattle.image.specs.Bytes.{header, entryBytes, pad, readEntry, entryAt}
-use Rattle.image.specs.Image.{bodies, encode, cardAt, decode, tailZero, cardSound, headerSound, sound, fresh}
+use Rattle.image.specs.Image.{bodies, encode, cardAt, decode, tailZero, translationSound, cardSound, headerSound, sound, fresh}
 use Rattle.model.specs.Serve.{stepped, serveBy, serve}
 use Rattle.model.specs.Words.{imageAfter, history, logOf}
 use Rattle.lock_queue.specs.Queue.{stands, looked, firstPlace, holds, holdsAt, noExclusive}
@@ -21,11 +21,11 @@ use Rattle.conduct.specs.System.{stepTo, course, byRules, sentBy}
 use Rattle.conduct.specs.Trials.{Story, RulesNeeded}
 
 pub story-holds : Story
-unfolding byRules course stepTo sentBy learnt nextT pairFor proposed answered number after answer upgrading onto firstPlace good distinct stands joined removed without logOf history imageAfter serve serveBy stepped sound headerSound cardSound tailZero decode cardAt entryAt readEntry encode bodies pad entryBytes header shapeOk fresh replied raise entrySound commandBytes formed payload fieldsOf wellFormed all allFrom le toLe part splice table spread every zeros
+unfolding byRules course stepTo sentBy learnt nextT pairFor proposed answered number after answer upgrading onto firstPlace good distinct stands joined removed without logOf history imageAfter serve serveBy stepped sound headerSound cardSound translationSound tailZero decode cardAt entryAt readEntry encode bodies pad entryBytes header shapeOk fresh replied raise entrySound commandBytes formed payload fieldsOf wellFormed all allFrom le toLe part splice table spread every zeros
 story-holds = record { rules = refl; answers = refl; shows = refl; carried = refl; below = refl }
 
 pub rules-needed : RulesNeeded
-unfolding byRules course stepTo sentBy learnt nextT pairFor proposed answered number after answer upgrading onto firstPlace good distinct stands joined removed without logOf history imageAfter serve serveBy stepped sound headerSound cardSound tailZero decode cardAt entryAt readEntry encode bodies pad entryBytes header shapeOk fresh replied raise entrySound commandBytes formed payload fieldsOf wellFormed all allFrom le toLe part splice table spread every zeros
+unfolding byRules course stepTo sentBy learnt nextT pairFor proposed answered number after answer upgrading onto firstPlace good distinct stands joined removed without logOf history imageAfter serve serveBy stepped sound headerSound cardSound translationSound tailZero decode cardAt entryAt readEntry encode bodies pad entryBytes header shapeOk fresh replied raise entrySound commandBytes formed payload fieldsOf wellFormed all allFrom le toLe part splice table spread every zeros
 rules-needed =
     record {
       start-again = record { before = refl; refused = refl; after = refl; broken = refl };

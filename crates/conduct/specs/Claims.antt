@@ -2,34 +2,35 @@
 -- Assumes nothing.
 use Prim.Native.Nat.{ℕ}
 use mathlib.Core.Path.{_≡_}
-use mathlib.Core.List.{List, [], _∷_, _++_, reverse}
+use mathlib.Core.List.{List, [], _∷_, _++_, map, reverse}
 use mathlib.Core.Bool.{true}
 use lib.Dec.{T}
 use Rattle.stamps.specs.Stamp.{exclusive}
+use Rattle.formats.specs.declared.Format.{Format}
 use Rattle.image.specs.Layout.{shapeOk}
 use Rattle.image.specs.Image.{fresh}
 use Rattle.lists.specs.Search.{none}
-use Rattle.model.specs.Words.{Sent, Event, imageAfter, logOf, accepted, premise, OneSession, intrudes}
+use Rattle.model.specs.Words.{Sent, Event, received, imageAfter, logOf, accepted, premise, OneSession, intrudes}
 use Rattle.model.specs.Claims.{AllBytes}
 use Rattle.conduct.specs.System.{Move, Made, opening, course, byRules, sentBy}
 
--- Steps by the rules from the opening, over a store of any N and C that can be made and queues of any numbers of places.
-pub record ByRules (n c : ℕ) (lent : ℕ → ℕ) (steps : List Move) : Type 0 where
-  pub shape : T (shapeOk n c)
+-- Steps by the rules from the opening, over a store of a version and of any N and C that can be made and queues of any numbers of places.
+pub record ByRules (v : Format) (n c : ℕ) (lent : ℕ → ℕ) (steps : List Move) : Type 0 where
+  pub shape : T (shapeOk v n c)
   pub bytes : AllBytes (sentBy steps)
-  pub rules : byRules lent (opening n c lent) steps ≡ true
+  pub rules : byRules v lent (opening v n c lent) steps ≡ true
 
 -- Rule 10.11: whatever happens, what reaches the store keeps demand 3's premise, of every card.
 abbrev pub PremiseKept : Type 0
-PremiseKept = (n c : ℕ) (lent : ℕ → ℕ) (steps : List Move) → ByRules n c lent steps → (k : ℕ) → premise k (sentBy steps) ≡ true
+PremiseKept = (v : Format) (n c : ℕ) (lent : ℕ → ℕ) (steps : List Move) → ByRules v n c lent steps → (k : ℕ) → premise k (map (received v) (sentBy steps)) ≡ true
 
 -- Rule 10.12: so demand 3's sentence on isolation holds of these desks with no premise. Between two accepted commands of one session no command of
 -- another desk is accepted for that card, unless both are shared.
 abbrev pub DesksIsolated : Type 0
 DesksIsolated =
-    (n c : ℕ) (lent : ℕ → ℕ) (steps : List Move) → ByRules n c lent steps →
+    (v : Format) (n c : ℕ) (lent : ℕ → ℕ) (steps : List Move) → ByRules v n c lent steps →
     (k : ℕ) (later : List Event) (b : Event) (between : List Event) (a : Event) (before : List Event) →
-    logOf n c (sentBy steps) ≡ later ++ b ∷ (between ++ a ∷ before) →
+    logOf v n c (sentBy steps) ≡ later ++ b ∷ (between ++ a ∷ before) →
     accepted k a ≡ true →
     accepted k b ≡ true →
     OneSession a b →
@@ -38,15 +39,15 @@ DesksIsolated =
 -- The store among the desks is demand 3's: its bytes are as the list of what reached it leaves them.
 abbrev pub OneStore : Type 0
 OneStore =
-    (n c : ℕ) (lent : ℕ → ℕ) (steps : List Move) →
-    course lent (opening n c lent) steps .image ≡ imageAfter (fresh n c) (reverse (sentBy steps))
+    (v : Format) (n c : ℕ) (lent : ℕ → ℕ) (steps : List Move) →
+    course v lent (opening v n c lent) steps .image ≡ imageAfter v (fresh v n c) (reverse (sentBy steps))
 
 -- Rule 10.13: no x stands in two exclusive proposals for a card, whichever desks make them.
 abbrev pub StampsOnce : Type 0
 StampsOnce =
-    (n c : ℕ) (lent : ℕ → ℕ) (steps : List Move) → ByRules n c lent steps →
+    (v : Format) (n c : ℕ) (lent : ℕ → ℕ) (steps : List Move) → ByRules v n c lent steps →
     (later : List Made) (p : Made) (between : List Made) (q : Made) (before : List Made) →
-    course lent (opening n c lent) steps .made ≡ later ++ p ∷ (between ++ q ∷ before) →
+    course v lent (opening v n c lent) steps .made ≡ later ++ p ∷ (between ++ q ∷ before) →
     p .card ≡ q .card →
     p .mode ≡ exclusive →
     q .mode ≡ exclusive →

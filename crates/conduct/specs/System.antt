@@ -13,6 +13,7 @@ use Rattle.stamps.specs.declared.Pair.{Pair}
 use Rattle.commands.specs.Command.{update}
 use Rattle.commands.specs.declared.Command.{Command}
 use Rattle.commands.specs.Bytes.{fieldsOf, formed}
+use Rattle.formats.specs.declared.Format.{Format}
 use Rattle.image.specs.Image.{fresh}
 use Rattle.model.specs.Serve.{serve}
 use Rattle.lists.specs.Search.{any}
@@ -48,11 +49,11 @@ pub record System : Type 0 where
   pub made : List Made
   pub told : List Told
 
--- Rule 10.11: a fresh store of n cards with room c, empty queues (that of card k has `lent k` places), and nothing known.
-abbrev pub opening : ℕ → ℕ → (ℕ → ℕ) → System
-opening n c lent =
+-- Rule 10.11: a fresh store of a version, of n cards with room c, empty queues (that of card k has `lent k` places), and nothing known.
+abbrev pub opening : Format → ℕ → ℕ → (ℕ → ℕ) → System
+opening v n c lent =
     record {
-      image = fresh n c;
+      image = fresh v n c;
       queues = λ k. emptyQueue (replicate (lent k) noWaiting);
       started = [];
       known = λ who k. noPair;
@@ -94,20 +95,20 @@ isMade made card mode pair = any (λ m. eqb (m .card) card && eqb (m .mode) mode
 abbrev pub wasTold : List Told → ℕ → Pair → Bool
 wasTold told card pair = any (λ t. eqb (t .card) card && samePair (t .pair) pair) told
 
-abbrev pub allowed : System → Move → Bool
+abbrev pub allowed : Format → System → Move → Bool
 -- rule 10.9: a desk and start is used once
-allowed y (begin who) = ltb who 4294967296 && not (inUse y who)
-allowed y (propose who card mode) = inUse y who
+allowed v y (begin who) = ltb who 4294967296 && not (inUse y who)
+allowed v y (propose who card mode) = inUse y who
 -- rule 10.8: an ask carries a pair that was proposed for the card, in the mode in which it was proposed; a malformed one may carry anything
-allowed y (ask card new) = not (wellFormed new) || isMade (y .made) card (new .mode) (new .pair)
-allowed y (leave card desk) = true
-allowed y (lose card places) = true
+allowed v y (ask card new) = not (wellFormed new) || isMade (y .made) card (new .mode) (new .pair)
+allowed v y (leave card desk) = true
+allowed v y (lose card places) = true
 -- rule 10.8: so does a command, in its update pair; recovery's writes are commands like others
-allowed y (send s) =
-    not (formed (s .command))
-    || isMade (y .made) (fieldsOf (s .command) .card) (fieldsOf (s .command) .mode) (update (fieldsOf (s .command)))
+allowed v y (send s) =
+    not (formed v (s .command))
+    || isMade (y .made) (fieldsOf v (s .command) .card) (fieldsOf v (s .command) .mode) (update (fieldsOf v (s .command)))
 -- rule 10.1: what a desk learns of a card was in an answer for that card, s and x together
-allowed y (learn who card pair) = inUse y who && wasTold (y .told) card pair
+allowed v y (learn who card pair) = inUse y who && wasTold (y .told) card pair
 
 -- ---- what it changes
 
@@ -152,40 +153,40 @@ queueStep lent y card r =
     withTold (record { card = card; number = answer lent (y .queues card) r .number; pair = answer lent (y .queues card) r .largest })
     (withQueue card (after lent (y .queues card) r) y)
 
-unfoldable pub stepTo : (ℕ → ℕ) → System → Move → System
+unfoldable pub stepTo : Format → (ℕ → ℕ) → System → Move → System
 -- rule 10.9: a desk and start begins with nothing known
-stepTo lent y (begin who) = withStart who (withKnown who (λ k. noPair) y)
+stepTo v lent y (begin who) = withStart who (withKnown who (λ k. noPair) y)
 -- rules 10.4 to 10.7: a refusal changes nothing; else the pair is proposed, and known
-stepTo lent y (propose who card mode) =
+stepTo v lent y (propose who card mode) =
     settled (proposed (knows y who card) mode .number)
     (withMade (record { card = card; mode = mode; pair = proposed (knows y who card) mode .pair })
     (nowKnows who card (proposed (knows y who card) mode .known .pair) y))
     y
-stepTo lent y (ask card new) = queueStep (lent card) y card (asks new)
-stepTo lent y (leave card desk) = queueStep (lent card) y card (leaves desk)
-stepTo lent y (lose card places) = withQueue card (emptyQueue places) y
+stepTo v lent y (ask card new) = queueStep (lent card) y card (asks new)
+stepTo v lent y (leave card desk) = queueStep (lent card) y card (leaves desk)
+stepTo v lent y (lose card places) = withQueue card (emptyQueue places) y
 -- the store answers what `serve` answers, which is what the operation `answer` does
-stepTo lent y (send s) =
+stepTo v lent y (send s) =
     withTold
     (record {
-      card = fieldsOf (s .command) .card;
-      number = serve (y .image) (s .command) (s .lent) .answer .number;
-      pair = serve (y .image) (s .command) (s .lent) .answer .pair;
+      card = fieldsOf v (s .command) .card;
+      number = serve v (y .image) (s .command) (s .lent) .answer .number;
+      pair = serve v (y .image) (s .command) (s .lent) .answer .pair;
     })
-    (withImage (serve (y .image) (s .command) (s .lent) .image) y)
+    (withImage (serve v (y .image) (s .command) (s .lent) .image) y)
 -- rule 10.2
-stepTo lent y (learn who card pair) = nowKnows who card (learnt (knows y who card) pair .pair) y
+stepTo v lent y (learn who card pair) = nowKnows who card (learnt (knows y who card) pair .pair) y
 
 -- ---- runs: steps in the order in which they happen
 
-unfoldable pub course : (ℕ → ℕ) → System → List Move → System
-course lent y [] = y
-course lent y (s ∷ steps) = course lent (stepTo lent y s) steps
+unfoldable pub course : Format → (ℕ → ℕ) → System → List Move → System
+course v lent y [] = y
+course v lent y (s ∷ steps) = course v lent (stepTo v lent y s) steps
 
 -- Each step is by the rules, in the system as the steps before it left it.
-unfoldable pub byRules : (ℕ → ℕ) → System → List Move → Bool
-byRules lent y [] = true
-byRules lent y (s ∷ steps) = allowed y s && byRules lent (stepTo lent y s) steps
+unfoldable pub byRules : Format → (ℕ → ℕ) → System → List Move → Bool
+byRules v lent y [] = true
+byRules v lent y (s ∷ steps) = allowed v y s && byRules v lent (stepTo v lent y s) steps
 
 -- What reached the store, in order: demand 3's list.
 abbrev pub sentOf : Move → List Sent

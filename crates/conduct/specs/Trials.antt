@@ -6,13 +6,14 @@ use mathlib.Core.Path.{_≡_}
 use mathlib.Core.List.{List, [], _∷_, _++_, map, reverse}
 use mathlib.Core.Bool.{true, false}
 use lib.ListN.{take}
+use Rattle.formats.specs.declared.Format.the-variants.{V1}
 use Rattle.stamps.specs.Stamp.{stamp, shared, exclusive, noPair}
 use Rattle.stamps.specs.declared.Pair.{Pair}
 use Rattle.lock_queue.specs.Queue.{State, noWaiting}
 use Rattle.lock_queue.specs.declared.Waiting.{Waiting}
 use Rattle.commands.specs.Bytes.{fieldsOf}
 use Rattle.model.specs.Serve.{serve}
-use Rattle.model.specs.Words.{Sent, Event, logOf, carries, under, premise}
+use Rattle.model.specs.Words.{Sent, Event, received, logOf, carries, under, premise}
 use Rattle.model.specs.Cases.{pair, request, requestOpening, text205, text401, long}
 use Rattle.conduct.specs.System.{
   System,
@@ -56,7 +57,7 @@ abbrev pub twoPlaces : ℕ → ℕ
 twoPlaces k = 2
 
 abbrev pub singleCard : System
-singleCard = opening 1 16 twoPlaces
+singleCard = opening V1 1 16 twoPlaces
 
 abbrev pub waits : ℕ → ℕ → ℕ → Waiting
 waits mode s x = record { mode = mode; pair = pair s x }
@@ -126,10 +127,10 @@ abbrev pub heard : ℕ → ℕ → ℕ → Told
 heard number s x = record { card = 0; number = number; pair = pair s x }
 
 pub record Story : Type 0 where
-  pub rules : byRules twoPlaces singleCard story ≡ true
+  pub rules : byRules V1 twoPlaces singleCard story ≡ true
   -- the answers of the queue and of the store, in order
   pub answers :
-      reverse (course twoPlaces singleCard story .told)
+      reverse (course V1 twoPlaces singleCard story .told)
       ≡ heard 0 (stamp 0 1 0) 0
       ∷ heard 0 (stamp 0 1 0) 0
       ∷ heard 11 (stamp 0 1 0) 0
@@ -153,26 +154,26 @@ pub record Story : Type 0 where
       ∷ []
   -- what its commands show
   pub shows :
-      map (λ e. take (e .answer .length) (e .reply)) (reverse (logOf 1 16 (sentBy story)))
+      map (λ e. take (e .answer .length) (e .reply)) (reverse (logOf V1 1 16 (sentBy story)))
       ≡ [] ∷ [] ∷ [] ∷ text205 ∷ [] ∷ [] ∷ [] ∷ [] ∷ text401 ∷ []
   -- the premise has something to say of it: a shared command carries the stamp of an exclusive one
-  pub carried : carries (fieldsOf (readUnder (stamp 1 1 0) (stamp 1 2 0) .command)) ≡ true
-  pub below : under (stamp 1 2 0) (fieldsOf (writeUnder (stamp 0 1 0) (stamp 1 2 0) text205 .command)) ≡ true
+  pub carried : carries (fieldsOf V1 (readUnder (stamp 1 1 0) (stamp 1 2 0) .command)) ≡ true
+  pub below : under (stamp 1 2 0) (fieldsOf V1 (writeUnder (stamp 0 1 0) (stamp 1 2 0) text205 .command)) ≡ true
 
 -- ---- one rule broken
 
 -- Steps by the rules, one that is not, and steps by the rules: what was sent breaks the premise of card 0.
 pub record BrokenBy (lead : List Move) (wrong : Move) (rest : List Move) : Type 0 where
-  pub before : byRules twoPlaces singleCard lead ≡ true
-  pub refused : allowed (course twoPlaces singleCard lead) wrong ≡ false
-  pub after : byRules twoPlaces (stepTo twoPlaces (course twoPlaces singleCard lead) wrong) rest ≡ true
-  pub broken : premise 0 (sentBy (lead ++ wrong ∷ rest)) ≡ false
+  pub before : byRules V1 twoPlaces singleCard lead ≡ true
+  pub refused : allowed V1 (course V1 twoPlaces singleCard lead) wrong ≡ false
+  pub after : byRules V1 twoPlaces (stepTo V1 twoPlaces (course V1 twoPlaces singleCard lead) wrong) rest ≡ true
+  pub broken : premise 0 (map (received V1) (sentBy (lead ++ wrong ∷ rest))) ≡ false
 
 -- The same with a change of the system that is no step.
 pub record BrokenWith (lead : List Move) (wrong : System → System) (rest : List Move) : Type 0 where
-  pub before : byRules twoPlaces singleCard lead ≡ true
-  pub after : byRules twoPlaces (wrong (course twoPlaces singleCard lead)) rest ≡ true
-  pub broken : premise 0 (sentBy (lead ++ rest)) ≡ false
+  pub before : byRules V1 twoPlaces singleCard lead ≡ true
+  pub after : byRules V1 twoPlaces (wrong (course V1 twoPlaces singleCard lead)) rest ≡ true
+  pub broken : premise 0 (map (received V1) (sentBy (lead ++ rest))) ≡ false
 
 -- Desk 3 asks under (0.3.0, 0), so that a pair with an s and no x is told.
 abbrev pub threeAsks : List Move
@@ -286,7 +287,7 @@ pub record RulesNeeded : Type 0 where
       BrokenWith (threeAsks ++ (begin deskOne ∷ begin deskTwo ∷ [])) (withKnown deskTwo (λ k. pair 0 (stamp 0 1 0)))
       (twoBelow ++ oneAbove)
   pub stored :
-      BrokenWith [] (λ y. withImage (serve (y .image) (writeUnder 0 (stamp 0 1 0) text205 .command) [] .image) y)
+      BrokenWith [] (λ y. withImage (serve V1 (y .image) (writeUnder 0 (stamp 0 1 0) text205 .command) [] .image) y)
       (twoLearnsAt (send (readUnder (stamp 0 2 0) 0)) ++ oneFarAbove)
   pub queued :
       BrokenWith []

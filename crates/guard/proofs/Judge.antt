@@ -1,16 +1,16 @@
 -- Laws of an entry that judges a command. Assumes nothing.
-use Prim.Native.Nat.{ℕ, zero, suc, _+_, _≤_}
+use Prim.Native.Nat.{ℕ, suc, _+_, _≤_}
 use native.Mathlib.Omega.{arith}
 use mathlib.Core.Path.{_≡_, refl}
 use mathlib.Core.Logic.{_↔_, _⊎_}
 use mathlib.Core.Bool.{Bool, true, false, not, _&&_}
 use borrow.Author.Tests.{ltb-false, eqb-true, eqb-false, not-false}
-use lib.Dec.{T, eqb}
+use lib.Dec.{T, eqb, ltb}
 use Rattle.lists.proofs.Tests.{never-both, or-fails}
 use Rattle.stamps.specs.Stamp.{shared, exclusive, stale, mostAhead, stampT, tooFar, markFits}
-use Rattle.commands.specs.Command.{Language, original, translation, reads, writes, verifier, update, wellFormed}
+use Rattle.commands.specs.Command.{original, readsTranslation, writesTranslation, reads, writes, verifier, update, wellFormed}
 use Rattle.lists.specs.Table.{first, noRow, applies, earlier, once, settled}
-use Rattle.guard.specs.Judge.{behind, lastEdition, overruns, entryRows, judgeRows, raise, judged}
+use Rattle.guard.specs.Judge.{behind, lastEdition, entryRows, judgeRows, raise, judged}
 use Rattle.commands.specs.declared.Command.{Command}
 use Rattle.guard.specs.declared.Entry.{Entry}
 use Rattle.guard.specs.declared.Judged.{Judged}
@@ -29,10 +29,11 @@ pub record Accepted (e : Entry) (c : Command) (room lent : ℕ) : Type 0 where
   pub near : tooFar (e .pair) (update c) ≡ false
   pub mark : markFits (e .mark) (c .expected) ≡ true
   pub length : c .length ≤ room
-  pub current : reads (translation 0) c ≡ true → behind (e .edition) (e .from) ≡ false
-  pub named : writes (translation 0) c ≡ true → c .edition ≡ e .edition
+  pub current : readsTranslation c ≡ true → behind (e .edition) (e .from) ≡ false
+  pub named : writesTranslation c ≡ true → c .edition ≡ e .edition
   pub unspent : writes original c ≡ true → e .edition ≡ lastEdition → ⊥
-  pub lends : (l : Language) → overruns l e c lent ≡ false
+  pub lends-original : (reads original c && ltb lent (e .original)) ≡ false
+  pub lends-translation : (readsTranslation c && ltb lent (e .translation)) ≡ false
 
 module _ (e : Entry) (c : Command) (room lent : ℕ) where
   -- Each number stands on one row.
@@ -71,25 +72,24 @@ module _ (e : Entry) (c : Command) (room lent : ℕ) where
         near = row-fails 17;
         mark = not-false (markFits (e .mark) (c .expected)) (row-fails 4);
         length = ltb-false room (c .length) (row-fails 5);
-        current = λ w. second-fails (reads (translation 0) c) (behind (e .edition) (e .from)) (row-6 .0) w;
+        current = λ w. second-fails (readsTranslation c) (behind (e .edition) (e .from)) (row-6 .0) w;
         named =
-            λ w. eqb-true (c .edition) (e .edition) (not-false (eqb (c .edition) (e .edition)) (second-fails (writes (translation 0) c) (not (eqb (c .edition) (e .edition))) (row-6 .1) w));
+            λ w. eqb-true (c .edition) (e .edition) (not-false (eqb (c .edition) (e .edition)) (second-fails (writesTranslation c) (not (eqb (c .edition) (e .edition))) (row-6 .1) w));
         unspent = λ w. eqb-false (e .edition) lastEdition (second-fails (writes original c) (eqb (e .edition) lastEdition) (row-fails 7) w);
-        lends = lends;
+        lends-original = row-8 .0;
+        lends-translation = row-8 .1;
       }
     where
       row-fails : (n : ℕ) → applies n (judgeRows e c room lent) ≡ false
       row-fails n = accepted-none h n
 
-      row-6 : ((reads (translation 0) c && behind (e .edition) (e .from)) ≡ false) × ((writes (translation 0) c && not (eqb (c .edition) (e .edition))) ≡ false)
+      row-6 : ((readsTranslation c && behind (e .edition) (e .from)) ≡ false) × ((writesTranslation c && not (eqb (c .edition) (e .edition))) ≡ false)
       row-6 =
-          or-fails (reads (translation 0) c && behind (e .edition) (e .from)) (writes (translation 0) c && not (eqb (c .edition) (e .edition)))
+          or-fails (readsTranslation c && behind (e .edition) (e .from)) (writesTranslation c && not (eqb (c .edition) (e .edition)))
           (row-fails 6)
 
-      lends : (l : Language) → overruns l e c lent ≡ false
-      lends original = or-fails (overruns original e c lent) (overruns (translation 0) e c lent) (row-fails 8) .0
-      lends (translation zero) = or-fails (overruns original e c lent) (overruns (translation 0) e c lent) (row-fails 8) .1
-      lends (translation (suc t)) = refl
+      row-8 : ((reads original c && ltb lent (e .original)) ≡ false) × ((readsTranslation c && ltb lent (e .translation)) ≡ false)
+      row-8 = or-fails (reads original c && ltb lent (e .original)) (readsTranslation c && ltb lent (e .translation)) (row-fails 8)
 
 module _ (e : Entry) (c : Command) (room lent : ℕ) where
   -- A refusal leaves the entry.

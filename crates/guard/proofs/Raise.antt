@@ -10,7 +10,7 @@ use lib.ListN.{getD}
 use Rattle.lists.specs.Table.{all, allFrom}
 use Rattle.lists.proofs.Tests.{to-T, from-T, and-in, or-left, not-in, all-cons, all-out}
 use Rattle.stamps.specs.Stamp.{stampValid, FitsPair}
-use Rattle.commands.specs.Command.{original, translation, writes, update, FitsCommand}
+use Rattle.commands.specs.Command.{original, writesTranslation, writes, update, FitsCommand}
 use Rattle.guard.specs.Judge.{raise}
 use Rattle.guard.specs.Entry.{entryChecks, entrySound, FitsEntry}
 use Rattle.commands.specs.declared.Command.{Command}
@@ -57,25 +57,25 @@ module _ {e : Entry} {c : Command} {room lent : ℕ} (a : Accepted e c room lent
       (more (max-one (λ n. stampValid n ≡ true) (e .pair .x) (update c .x) (kept 1) (rules .session .x))
       (more (rules .next)
       (more (picked (λ n. leb n room ≡ true) (writes original c) (λ w. le-leb (c .length) room (a .length)) (λ w. kept 3))
-      (more (picked (λ n. leb n room ≡ true) (writes (translation 0) c) (λ w. le-leb (c .length) room (a .length)) (λ w. kept 4))
+      (more (picked (λ n. leb n room ≡ true) (writesTranslation c) (λ w. le-leb (c .length) room (a .length)) (λ w. kept 4))
       (more from (more edition (more translated none)))))))))
     where
       kept : (i : ℕ) → getD (entryChecks room e) i true ≡ true
       kept i = all-out (entryChecks room e) (from-T (all (entryChecks room e)) sound) i
 
-      from : leb (cond (writes (translation 0) c) (c .edition) (e .from)) (cond (writes original c) (e .edition + 1) (e .edition)) ≡ true
+      from : leb (cond (writesTranslation c) (c .edition) (e .from)) (cond (writes original c) (e .edition + 1) (e .edition)) ≡ true
       from =
-          picked (λ n. leb (cond (writes (translation 0) c) (c .edition) (e .from)) n ≡ true) (writes original c)
-          (λ o. picked (λ n. leb n (e .edition + 1) ≡ true) (writes (translation 0) c) (λ w. le-leb (c .edition) (e .edition + 1) (omega (arith, a .named w)))
+          picked (λ n. leb (cond (writesTranslation c) (c .edition) (e .from)) n ≡ true) (writes original c)
+          (λ o. picked (λ n. leb n (e .edition + 1) ≡ true) (writesTranslation c) (λ w. le-leb (c .edition) (e .edition + 1) (omega (arith, a .named w)))
           (λ w. le-leb (e .from) (e .edition + 1) (omega (arith, leb-true (e .from) (e .edition) (kept 5)))))
-          (λ o. picked (λ n. leb n (e .edition) ≡ true) (writes (translation 0) c) (λ w. le-leb (c .edition) (e .edition) (omega (arith, a .named w))) (λ w. kept 5))
+          (λ o. picked (λ n. leb n (e .edition) ≡ true) (writesTranslation c) (λ w. le-leb (c .edition) (e .edition) (omega (arith, a .named w))) (λ w. kept 5))
 
       edition : (not (eqb (cond (writes original c) (e .edition + 1) (e .edition)) 0) || eqb (cond (writes original c) (c .length) (e .original)) 0) ≡ true
       edition = still-empty (writes original c) (e .edition + 1) (e .edition) (c .length) (e .original) (λ w z. omega arith) (kept 6)
 
-      translated : (not (eqb (cond (writes (translation 0) c) (c .edition) (e .from)) 0) || eqb (cond (writes (translation 0) c) (c .length) (e .translation)) 0) ≡ true
+      translated : (not (eqb (cond (writesTranslation c) (c .edition) (e .from)) 0) || eqb (cond (writesTranslation c) (c .length) (e .translation)) 0) ≡ true
       translated =
-          still-empty (writes (translation 0) c) (c .edition) (e .from) (c .length) (e .translation)
+          still-empty (writesTranslation c) (c .edition) (e .from) (c .length) (e .translation)
           (λ w. eqb-false (c .edition) 0 (not-true (eqb (c .edition) 0) (sym (rules .edition) ∙ w)))
           (kept 7)
 
@@ -91,7 +91,7 @@ module _ {e : Entry} {c : Command} {room lent : ℕ} (a : Accepted e c room lent
             };
         mark = g .next;
         edition = picked (λ n. n < 65536) (writes original c) (λ w. let unspent = a .unspent w in omega (arith, f .edition, unspent)) (λ w. f .edition);
-        from = picked (λ n. n < 65536) (writes (translation 0) c) (λ w. g .edition) (λ w. f .from);
+        from = picked (λ n. n < 65536) (writesTranslation c) (λ w. g .edition) (λ w. f .from);
         original = picked (λ n. n < 65536) (writes original c) (λ w. g .length) (λ w. f .original);
-        translation = picked (λ n. n < 65536) (writes (translation 0) c) (λ w. g .length) (λ w. f .translation);
+        translation = picked (λ n. n < 65536) (writesTranslation c) (λ w. g .length) (λ w. f .translation);
       }

@@ -5,7 +5,7 @@ use mathlib.Core.List.{List, [], _∷_}
 use mathlib.Core.Bool.{Bool, cond, not, _&&_, _||_}
 use lib.Dec.{ltb, eqb}
 use Rattle.stamps.specs.Stamp.{MALFORMED, stale, tooFar, largerOfEach, markFits}
-use Rattle.commands.specs.Command.{Language, original, translation, reads, writes, verifier, update, wellFormed}
+use Rattle.commands.specs.Command.{original, readsTranslation, writesTranslation, reads, writes, verifier, update, wellFormed}
 use Rattle.lists.specs.Table.{Row, row, first, settled}
 use Rattle.commands.specs.declared.Command.{Command}
 use Rattle.guard.specs.declared.Entry.{Entry}
@@ -54,20 +54,10 @@ behind edition from = eqb from 0 || not (eqb from edition)
 abbrev pub lastEdition : ℕ
 lastEdition = 65535
 
--- The length of a text that an entry keeps.
-abbrev pub textLength : Language → Entry → ℕ
-textLength original e = e .original
-textLength (translation zero) e = e .translation
-textLength (translation (suc t)) e = 0
-
--- The command reads a text of that language that is longer than the lent reply buffer.
-abbrev pub overruns : Language → Entry → Command → ℕ → Bool
-overruns l e c lent = reads l c && ltb lent (textLength l e)
-
 -- Row 6: a read of a translation that is behind, or a write of one for another edition than the stored.
 abbrev pub wrongEdition : Entry → Command → Bool
 wrongEdition e c =
-    reads (translation 0) c && behind (e .edition) (e .from) || writes (translation 0) c && not (eqb (c .edition) (e .edition))
+    readsTranslation c && behind (e .edition) (e .from) || writesTranslation c && not (eqb (c .edition) (e .edition))
 
 -- Row 7: a write of the original that no edition is left for.
 abbrev pub editionsSpent : Entry → Command → Bool
@@ -75,7 +65,7 @@ editionsSpent e c = writes original c && eqb (e .edition) lastEdition
 
 -- Row 8: a read whose text does not fit into the reply buffer.
 abbrev pub replyShort : Entry → Command → ℕ → Bool
-replyShort e c lent = overruns original e c lent || overruns (translation 0) e c lent
+replyShort e c lent = reads original c && ltb lent (e .original) || readsTranslation c && ltb lent (e .translation)
 
 -- The table's rows from 3 on (3, 17, then 4 to 8), for the card's entry, a command, the room C and the length of the lent reply buffer.
 abbrev pub entryRows : Entry → Command → ℕ → ℕ → List Row
@@ -101,9 +91,9 @@ raise e c =
       pair = largerOfEach (e .pair) (update c);
       mark = c .next;
       edition = cond (writes original c) (e .edition + 1) (e .edition);
-      from = cond (writes (translation 0) c) (c .edition) (e .from);
+      from = cond (writesTranslation c) (c .edition) (e .from);
       original = cond (writes original c) (c .length) (e .original);
-      translation = cond (writes (translation 0) c) (c .length) (e .translation);
+      translation = cond (writesTranslation c) (c .length) (e .translation);
     }
 
 -- The entry takes a command: the number, and the entry as it then is.

@@ -6,7 +6,7 @@ use lib.Dec.{eqb}
 use Rattle.lists.specs.Table.{settled}
 use mathlib.Core.List.{List, [], _∷_}
 use Rattle.stamps.specs.Stamp.{noPair, noMark, MALFORMED}
-use Rattle.commands.specs.Command.{original, translation, reads}
+use Rattle.commands.specs.Command.{original, readsTranslation, reads}
 use Rattle.commands.specs.declared.Command.{Command}
 use Rattle.guard.specs.Judge.{NO-CARD, UNSOUND}
 use Rattle.guard.specs.declared.Entry.{Entry}
@@ -18,7 +18,7 @@ blankReply number = eqb number UNSOUND || eqb number MALFORMED || eqb number NO-
 
 -- The length of the text that a command reads, 0 if it reads none.
 abbrev pub readLength : Entry → Command → ℕ
-readLength e c = cond (reads original c) (e .original) (cond (reads (translation 0) c) (e .translation) 0)
+readLength e c = cond (reads original c) (e .original) (cond (readsTranslation c) (e .translation) 0)
 
 -- The seven reply fields (rule 4.8), for a number and the entry as it is after it.
 unfoldable pub replied : ℕ → Entry → Command → Answer

@@ -51,24 +51,24 @@ pub stale-stays : StaleStays
 stale-stays mode stored more new hs hx t = stale-more mode new hs hx t
 
 pub parses : Parses
-parses bytes = go (cases (formed bytes))
+parses f bytes = go (cases (formed f bytes))
   where
-    go : (formed bytes ≡ true) ⊎ (formed bytes ≡ false) → Parsing bytes
-    go (inl f) =
+    go : (formed f bytes ≡ true) ⊎ (formed f bytes ≡ false) → Parsing f bytes
+    go (inl h) =
         record {
-          number = rw (parsed-formed bytes f, f);
-          numbers = λ t. rw (parsed-formed bytes f);
-          blanks = λ t. absurd (T-not (formed bytes) t (to-T f));
+          number = rw (parsed-formed f bytes h, h);
+          numbers = λ t. rw (parsed-formed f bytes h);
+          blanks = λ t. absurd (T-not (formed f bytes) t (to-T h));
         }
-    go (inr f) =
+    go (inr h) =
         record {
-          number = rw (parsed-malformed bytes f, f);
-          numbers = λ t. absurd (from-false f t);
-          blanks = λ t. rw (parsed-malformed bytes f);
+          number = rw (parsed-malformed f bytes h, h);
+          numbers = λ t. absurd (from-false h t);
+          blanks = λ t. rw (parsed-malformed f bytes h);
         }
 
 pub command-comes-back : CommandComesBack
-command-comes-back c text f w l = (parsed-command c text f (from-T (wellFormed c) w) l, payload-command c text)
+command-comes-back f c text g h w l = (parsed-command c text f g h (from-T (wellFormed c) w) l, payload-command c text f)
 
 pub bytes-come-back : BytesComeBack
-bytes-come-back bytes h t = command-fields bytes h (from-T (formed bytes) t)
+bytes-come-back f bytes h t = command-fields f bytes h (from-T (formed f bytes) t)

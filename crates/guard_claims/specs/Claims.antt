@@ -1,6 +1,6 @@
 -- What is claimed of an entry that judges a command, and of commands in bytes. Proved in proofs/Claims.antt.
 -- Assumes nothing.
-use Prim.Native.Nat.{ℕ, suc, _+_, _≤_}
+use Prim.Native.Nat.{ℕ, suc, _+_, _≤_, _<_}
 use mathlib.Core.Path.{_≡_}
 use mathlib.Core.Logic.{_↔_, _⊎_}
 use mathlib.Core.List.{List, [], _∷_}
@@ -9,6 +9,8 @@ use lib.Dec.{T}
 use lib.ListN.{length}
 use Rattle.lists.specs.Parts.{Bytes}
 use Rattle.stamps.specs.Stamp.{shared, exclusive, stale, stampT, mostAhead, tooFar}
+use Rattle.formats.specs.declared.Format.{Format}
+use Rattle.formats.specs.Format.{translations}
 use Rattle.commands.specs.Command.{verifier, update, wellFormed, FitsCommand}
 use Rattle.commands.specs.Bytes.{fieldsOf, payload, formed, parsed, parsedNumber, parsedCommand, commandBytes}
 use Rattle.lists.specs.Table.{row, first, applies, noRow, earlier}
@@ -49,19 +51,20 @@ abbrev pub StaleStays : Type 0
 StaleStays = (mode : ℕ) (stored more new : Pair) → stored .s ≤ more .s → stored .x ≤ more .x → T (stale mode stored new) → T (stale mode more new)
 
 -- Lent bytes by number: 1 exactly where row 1 applies to them, with zeros, else 0 with the numbers at their offsets (rule 3.1).
-pub record Parsing (bytes : List ℕ) : Type 0 where
-  pub number : parsedNumber (parsed bytes) ≡ first (row (not (formed bytes)) 1 ∷ [])
-  pub numbers : T (formed bytes) → parsedCommand (parsed bytes) ≡ fieldsOf bytes
-  pub blanks : T (not (formed bytes)) → parsedCommand (parsed bytes) ≡ parsedCommand Malformed
+pub record Parsing (f : Format) (bytes : List ℕ) : Type 0 where
+  pub number : parsedNumber (parsed f bytes) ≡ first (row (not (formed f bytes)) 1 ∷ [])
+  pub numbers : T (formed f bytes) → parsedCommand (parsed f bytes) ≡ fieldsOf f bytes
+  pub blanks : T (not (formed f bytes)) → parsedCommand (parsed f bytes) ≡ parsedCommand Malformed
 
 abbrev pub Parses : Type 0
-Parses = (bytes : List ℕ) → Parsing bytes
+Parses = (f : Format) (bytes : List ℕ) → Parsing f bytes
 
--- A well-formed command comes back from its bytes, and so does its payload.
+-- A well-formed command that names a translation of its version comes back from its bytes, and so does its payload.
 abbrev pub CommandComesBack : Type 0
 CommandComesBack =
-    (c : Command) (text : List ℕ) → FitsCommand c → T (wellFormed c) → length text ≡ c .length → (parsed (commandBytes c text) ≡ Formed c) × (payload (commandBytes c text) ≡ text)
+    (f : Format) (c : Command) (text : List ℕ) → FitsCommand c → c .language < translations f → T (wellFormed c) → length text ≡ c .length →
+    (parsed f (commandBytes f c text) ≡ Formed c) × (payload f (commandBytes f c text) ≡ text)
 
 -- Bytes that are a command are the bytes of that command and its payload.
 abbrev pub BytesComeBack : Type 0
-BytesComeBack = (bytes : List ℕ) → Bytes bytes → T (formed bytes) → commandBytes (fieldsOf bytes) (payload bytes) ≡ bytes
+BytesComeBack = (f : Format) (bytes : List ℕ) → Bytes bytes → T (formed f bytes) → commandBytes f (fieldsOf f bytes) (payload f bytes) ≡ bytes

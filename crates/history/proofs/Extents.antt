@@ -8,10 +8,12 @@ use borrow.Author.Tests.{ltb-false}
 use lib.Dec.{ltb}
 use lib.ListN.{length, take, length-append, length-drop, length-reverse}
 use lib.Seq.{length-take-le}
+use Rattle.formats.specs.declared.Format.the-variants.{V1}
 use Rattle.lists.specs.Parts.{spread}
 use Rattle.lists.specs.Search.{last}
 use Rattle.lists.proofs.Tests.{or-fails}
-use Rattle.commands.specs.Bytes.{fixed, fieldsOf, payload, formed}
+use Rattle.formats.specs.Format.{fixed}
+use Rattle.commands.specs.Bytes.{fieldsOf, payload, formed}
 use Rattle.commands.proofs.CommandBytes.{length-payload}
 use Rattle.stream.specs.Stream.{extent, whole, commands, endOf}
 use Rattle.stream.proofs.Place.{extent-fixed, extent-take, whole-out}
@@ -22,24 +24,24 @@ use Rattle.history.specs.Lent.{historySize}
 use Rattle.history.specs.Steps.{Measured, overWith}
 
 -- A whole command in front: its payload is what its extent leaves.
-payload-first : (s : List ℕ) → whole s ≡ true → length (payload (take (extent s) s)) + fixed ≡ extent s
+payload-first : (s : List ℕ) → whole s ≡ true → length (payload V1 (take (extent s) s)) + fixed V1 ≡ extent s
 unfolding payload
 payload-first s h =
     let long = length-take-le (extent s) s (whole-out s h) in
-    let rest = length-drop fixed (take (extent s) s) in
+    let rest = length-drop (fixed V1) (take (extent s) s) in
     omega (arith, long, rest, extent-fixed s)
 
 -- ---- the kept commands are as long as they say
 
 abbrev pub Sized : List (List ℕ) → Type 0
 Sized [] = Unit {0}
-Sized (b ∷ l) = (length (payload b) ≡ fieldsOf b .length) × Sized l
+Sized (b ∷ l) = (length (payload V1 b) ≡ fieldsOf V1 b .length) × Sized l
 
 sized-reverse : (l kept : List (List ℕ)) → Sized l → Sized kept → Sized (reverseAux l kept)
 sized-reverse [] kept h k = k
 sized-reverse (b ∷ l) kept h k = sized-reverse l (b ∷ kept) (h .1) (h .0, k)
 
-sized-first : (s : List ℕ) → whole s ≡ true → length (payload (take (extent s) s)) ≡ fieldsOf (take (extent s) s) .length
+sized-first : (s : List ℕ) → whole s ≡ true → length (payload V1 (take (extent s) s)) ≡ fieldsOf V1 (take (extent s) s) .length
 unfolding fieldsOf extent
 sized-first s h =
     let front = payload-first s h in
@@ -54,33 +56,33 @@ sized-commands s = sized-reverse (commands s) [] (forwards s) tt
         along (λ (s : List ℕ). Sized (commands s)) (λ s h. subst Sized (sym (commands-cut s h)) tt)
         (λ s h rest. subst Sized (sym (commands-whole s h)) (sized-first s h, rest))
 
-pub sized-last : (p : List ℕ → Bool) (kept : List (List ℕ)) → Sized kept → length (last p payload [] kept) ≡ last p (λ (b : List ℕ). fieldsOf b .length) 0 kept
+pub sized-last : (p : List ℕ → Bool) (kept : List (List ℕ)) → Sized kept → length (last p (payload V1) [] kept) ≡ last p (λ (b : List ℕ). fieldsOf V1 b .length) 0 kept
 sized-last p [] h = refl
 sized-last p (b ∷ kept) h = go (p b) (sized-last p kept (h .1))
   where
-    go : (q : Bool) → length (last p payload [] kept) ≡ last p (λ (b : List ℕ). fieldsOf b .length) 0 kept
-        → length (cond q (payload b) (last p payload [] kept)) ≡ cond q (fieldsOf b .length) (last p (λ (b : List ℕ). fieldsOf b .length) 0 kept)
+    go : (q : Bool) → length (last p (payload V1) [] kept) ≡ last p (λ (b : List ℕ). fieldsOf V1 b .length) 0 kept
+        → length (cond q (payload V1 b) (last p (payload V1) [] kept)) ≡ cond q (fieldsOf V1 b .length) (last p (λ (b : List ℕ). fieldsOf V1 b .length) 0 kept)
     go true rest = h .0
     go false rest = rest
 
 -- ---- how far they go
 
 abbrev paid : List (List ℕ) → ℕ
-paid l = length (spread payload l)
+paid l = length (spread (payload V1) l)
 
 paid-reverse : (l kept : List (List ℕ)) → paid (reverseAux l kept) ≡ paid l + paid kept
 unfolding spread
 paid-reverse [] kept = omega arith
 paid-reverse (b ∷ l) kept =
     paid-reverse l (b ∷ kept)
-    ∙ (let one = length-append (payload b) (spread payload kept) in
-    let other = length-append (payload b) (spread payload l) in
+    ∙ (let one = length-append (payload V1 b) (spread (payload V1) kept) in
+    let other = length-append (payload V1 b) (spread (payload V1) l) in
     omega (arith, one, other))
 
-sum : (s : List ℕ) → endOf s ≡ length (commands s) * fixed + paid (commands s)
+sum : (s : List ℕ) → endOf s ≡ length (commands s) * fixed V1 + paid (commands s)
 unfolding spread
 sum =
-    along (λ (s : List ℕ). endOf s ≡ length (commands s) * fixed + paid (commands s))
+    along (λ (s : List ℕ). endOf s ≡ length (commands s) * fixed V1 + paid (commands s))
     (λ s h. rw (end-cut s h, commands-cut s h))
     (λ s h rest.
     let front = payload-first s h in
@@ -94,18 +96,18 @@ measured s =
     record { ends = refl; counts = refl; pays = refl; sum = omega (arith, sum s, count, all); within = walk.within s }
 
 -- The limits, by the command's own length.
-pub over-is : (command : List ℕ) (kept : List (List ℕ)) → formed command ≡ true → overLimits (command ∷ kept) ≡ overWith kept (fieldsOf command)
+pub over-is : (command : List ℕ) (kept : List (List ℕ)) → formed V1 command ≡ true → overLimits (command ∷ kept) ≡ overWith kept (fieldsOf V1 command)
 unfolding spread
 over-is command kept h =
     let more : length (command ∷ kept) ≡ length kept + 1 = omega arith in
-    let all : length (payload command ++ spread payload kept) ≡ fieldsOf command .length + paid kept =
-    length-append (payload command) (spread payload kept) ∙ ap (λ (m : ℕ). m + paid kept) (length-payload command h) in
+    let all : length (payload V1 command ++ spread (payload V1) kept) ≡ fieldsOf V1 command .length + paid kept =
+    length-append (payload V1 command) (spread (payload V1) kept) ∙ ap (λ (m : ℕ). m + paid kept) (length-payload V1 command h) in
     rw (more, all)
 
 -- Where neither limit is passed, the command fits behind the others.
 pub fits-behind : (bytes : List ℕ) (end count payloads len : ℕ) → Measured bytes end count payloads
     → ltb mostKept (count + 1) || ltb mostPayload (len + payloads) ≡ false
-    → end + fixed + len ≤ historySize
+    → end + fixed V1 + len ≤ historySize
 fits-behind bytes end count payloads len x h =
     let both = or-fails (ltb mostKept (count + 1)) (ltb mostPayload (len + payloads)) h in
     let few = ltb-false mostKept (count + 1) (both .0) in

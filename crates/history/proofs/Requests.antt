@@ -4,18 +4,21 @@ use native.Mathlib.Omega.{arith}
 use mathlib.Core.Path.{_≡_, refl, sym, ap, _∙_}
 use mathlib.Core.Logic.{_≢_, _⊎_, inl, inr}
 use mathlib.Core.List.{List, [], _∷_, reverse}
-use mathlib.Core.Bool.{Bool, true, false, cond, _||_}
+use mathlib.Core.Bool.{Bool, true, false, cond, _&&_, _||_}
 use borrow.Author.Tests.{ltb-true, ltb-false, eqb-true, eqb-false, eq-eqb}
 use lib.Dec.{ltb, eqb}
 use lib.ListN.{length, take, drop}
 use lib.Seq.{take-all}
+use Rattle.formats.specs.declared.Format.the-variants.{V1}
 use Rattle.lists.specs.Parts.{part, splice}
 use Rattle.lists.specs.Table.{row, first, settled}
 use Rattle.lists.proofs.Table.{first-then, settled-new, settled-old}
+use Rattle.lists.specs.Search.{last}
 use Rattle.lists.proofs.Tests.{cases}
-use Rattle.commands.specs.Command.{original, translation, reads}
+use Rattle.commands.specs.Command.{original, readsTranslation, reads}
 use Rattle.commands.specs.declared.Command.{Command}
-use Rattle.commands.specs.Bytes.{fixed, fieldsOf, formed}
+use Rattle.formats.specs.Format.{fixed}
+use Rattle.commands.specs.Bytes.{fieldsOf, payload, formed}
 use Rattle.commands.proofs.CommandBytes.{formedness}
 use Rattle.guard.specs.Judge.{judgeRows, raise, judged}
 use Rattle.guard.specs.declared.Entry.{Entry}
@@ -24,12 +27,12 @@ use Rattle.guard.proofs.Judge.{Accepted, accepted}
 use Rattle.guard.specs.Replies.{replied, refused}
 use Rattle.guard.specs.declared.Answer.{Answer}
 use Rattle.stream.specs.Stream.{commands, endOf}
-use Rattle.history.specs.WorkedOut.{entryFrom, textFrom}
+use Rattle.history.specs.WorkedOut.{concerns, entryFrom, textFrom}
 use Rattle.history.specs.Engine.{mostKept, mostPayload, overLimits, HISTORY-FULL, readFrom, guardRows, engineRows, keptBy, deducedBy, deduced}
 use Rattle.history.specs.Lent.{historySize, keptIn, bytesBy, usedBy, HistoryOutcome, historyServe}
 use Rattle.history.specs.Steps.{Measured, writtenBy, overWith, weighedNumber, weighed, historyCarried}
 use Rattle.history.specs.declared.Totals.{Totals}
-use Rattle.history.proofs.Raised.{entry-here}
+use Rattle.history.proofs.Raised.{one-translation, entry-here}
 use Rattle.history.proofs.Extents.{Sized, sized-commands, sized-last, over-is, fits-behind}
 
 -- ---- weighing
@@ -100,11 +103,14 @@ module _ (kept : List (List ℕ)) (c : Command) where
   unfolding textFrom writtenBy
   shows-original h = rw h
 
-  pub shows-translation : reads original c ≡ false → reads (translation 0) c ≡ true → readFrom kept c ≡ writtenBy 4 kept (c .card)
+  pub shows-translation : reads original c ≡ false → readsTranslation c ≡ true → readFrom kept c ≡ writtenBy 4 kept (c .card)
   unfolding textFrom writtenBy
-  shows-translation h k = rw (h, k)
+  shows-translation h k =
+      rw (h, k)
+      (ap (λ (p : List ℕ → Bool). last p (payload V1) [] kept)
+      (λ i. λ b. ap (λ (w : Bool). concerns (c .card) b && w) (one-translation b) i))
 
-  pub shows-none : reads original c ≡ false → reads (translation 0) c ≡ false → readFrom kept c ≡ []
+  pub shows-none : reads original c ≡ false → readsTranslation c ≡ false → readFrom kept c ≡ []
   shows-none h k = rw (h, k)
 
 -- ---- reading
@@ -113,7 +119,7 @@ module _ (kept : List (List ℕ)) (c : Command) where
 pub read-fits : (s : List ℕ) (c : Command) (room lent : ℕ) → weighedNumber (reverse (commands s)) c room lent ≡ 0
     → length (readFrom (reverse (commands s)) c) ≤ lent
 unfolding judged textFrom entryFrom
-read-fits s c room lent h = go (cases (reads original c)) (cases (reads (translation 0) c))
+read-fits s c room lent h = go (cases (reads original c)) (cases (readsTranslation c))
   where
     kept : List (List ℕ)
     kept = reverse (commands s)
@@ -124,13 +130,13 @@ read-fits s c room lent h = go (cases (reads original c)) (cases (reads (transla
     known : Accepted (entryFrom kept (c .card)) c room lent
     known = accepted (entryFrom kept (c .card)) c room lent (weighed-accepts kept c room lent h)
 
-    go : (reads original c ≡ true) ⊎ (reads original c ≡ false) → (reads (translation 0) c ≡ true) ⊎ (reads (translation 0) c ≡ false)
+    go : (reads original c ≡ true) ⊎ (reads original c ≡ false) → (readsTranslation c ≡ true) ⊎ (readsTranslation c ≡ false)
         → length (readFrom kept c) ≤ lent
     go (inl a) b =
-        let short : ltb lent (entryFrom kept (c .card) .original) ≡ false = sym (rw a) ∙ known .lends original in
+        let short : ltb lent (entryFrom kept (c .card) .original) ≡ false = sym (rw a) ∙ known .lends-original in
         rw (a, sized-last _ kept sized) (ltb-false lent (entryFrom kept (c .card) .original) short)
     go (inr a) (inl b) =
-        let short : ltb lent (entryFrom kept (c .card) .translation) ≡ false = sym (rw b) ∙ known .lends (translation 0) in
+        let short : ltb lent (entryFrom kept (c .card) .translation) ≡ false = sym (rw b) ∙ known .lends-translation in
         rw (a, b, sized-last _ kept sized) (ltb-false lent (entryFrom kept (c .card) .translation) short)
     go (inr a) (inr b) = rw (a, b) (omega arith)
 
@@ -140,34 +146,34 @@ module _ (n room : ℕ) (bytes : List ℕ) (used : ℕ) (command reply : List �
   abbrev kept : List (List ℕ)
   kept = keptIn bytes used
 
-  pub serves-malformed : formed command ≡ false → historyServe n room bytes used command reply ≡ record { answer = refused 1; bytes = bytes; used = used; reply = reply }
+  pub serves-malformed : formed V1 command ≡ false → historyServe n room bytes used command reply ≡ record { answer = refused 1; bytes = bytes; used = used; reply = reply }
   unfolding historyServe deduced deducedBy replied bytesBy usedBy
   serves-malformed h = rw h
 
-  pub serves-no-card : formed command ≡ true → ltb (fieldsOf command .card) n ≡ false
+  pub serves-no-card : formed V1 command ≡ true → ltb (fieldsOf V1 command .card) n ≡ false
       → historyServe n room bytes used command reply ≡ record { answer = refused 2; bytes = bytes; used = used; reply = reply }
   unfolding historyServe deduced deducedBy replied bytesBy usedBy
   serves-no-card h k = rw (h, k)
 
-  module _ (h : formed command ≡ true) (k : ltb (fieldsOf command .card) n ≡ true) where
-    number-is : first (engineRows n room kept command (length reply)) ≡ weighedNumber kept (fieldsOf command) room (length reply)
+  module _ (h : formed V1 command ≡ true) (k : ltb (fieldsOf V1 command .card) n ≡ true) where
+    number-is : first (engineRows n room kept command (length reply)) ≡ weighedNumber kept (fieldsOf V1 command) room (length reply)
     unfolding weighedNumber judged
     number-is =
         first-then (guardRows n room kept command (length reply)) (row (overLimits (command ∷ kept)) HISTORY-FULL ∷ []) tt
-        ∙ rw (h, k, formedness command h .rules, over-is command kept h)
+        ∙ rw (h, k, formedness V1 command h .rules, over-is command kept h)
 
-    entry-by : (m : ℕ) → entryFrom (keptBy m kept command) (fieldsOf command .card)
-        ≡ settled m (raise (entryFrom kept (fieldsOf command .card)) (fieldsOf command)) (entryFrom kept (fieldsOf command .card))
-    entry-by zero = entry-here kept command (fieldsOf command .card) (eq-eqb (fieldsOf command .card) (fieldsOf command .card) refl)
+    entry-by : (m : ℕ) → entryFrom (keptBy m kept command) (fieldsOf V1 command .card)
+        ≡ settled m (raise (entryFrom kept (fieldsOf V1 command .card)) (fieldsOf V1 command)) (entryFrom kept (fieldsOf V1 command .card))
+    entry-by zero = entry-here kept command (fieldsOf V1 command .card) (eq-eqb (fieldsOf V1 command .card) (fieldsOf V1 command .card) refl)
     entry-by (suc j) = refl
 
-    found : historyServe n room bytes used command reply ≡ historyCarried room bytes used (fieldsOf command) command reply
+    found : historyServe n room bytes used command reply ≡ historyCarried room bytes used (fieldsOf V1 command) command reply
     unfolding historyServe deduced deducedBy replied historyCarried
     found =
         rw
-        (number-is, entry-by (weighedNumber kept (fieldsOf command) room (length reply)), weighed-entry kept (fieldsOf command) room (length reply), weighed-number kept (fieldsOf command) room (length reply))
+        (number-is, entry-by (weighedNumber kept (fieldsOf V1 command) room (length reply)), weighed-entry kept (fieldsOf V1 command) room (length reply), weighed-number kept (fieldsOf V1 command) room (length reply))
 
-    pub serves-found : (c : Command) → c ≡ fieldsOf command → historyServe n room bytes used command reply ≡ historyCarried room bytes used c command reply
+    pub serves-found : (c : Command) → c ≡ fieldsOf V1 command → historyServe n room bytes used command reply ≡ historyCarried room bytes used c command reply
     serves-found c e = found ∙ ap (λ (d : Command). historyCarried room bytes used d command reply) (sym e)
 
 -- ---- the bytes that count
@@ -188,7 +194,7 @@ module _ (bytes : List ℕ) (c : Command) (room lent : ℕ) (e : Entry) (x : Tot
   abbrev Weighs : Judged → Type 0
   Weighs d =
       (d ≡ weighed (reverse (commands bytes)) c room lent)
-      × ((x .end ≡ endOf bytes) × (d .number ≡ 0 → x .end + fixed + c .length ≤ historySize))
+      × ((x .end ≡ endOf bytes) × (d .number ≡ 0 → x .end + fixed V1 + c .length ≤ historySize))
 
   abbrev passes : Bool
   passes = ltb mostKept (x .count + 1) || ltb mostPayload (c .length + x .payloads)

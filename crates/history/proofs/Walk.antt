@@ -9,12 +9,14 @@ use mathlib.Core.Bool.{Bool, true, false, cond, _&&_}
 use lib.Dec.{eqb}
 use borrow.Author.Tests.{ne-eqb}
 use lib.ListN.{length, take, drop, length-append}
+use Rattle.formats.specs.declared.Format.the-variants.{V1}
 use Rattle.lists.specs.Parts.{part, spread}
 use Rattle.lists.proofs.Parts.{drop-part, length-part}
 use Rattle.lists.proofs.Tests.{cases}
 use Rattle.commands.specs.Command.{original, writes}
 use Rattle.commands.specs.declared.Command.{Command}
-use Rattle.commands.specs.Bytes.{fixed, fieldsOf, payload}
+use Rattle.formats.specs.Format.{fixed}
+use Rattle.commands.specs.Bytes.{fieldsOf, payload}
 use Rattle.guard.specs.Judge.{raise, lastEdition, editionsSpent}
 use Rattle.guard.specs.Entry.{noEntry}
 use Rattle.guard.specs.declared.Entry.{Entry}
@@ -65,16 +67,16 @@ module _ {B : Type 0} (step : B → List ℕ → B) where
     working-done e = rw (walk.stops s at e) at (w .left)
 
 -- Each step goes on by a whole command, within the bytes.
-pub within : (s : List ℕ) (at end : ℕ) → nextAt s at ≡ Whole end → (at + fixed ≤ end) × (end ≤ length s)
+pub within : (s : List ℕ) (at end : ℕ) → nextAt s at ≡ Whole end → (at + fixed V1 ≤ end) × (end ≤ length s)
 within s at end e = let p = walk.passes s at end e in (p .0, p .1)
 
 pub less : (s : List ℕ) (at end : ℕ) → nextAt s at ≡ Whole end → length s - end < length s - at
 less s at end e = let w = within s at end e in omega (arith, w .0, w .1)
 
 -- The payload of the command at a place.
-pub payload-at : (s : List ℕ) (at end : ℕ) → part (at + fixed) (end - (at + fixed)) s ≡ payload (part at (end - at) s)
+pub payload-at : (s : List ℕ) (at end : ℕ) → part (at + fixed V1) (end - (at + fixed V1)) s ≡ payload V1 (part at (end - at) s)
 unfolding payload
-payload-at s at end = sym (drop-part at (end - at) fixed s ∙ ap (λ (n : ℕ). part (at + fixed) n s) (omega arith))
+payload-at s at end = sym (drop-part at (end - at) (fixed V1) s ∙ ap (λ (n : ℕ). part (at + fixed V1) n s) (omega arith))
 
 -- ---- how many
 
@@ -82,18 +84,18 @@ unfoldable pub counted : ℕ → List ℕ → ℕ
 counted n command = n + 1
 
 unfoldable pub paid : ℕ → List ℕ → ℕ
-paid n command = n + length (payload command)
+paid n command = n + length (payload V1 command)
 
 pub record Extending (s : List ℕ) (at count payloads : ℕ) : Type 0 where
   pub counting : Working counted (length (reverse (commands s))) s at count
-  pub paying : Working paid (length (spread payload (reverse (commands s)))) s at payloads
-  pub sum : at ≡ count * fixed + payloads
+  pub paying : Working paid (length (spread (payload V1) (reverse (commands s)))) s at payloads
+  pub sum : at ≡ count * fixed V1 + payloads
 
 count-goes : (command : List ℕ) (kept : List (List ℕ)) → length (command ∷ kept) ≡ counted (length kept) command
 unfolding counted
 count-goes command kept = omega arith
 
-pay-goes : (command : List ℕ) (kept : List (List ℕ)) → length (spread payload (command ∷ kept)) ≡ paid (length (spread payload kept)) command
+pay-goes : (command : List ℕ) (kept : List (List ℕ)) → length (spread (payload V1) (command ∷ kept)) ≡ paid (length (spread (payload V1) kept)) command
 unfolding paid spread
 pay-goes command kept = rw (length-append) (omega arith)
 
@@ -102,25 +104,25 @@ unfolding spread
 extending-none s =
     record {
       counting = working-none counted length count-goes s 0 refl;
-      paying = working-none paid (λ (kept : List (List ℕ)). length (spread payload kept)) pay-goes s 0 refl;
+      paying = working-none paid (λ (kept : List (List ℕ)). length (spread (payload V1) kept)) pay-goes s 0 refl;
       sum = refl;
     }
 
 module _ (s : List ℕ) (at count payloads : ℕ) (x : Extending s at count payloads) where
-  pub extending-within : (end : ℕ) → nextAt s at ≡ Whole end → (at + fixed ≤ end) × (end ≤ length s) × (count + payloads ≤ at)
+  pub extending-within : (end : ℕ) → nextAt s at ≡ Whole end → (at + fixed V1 ≤ end) × (end ≤ length s) × (count + payloads ≤ at)
   extending-within end e = let w = within s at end e in (w .0, w .1, omega (arith, x .sum))
 
-  pub extending-more : (end : ℕ) → nextAt s at ≡ Whole end → Extending s end (count + 1) (payloads + (end - at - fixed))
+  pub extending-more : (end : ℕ) → nextAt s at ≡ Whole end → Extending s end (count + 1) (payloads + (end - at - fixed V1))
   unfolding counted paid
   extending-more end e =
       let w = within s at end e in
-      let long : length (payload (part at (end - at) s)) ≡ end - at - fixed =
+      let long : length (payload V1 (part at (end - at) s)) ≡ end - at - fixed V1 =
       ap length (sym (payload-at s at end))
-      ∙ length-part (at + fixed) (end - (at + fixed)) s (omega (arith, w .0, w .1))
+      ∙ length-part (at + fixed V1) (end - (at + fixed V1)) s (omega (arith, w .0, w .1))
       ∙ omega arith in
       record {
         counting = working-more counted _ s at count (x .counting) end (count + 1) e refl;
-        paying = working-more paid _ s at payloads (x .paying) end (payloads + (end - at - fixed)) e (rw long);
+        paying = working-more paid _ s at payloads (x .paying) end (payloads + (end - at - fixed V1)) e (rw long);
         sum = omega (arith, x .sum, w .0);
       }
 
@@ -137,14 +139,14 @@ module _ (s : List ℕ) (at count payloads : ℕ) (x : Extending s at count payl
 -- ---- an entry
 
 unfoldable pub takes : ℕ → Entry → List ℕ → Entry
-takes k e command = cond (concerns k command) (raise e (fieldsOf command)) e
+takes k e command = cond (concerns k command) (raise e (fieldsOf V1 command)) e
 
 pub entry-goes : (k : ℕ) (command : List ℕ) (kept : List (List ℕ)) → entryFrom (command ∷ kept) k ≡ takes k (entryFrom kept k) command
 unfolding takes
 entry-goes k command kept = go (cases (concerns k command))
   where
     go : (concerns k command ≡ true) ⊎ (concerns k command ≡ false)
-        → entryFrom (command ∷ kept) k ≡ cond (concerns k command) (raise (entryFrom kept k) (fieldsOf command)) (entryFrom kept k)
+        → entryFrom (command ∷ kept) k ≡ cond (concerns k command) (raise (entryFrom kept k) (fieldsOf V1 command)) (entryFrom kept k)
     go (inl h) = entry-here kept command k h ∙ rw h
     go (inr h) = entry-other kept command k h ∙ rw h
 
@@ -161,24 +163,24 @@ edition-next k e command = go (concerns k command)
     raised true = omega arith
     raised false = omega arith
 
-    go : (p : Bool) → cond p (raise e (fieldsOf command)) e .edition ≤ e .edition + 1
-    go true = raised (writes original (fieldsOf command))
+    go : (p : Bool) → cond p (raise e (fieldsOf V1 command)) e .edition ≤ e .edition + 1
+    go true = raised (writes original (fieldsOf V1 command))
     go false = omega arith
 
 -- ---- a text
 
 unfoldable pub puts : ℕ → ℕ → List ℕ → List ℕ → List ℕ
-puts act k t command = cond (concerns k command && eqb (fieldsOf command .act) act) (payload command) t
+puts act k t command = cond (concerns k command && eqb (fieldsOf V1 command .act) act) (payload V1 command) t
 
 pub text-goes : (act k : ℕ) (command : List ℕ) (kept : List (List ℕ)) → writtenBy act (command ∷ kept) k ≡ puts act k (writtenBy act kept k) command
 unfolding writtenBy puts
 text-goes act k command kept = refl
 
-pub put-here : (act k : ℕ) (t command : List ℕ) → (concerns k command && eqb (fieldsOf command .act) act) ≡ true → puts act k t command ≡ payload command
+pub put-here : (act k : ℕ) (t command : List ℕ) → (concerns k command && eqb (fieldsOf V1 command .act) act) ≡ true → puts act k t command ≡ payload V1 command
 unfolding puts
 put-here act k t command e = rw e
 
-pub put-other : (act k : ℕ) (t command : List ℕ) → (concerns k command && eqb (fieldsOf command .act) act) ≡ false → puts act k t command ≡ t
+pub put-other : (act k : ℕ) (t command : List ℕ) → (concerns k command && eqb (fieldsOf V1 command .act) act) ≡ false → puts act k t command ≡ t
 unfolding puts
 put-other act k t command e = rw e
 
@@ -187,7 +189,7 @@ put-other act k t command e = rw e
 -- The walk for an entry: the edition stays far below the last one.
 pub record Entering (s : List ℕ) (k at : ℕ) (e : Entry) : Type 0 where
   pub working : Working (takes k) (entryFrom (reverse (commands s)) k) s at e
-  pub few : e .edition * fixed ≤ at
+  pub few : e .edition * fixed V1 ≤ at
   pub short : length s ≤ historySize
 
 pub entering-none : (s : List ℕ) (k : ℕ) (e : Entry) → length s ≤ historySize → e ≡ noEntry → Entering s k 0 e
@@ -203,7 +205,7 @@ module _ (s : List ℕ) (k at : ℕ) (e : Entry) (w : Entering s k at e) where
   entering-low = omega (arith, w .few, w .short, w .working .walked .within)
 
   pub entering-more : (end : ℕ) (d : Entry) → nextAt s at ≡ Whole end
-      → d ≡ cond (eqb (fieldsOf (part at (end - at) s) .card) k) (raise e (fieldsOf (part at (end - at) s))) e → Entering s k end d
+      → d ≡ cond (eqb (fieldsOf V1 (part at (end - at) s) .card) k) (raise e (fieldsOf V1 (part at (end - at) s))) e → Entering s k end d
   unfolding takes
   entering-more end d h z =
       let next : d .edition ≤ e .edition + 1 = rw z (edition-next k e (part at (end - at) s)) in
@@ -230,17 +232,17 @@ finding-none s act k =
 
 module _ (s : List ℕ) (act k at : ℕ) (p : Span) (f : Finding s act k at (p .start) (p .end)) where
   pub finding-more : (end : ℕ) (d : Span) → nextAt s at ≡ Whole end
-      → d ≡ cond (eqb (fieldsOf (part at (end - at) s) .card) k && eqb (fieldsOf (part at (end - at) s) .act) act) (record { start = at + fixed; end = end }) p
+      → d ≡ cond (eqb (fieldsOf V1 (part at (end - at) s) .card) k && eqb (fieldsOf V1 (part at (end - at) s) .act) act) (record { start = at + fixed V1; end = end }) p
       → Finding s act k end (d .start) (d .end)
   finding-more end d h z =
       let w = within s at end h in
       let command : List ℕ = part at (end - at) s in
-      go (concerns k command && eqb (fieldsOf command .act) act) refl (w .0) (w .1)
+      go (concerns k command && eqb (fieldsOf V1 command .act) act) refl (w .0) (w .1)
     where
-      go : (b : Bool) → (concerns k (part at (end - at) s) && eqb (fieldsOf (part at (end - at) s) .act) act) ≡ b → at + fixed ≤ end → end ≤ length s
+      go : (b : Bool) → (concerns k (part at (end - at) s) && eqb (fieldsOf V1 (part at (end - at) s) .act) act) ≡ b → at + fixed V1 ≤ end → end ≤ length s
           → Finding s act k end (d .start) (d .end)
       go true e low high =
-          let is : d ≡ record { start = at + fixed; end = end } = z ∙ rw e in
+          let is : d ≡ record { start = at + fixed V1; end = end } = z ∙ rw e in
           record {
             working = working-more (puts act k) _ s at _ (f .working) end _ h (rw is (payload-at s at end ∙ sym (put-here act k _ _ e)));
             orderly = rw is (omega arith);

@@ -5,9 +5,10 @@ use mathlib.Core.List.{List, [], _∷_, _++_}
 use mathlib.Core.Bool.{Bool, cond, not, _||_}
 use lib.ListN.{length}
 use lib.Dec.{ltb}
+use Rattle.formats.specs.declared.Format.the-variants.{V1}
 use Rattle.lists.specs.Parts.{splice, spread}
 use Rattle.lists.specs.Table.{Row, row, first, settled}
-use Rattle.commands.specs.Command.{original, translation, reads}
+use Rattle.commands.specs.Command.{original, translation, reads, readsTranslation}
 use Rattle.commands.specs.declared.Command.{Command}
 use Rattle.commands.specs.Bytes.{fieldsOf, payload, formed}
 use Rattle.stamps.specs.Stamp.{MALFORMED}
@@ -25,7 +26,7 @@ mostPayload = 32768
 
 -- Kept commands pass either limit. Rule 14.2.
 abbrev pub overLimits : List (List ℕ) → Bool
-overLimits kept = ltb mostKept (length kept) || ltb mostPayload (length (spread payload kept))
+overLimits kept = ltb mostKept (length kept) || ltb mostPayload (length (spread (payload V1) kept))
 
 -- The number of a history that has no room for one more accepted command.
 abbrev pub HISTORY-FULL : ℕ
@@ -34,9 +35,9 @@ HISTORY-FULL = 22
 -- The store's table without row 9, on the entry that is worked out: rows 1 and 2, then the guard's own. Rule 14.7.
 abbrev pub guardRows : ℕ → ℕ → List (List ℕ) → List ℕ → ℕ → List Row
 guardRows n room kept command lent =
-    row (not (formed command)) MALFORMED
-    ∷ row (not (ltb (fieldsOf command .card) n)) NO-CARD
-    ∷ entryRows (entryFrom kept (fieldsOf command .card)) (fieldsOf command) room lent
+    row (not (formed V1 command)) MALFORMED
+    ∷ row (not (ltb (fieldsOf V1 command .card) n)) NO-CARD
+    ∷ entryRows (entryFrom kept (fieldsOf V1 command .card)) (fieldsOf V1 command) room lent
 
 -- Behind it one row more: with this command kept as well, a limit would be passed. Rule 14.7.
 abbrev pub engineRows : ℕ → ℕ → List (List ℕ) → List ℕ → ℕ → List Row
@@ -50,7 +51,7 @@ keptBy number kept command = settled number (command ∷ kept) kept
 abbrev pub readFrom : List (List ℕ) → Command → List ℕ
 readFrom kept c =
     cond (reads original c) (textFrom original kept (c .card))
-    (cond (reads (translation 0) c) (textFrom (translation 0) kept (c .card)) [])
+    (cond (readsTranslation c) (textFrom (translation 0) kept (c .card)) [])
 
 -- What a request comes to: its answer, what is kept, and the reply buffer.
 pub record Deduced : Type 0 where
@@ -63,9 +64,9 @@ pub record Deduced : Type 0 where
 unfoldable pub deducedBy : ℕ → List (List ℕ) → List ℕ → List ℕ → Deduced
 deducedBy number kept command reply =
     record {
-      answer = replied number (entryFrom (keptBy number kept command) (fieldsOf command .card)) (fieldsOf command);
+      answer = replied number (entryFrom (keptBy number kept command) (fieldsOf V1 command .card)) (fieldsOf V1 command);
       kept = keptBy number kept command;
-      reply = settled number (splice 0 (readFrom kept (fieldsOf command)) reply) reply;
+      reply = settled number (splice 0 (readFrom kept (fieldsOf V1 command)) reply) reply;
     }
 
 -- One request, for N cards with room C: the first row that applies gives its number. Rule 14.7.

@@ -3,16 +3,17 @@
 use Prim.Native.Nat.{ℕ, _+_, _*_}
 use mathlib.Core.List.{List, reverse}
 use lib.ListN.{length, take}
+use Rattle.formats.specs.declared.Format.the-variants.{V1}
 use Rattle.lists.specs.Parts.{splice}
 use Rattle.lists.specs.Table.{settled}
-use Rattle.commands.specs.Bytes.{fixed}
+use Rattle.formats.specs.Format.{fixed}
 use Rattle.guard.specs.declared.Answer.{Answer}
 use Rattle.stream.specs.Stream.{commands, endOf}
 use Rattle.history.specs.Engine.{mostKept, mostPayload, deduced}
 
 -- Room for a history at both limits: 43,168 bytes. Rule 14.3.
 abbrev pub historySize : ℕ
-historySize = mostKept * fixed + mostPayload
+historySize = mostKept * fixed V1 + mostPayload
 
 -- The commands that lent bytes keep, latest first: the whole commands of the used ones. Any bytes and any number say which these are; what stands
 -- behind the last whole command is not looked at. Rules 14.3 and 14.4.

@@ -7,11 +7,13 @@ use mathlib.Core.List.{List, [], reverse}
 use mathlib.Core.Bool.{Bool, cond, _&&_, _||_}
 use lib.Dec.{ltb, eqb}
 use lib.ListN.{length}
+use Rattle.formats.specs.declared.Format.the-variants.{V1}
 use Rattle.lists.specs.Parts.{spread, splice}
 use Rattle.lists.specs.Search.{last}
 use Rattle.lists.specs.Table.{settled}
 use Rattle.commands.specs.declared.Command.{Command}
-use Rattle.commands.specs.Bytes.{fixed, fieldsOf, payload}
+use Rattle.formats.specs.Format.{fixed}
+use Rattle.commands.specs.Bytes.{fieldsOf, payload}
 use Rattle.guard.specs.Judge.{judged}
 use Rattle.guard.specs.declared.Judged.{Judged}
 use Rattle.guard.specs.Replies.{replied}
@@ -24,17 +26,17 @@ use Rattle.history.specs.Lent.{keptIn, bytesBy, usedBy, HistoryOutcome}
 pub record Measured (bytes : List ℕ) (end count payloads : ℕ) : Type 0 where
   pub ends : end ≡ endOf bytes
   pub counts : count ≡ length (reverse (commands bytes))
-  pub pays : payloads ≡ length (spread payload (reverse (commands bytes)))
-  pub sum : end ≡ count * fixed + payloads
+  pub pays : payloads ≡ length (spread (payload V1) (reverse (commands bytes)))
+  pub sum : end ≡ count * fixed V1 + payloads
   pub within : end ≤ length bytes
 
 -- What the last kept command with this act for card k brought along: the text of a language, by the act that writes it.
 unfoldable pub writtenBy : ℕ → List (List ℕ) → ℕ → List ℕ
-writtenBy act kept k = last (λ (b : List ℕ). concerns k b && eqb (fieldsOf b .act) act) payload [] kept
+writtenBy act kept k = last (λ (b : List ℕ). concerns k b && eqb (fieldsOf V1 b .act) act) (payload V1) [] kept
 
 -- One well-formed command for a card that exists: either limit would be passed with it.
 abbrev pub overWith : List (List ℕ) → Command → Bool
-overWith kept c = ltb mostKept (length kept + 1) || ltb mostPayload (c .length + length (spread payload kept))
+overWith kept c = ltb mostKept (length kept + 1) || ltb mostPayload (c .length + length (spread (payload V1) kept))
 
 -- The entry judges it; where it accepts, the limits are asked.
 unfoldable pub weighedNumber : List (List ℕ) → Command → ℕ → ℕ → ℕ

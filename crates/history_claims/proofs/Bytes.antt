@@ -9,6 +9,7 @@ use borrow.Author.Tests.{ltb-true, ltb-false, not-false}
 use lib.Dec.{ltb}
 use lib.ListN.{length, take, drop, getD, length-append, length-take, List·getD-append}
 use lib.Seq.{length-take-le, take-append-seam, getD-append-seam}
+use Rattle.formats.specs.declared.Format.the-variants.{V1}
 use Rattle.lists.specs.Parts.{spread, splice}
 use Rattle.lists.specs.Table.{Row}
 use Rattle.lists.proofs.Parts.{length-splice}
@@ -28,17 +29,17 @@ use Rattle.history.proofs.Extents.{measured, over-is, fits-behind}
 use Rattle.history_claims.specs.Lent.{BytesKeep, BytesKept}
 
 -- Where neither limit is passed, the command fits behind the others.
-fits : (s command : List ℕ) → formed command ≡ true → overLimits (command ∷ reverse (commands s)) ≡ false → endOf s + length command ≤ historySize
+fits : (s command : List ℕ) → formed V1 command ≡ true → overLimits (command ∷ reverse (commands s)) ≡ false → endOf s + length command ≤ historySize
 fits s command f h =
-    let behind = fits-behind s _ _ _ (fieldsOf command .length) (measured s) (sym (over-is command (reverse (commands s)) f) ∙ h) in
-    let long = formedness command f .whole in
+    let behind = fits-behind s _ _ _ (fieldsOf V1 command .length) (measured s) (sym (over-is command (reverse (commands s)) f) ∙ h) in
+    let long = formedness V1 command f .whole in
     omega (arith, behind, long)
 
 -- ---- one more command
 
-one-command : (command : List ℕ) → formed command ≡ true → OneCommand command
+one-command : (command : List ℕ) → formed V1 command ≡ true → OneCommand command
 unfolding fieldsOf
-one-command command f = let whole = formedness command f .whole in (omega (arith, whole), whole)
+one-command command f = let whole = formedness V1 command f .whole in (omega (arith, whole), whole)
 
 one-more : (l : List (List ℕ)) (command : List ℕ) → ((i : ℕ) → i < length l → OneCommand (getD l i [])) → OneCommand command
     → (i : ℕ) → i < length (l ++ (command ∷ [])) → OneCommand (getD (l ++ (command ∷ [])) i [])
@@ -73,7 +74,7 @@ commands-more s command own =
 
 -- ---- the bytes
 
-module _ (bytes : List ℕ) (used : ℕ) (command : List ℕ) (long : length bytes ≡ historySize) (f : formed command ≡ true)
+module _ (bytes : List ℕ) (used : ℕ) (command : List ℕ) (long : length bytes ≡ historySize) (f : formed V1 command ≡ true)
     (h : overLimits (command ∷ keptIn bytes used) ≡ false) where
   abbrev s : List ℕ
   s = take used bytes
@@ -123,7 +124,7 @@ unfolding historyServe bytesBy usedBy deduced deducedBy replied
 accepted n c bytes used command reply long e =
     let rows : List Row = engineRows n c (keptIn bytes used) command (length reply) in
     let never = none-applies rows (unapplied rows tt .0 e) in
-    let f : formed command ≡ true = not-false (formed command) (never 1) in
+    let f : formed V1 command ≡ true = not-false (formed V1 command) (never 1) in
     let h : overLimits (command ∷ keptIn bytes used) ≡ false = never HISTORY-FULL in
     record { holds = rw e (kept-more bytes used command long f h); long = rw e (long-more bytes used command long f h) }
 

@@ -7,6 +7,7 @@ use mathlib.Core.Bool.{Bool, true, false, cond, not, _&&_, _||_}
 use borrow.Author.Tests.{eqb-true, ltb-true, ltb-false, le-ltb, lt-ltb, ne-eqb}
 use lib.Dec.{T, ltb, eqb, lit≤}
 use lib.ListN.{length, replicate, length-replicate}
+use Rattle.formats.specs.declared.Format.the-variants.{V1}
 use Rattle.lists.specs.Parts.{part, splice, table, spread, every, zeros, Bytes}
 use Rattle.lists.specs.Le.{le, toLe}
 use Rattle.lists.specs.Search.{any, none, those}
@@ -24,7 +25,7 @@ use Rattle.image.specs.Layout.{shapeOk}
 use Rattle.image.specs.Bytes.{header}
 use Rattle.image.specs.Image.{fresh}
 use Rattle.model.specs.Cases.{readOriginal, long}
-use Rattle.model.specs.Words.{Sent, sentFor}
+use Rattle.model.specs.Words.{Sent}
 use Rattle.model.specs.Claims.{SentBytes, AllBytes}
 use Rattle.history.specs.WorkedOut.{highest, timesWritten, textFrom, entryFrom}
 use Rattle.history.specs.Engine.{overLimits, HISTORY-FULL, guardRows, engineRows, deducedBy, deduced}
@@ -68,11 +69,11 @@ command = again .command
 abbrev once : Entry
 once = entryFrom (command ∷ []) 0
 
-stays : raise once (fieldsOf command) ≡ once
+stays : raise once (fieldsOf V1 command) ≡ once
 unfolding entryFrom highest timesWritten raise commandBytes fieldsOf le toLe part
 stays = refl
 
-for-0 : eqb (fieldsOf command .card) 0 ≡ true
+for-0 : eqb (fieldsOf V1 command .card) 0 ≡ true
 unfolding commandBytes fieldsOf le toLe part
 for-0 = refl
 
@@ -80,12 +81,12 @@ entry-is : (m : ℕ) → entryFrom (replicate (suc m) command) 0 ≡ once
 entry-is zero = refl
 entry-is (suc m) =
     entry-here (replicate (suc m) command) command 0 for-0
-    ∙ ap (λ (e : Entry). raise e (fieldsOf command)) (entry-is m)
+    ∙ ap (λ (e : Entry). raise e (fieldsOf V1 command)) (entry-is m)
     ∙ stays
 
 -- The guard lets it pass on no entry and on that entry.
 abbrev on : Entry → ℕ
-on e = first (row (not (formed command)) 1 ∷ row (not (ltb (fieldsOf command .card) 1)) 2 ∷ entryRows e (fieldsOf command) 16 0)
+on e = first (row (not (formed V1 command)) 1 ∷ row (not (ltb (fieldsOf V1 command .card) 1)) 2 ∷ entryRows e (fieldsOf V1 command) 16 0)
 
 on-none : on (entryFrom [] 0) ≡ 0
 unfolding entryFrom highest timesWritten commandBytes formed fieldsOf wellFormed all allFrom le toLe part zeros
@@ -95,7 +96,7 @@ on-once : on once ≡ 0
 unfolding entryFrom highest timesWritten raise commandBytes formed fieldsOf wellFormed all allFrom le toLe part zeros
 on-once = refl
 
-card-0 : fieldsOf command .card ≡ 0
+card-0 : fieldsOf V1 command .card ≡ 0
 unfolding commandBytes fieldsOf le toLe part
 card-0 = refl
 
@@ -103,7 +104,7 @@ passes : (m : ℕ) → first (guardRows 1 16 (replicate m command) command 0) �
 passes zero = ap (λ (k : ℕ). on (entryFrom [] k)) card-0 ∙ on-none
 passes (suc m) = ap (λ (k : ℕ). on (entryFrom (replicate (suc m) command) k)) card-0 ∙ ap on (entry-is m) ∙ on-once
 
-paid-none : (m : ℕ) → spread payload (replicate m command) ≡ []
+paid-none : (m : ℕ) → spread (payload V1) (replicate m command) ≡ []
 unfolding spread payload commandBytes toLe
 paid-none zero = refl
 paid-none (suc m) = paid-none m
@@ -154,7 +155,7 @@ all-again : (m : ℕ) → AllBytes (replicate m again)
 all-again zero = tt
 all-again (suc m) = (again-bytes, all-again m)
 
-shape : T (shapeOk 1 16)
+shape : T (shapeOk V1 1 16)
 unfolding shapeOk all allFrom
 shape = tt
 
@@ -177,9 +178,9 @@ two-hundred =
 
 -- ---- different cards
 
-fresh-bytes : Bytes (fresh 2 16)
+fresh-bytes : Bytes (fresh V1 2 16)
 unfolding fresh header toLe
-fresh-bytes = bytes-by (fresh 2 16) tt
+fresh-bytes = bytes-by (fresh V1 2 16) tt
 
 read-1 : SentBytes (onCard 1 (readOriginal (long 3)))
 unfolding commandBytes toLe splice
@@ -201,22 +202,22 @@ no-command : SentBytes malformed
 no-command = sent-bytes malformed tt tt
 
 -- What each request is for.
-card-1 : (s : Sent) → fieldsOf (onCard 1 s .command) .card ≡ 1 → fieldsOf (wrote205 .command) .card ≡ 0 → Apart (onCard 1 s) wrote205
+card-1 : (s : Sent) → fieldsOf V1 (onCard 1 s .command) .card ≡ 1 → fieldsOf V1 (wrote205 .command) .card ≡ 0 → Apart (onCard 1 s) wrote205
 card-1 s h k p q z = let never : _≡_ {A = ℕ} 1 0 = sym h ∙ z ∙ k in absurd (omega (arith, never))
 
-reads-1 : fieldsOf (onCard 1 (readOriginal (long 3)) .command) .card ≡ 1
+reads-1 : fieldsOf V1 (onCard 1 (readOriginal (long 3)) .command) .card ≡ 1
 unfolding commandBytes fieldsOf le toLe part splice
 reads-1 = refl
 
-agains-1 : fieldsOf (onCard 1 again .command) .card ≡ 1
+agains-1 : fieldsOf V1 (onCard 1 again .command) .card ≡ 1
 unfolding commandBytes fieldsOf le toLe part splice
 agains-1 = refl
 
-writes-0 : fieldsOf (wrote205 .command) .card ≡ 0
+writes-0 : fieldsOf V1 (wrote205 .command) .card ≡ 0
 unfolding commandBytes fieldsOf le toLe part
 writes-0 = refl
 
-not-formed : formed (malformed .command) ≡ false
+not-formed : formed V1 (malformed .command) ≡ false
 unfolding formed le part
 not-formed = refl
 
@@ -230,14 +231,14 @@ pub apart-cases : ApartCases
 apart-cases =
     record {
       cards-apart =
-          swapping (fresh 2 16) fresh-bytes (onCard 1 (readOriginal (long 3)) ∷ wrote205 ∷ []) (read-1, (write-0, tt)) 0
+          swapping (fresh V1 2 16) fresh-bytes (onCard 1 (readOriginal (long 3)) ∷ wrote205 ∷ []) (read-1, (write-0, tt)) 0
           (card-1 (readOriginal (long 3)) reads-1 writes-0);
       malformed-apart =
-          swapping (fresh 2 16) fresh-bytes (again ∷ wrote205 ∷ malformed ∷ []) (again-bytes, (write-0, (no-command, tt))) 1
+          swapping (fresh V1 2 16) fresh-bytes (again ∷ wrote205 ∷ malformed ∷ []) (again-bytes, (write-0, (no-command, tt))) 1
           (λ p q z. never-both q not-formed);
       unsound-apart =
           swapping (1 ∷ []) (bytes-by (1 ∷ []) tt) (onCard 1 again ∷ wrote205 ∷ []) (again-1, (write-0, tt)) 0 (card-1 again agains-1 writes-0);
       either-order =
-          sequences (fresh 2 16) fresh-bytes (onCard 1 wrote205 ∷ malformed ∷ wrote205 ∷ []) (wrote205 ∷ onCard 1 wrote205 ∷ [])
+          sequences (fresh V1 2 16) fresh-bytes (onCard 1 wrote205 ∷ malformed ∷ wrote205 ∷ []) (wrote205 ∷ onCard 1 wrote205 ∷ [])
           (write-1, (no-command, (write-0, tt))) (write-0, (write-1, tt)) either;
     }

@@ -8,6 +8,7 @@ use mathlib.Core.Bool.{Bool, true, false, cond}
 use borrow.Author.Tests.{eqb-true, ne-eqb}
 use lib.Dec.{T}
 use lib.ListN.{length}
+use Rattle.formats.specs.declared.Format.the-variants.{V1}
 use Rattle.lists.specs.Parts.{spread}
 use Rattle.lists.specs.Search.{those}
 use Rattle.lists.specs.Table.{Row, first, listed}
@@ -69,45 +70,45 @@ unfolding cardsShown
 shown n c kept cs s =
     rw (← s .count, ← s .room)
     (ap (λ (l : List Card). record { room = cs .room; cards = l })
-    (table-is (cardFrom kept) (cs .cards) noCard (λ i h. sym (s .each i (subst (λ (m : ℕ). i < m) (s .count) h)))))
+    (table-is (cardFrom kept) (cs .cards) (noCard V1) (λ i h. sym (s .each i (subst (λ (m : ℕ). i < m) (s .count) h)))))
 
-module _ (n c : ℕ) (shape : T (shapeOk n c)) (sent : List Sent) (b : AllBytes sent) where
+module _ (n c : ℕ) (shape : T (shapeOk V1 n c)) (sent : List Sent) (b : AllBytes sent) where
   -- The requests, latest first, on the cards of a fresh store.
   abbrev sents : List Sent
   sents = reverse sent
 
   abbrev cards : Cards
-  cards = cardsFrom (freshCards n c) sents
+  cards = cardsFrom V1 (freshCards V1 n c) sents
 
-  image-is : imageAfter (fresh n c) sents ≡ encode cards
+  image-is : imageAfter V1 (fresh V1 n c) sents ≡ encode V1 cards
   image-is =
-      ap (λ (image : List ℕ). imageAfter image sents) (sym (freshSound n c shape .cards))
-      ∙ same-images (freshCards n c) sents (freshSound n c shape .good) (bytes-reverse sent [] b tt)
+      ap (λ (image : List ℕ). imageAfter V1 image sents) (sym (freshSound V1 n c shape .cards))
+      ∙ same-images V1 (freshCards V1 n c) sents (freshSound V1 n c shape .good) (bytes-reverse sent [] b tt)
 
-  cards-are : decode (imageAfter (fresh n c) sents) ≡ cards
+  cards-are : decode V1 (imageAfter V1 (fresh V1 n c) sents) ≡ cards
   cards-are =
-      ap decode image-is ∙ goodEncodes cards (all-good (freshCards n c) sents (freshSound n c shape .good) (bytes-reverse sent [] b tt)) .same
+      ap (decode V1) image-is ∙ goodEncodes V1 cards (all-good V1 (freshCards V1 n c) sents (freshSound V1 n c shape .good) (bytes-reverse sent [] b tt)) .same
 
-  number-there : (s : Sent) → serve (imageAfter (fresh n c) sents) (s .command) (s .lent) .answer .number ≡ numberOn cards s
+  number-there : (s : Sent) → serve V1 (imageAfter V1 (fresh V1 n c) sents) (s .command) (s .lent) .answer .number ≡ numberOn V1 cards s
   unfolding replied
   number-there s =
-      ap (λ (image : List ℕ). serve image (s .command) (s .lent) .answer .number) image-is
+      ap (λ (image : List ℕ). serve V1 image (s .command) (s .lent) .answer .number) image-is
       ∙ ap (λ (e : Event). e .answer .number)
-      (same-event cards s (all-good (freshCards n c) sents (freshSound n c shape .good) (bytes-reverse sent [] b tt)))
+      (same-event V1 cards s (all-good V1 (freshCards V1 n c) sents (freshSound V1 n c shape .good) (bytes-reverse sent [] b tt)))
 
 pub equals-guard : EqualsGuard
 unfolding engineLog
 equals-guard n c shape sent b h =
-    let t = together n c (freshCards n c) (shows-fresh n c) (reverse sent) h in
+    let t = together n c (freshCards V1 n c) (shows-fresh n c) (reverse sent) h in
     record {
-      log = t .log ∙ sym (same-log n c shape sent b);
+      log = t .log ∙ sym (same-log V1 n c shape sent b);
       cards = shown n c (keptAfter n c (reverse sent)) (cards n c shape sent b) (t .cards) ∙ sym (cards-are n c shape sent b);
     }
 
 -- ---- the first 22
 
 full-reply : (n c : ℕ) (kept : List (List ℕ)) (command reply : List ℕ) → first (engineRows n c kept command (length reply)) ≡ HISTORY-FULL
-    → deduced n c kept command reply .answer ≡ replied HISTORY-FULL (entryFrom kept (fieldsOf command .card)) (fieldsOf command)
+    → deduced n c kept command reply .answer ≡ replied HISTORY-FULL (entryFrom kept (fieldsOf V1 command .card)) (fieldsOf V1 command)
 unfolding deduced deducedBy
 full-reply n c kept command reply e = rw e
 
@@ -115,7 +116,7 @@ pub first-full : FirstFull
 unfolding engineLog
 first-full n c shape sent b s h g =
     let kept : List (List ℕ) = keptAfter n c (reverse sent) in
-    let t = together n c (freshCards n c) (shows-fresh n c) (reverse sent) h in
+    let t = together n c (freshCards V1 n c) (shows-fresh n c) (reverse sent) h in
     let cs : Cards = cards n c shape sent b in
     let number : first (engineRows n c kept (s .command) (length (s .lent))) ≡ HISTORY-FULL =
     sym (number-is n c kept cs (t .cards) s) ∙ eqb-true _ HISTORY-FULL g in
@@ -123,9 +124,9 @@ first-full n c shape sent b s h g =
       accepted-there = number-there n c shape sent b s ∙ full-accepted n c kept cs (t .cards) s number;
       replies-stored =
           full-reply n c kept (s .command) (s .lent) number
-          ∙ ap (λ (e : Entry). replied HISTORY-FULL e (fieldsOf (s .command)))
+          ∙ ap (λ (e : Entry). replied HISTORY-FULL e (fieldsOf V1 (s .command)))
           (full-entry n c kept cs (t .cards) s number
-          ∙ ap (λ (cs : Cards). entryOf cs (fieldsOf (s .command))) (sym (cards-are n c shape sent b)));
+          ∙ ap (λ (cs : Cards). entryOf V1 cs (fieldsOf V1 (s .command))) (sym (cards-are n c shape sent b)));
     }
 
 -- ---- each number

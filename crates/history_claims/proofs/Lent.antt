@@ -4,8 +4,9 @@ use mathlib.Core.Path.{_≡_, refl, sym, ap, subst, _∙_}
 use mathlib.Core.List.{List, [], _∷_, reverse}
 use mathlib.Core.Bool.{true}
 use lib.ListN.{length, take}
+use Rattle.formats.specs.declared.Format.the-variants.{V1}
 use Rattle.image.specs.Image.{Cards}
-use Rattle.model.specs.Words.{Sent, Event}
+use Rattle.model.specs.Words.{Sent, Event, received}
 use Rattle.lists.specs.Search.{none}
 use Rattle.stream.specs.Stream.{commands}
 use Rattle.stream.proofs.Place.{cut-short}
@@ -26,6 +27,7 @@ event-is : (n c : ℕ) (bytes : List ℕ) (used : ℕ) (kept : List (List ℕ)) 
     → _≡_ {A = Event}
     (record {
       sent = s;
+      read = received V1 s;
       answer = historyServe n c bytes used (s .command) (s .lent) .answer;
       reply = historyServe n c bytes used (s .command) (s .lent) .reply;
     })

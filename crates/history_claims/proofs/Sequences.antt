@@ -6,15 +6,16 @@ use mathlib.Core.List.{List, [], _∷_, _++_, nil≢cons, cons≢nil, head-eq-of
 use mathlib.Core.Bool.{Bool, true, false, cond, _&&_, _||_}
 use borrow.Author.Tests.{eq-eqb, eqb-true}
 use lib.Dec.{eqb}
+use Rattle.formats.specs.declared.Format.the-variants.{V1}
 use Rattle.lists.specs.Parts.{Bytes}
 use Rattle.lists.specs.Search.{any, those}
 use Rattle.lists.proofs.Tests.{cases, never-both, and-left, and-right, and-in, or-fails}
 use Rattle.commands.specs.Bytes.{fieldsOf, formed}
 use Rattle.image.specs.Image.{sound}
 use Rattle.model.specs.Serve.{serve, serveBy}
-use Rattle.model.specs.Words.{Sent, Event, eventOf, imageAfter, history, sentFor}
+use Rattle.model.specs.Words.{Sent, Event, eventOf, imageAfter, history}
 use Rattle.model.specs.Claims.{SentBytes, AllBytes}
-use Rattle.history_claims.specs.Swaps.{swap, Apart, SameSequences, eventFor, SameByCard, Sequences}
+use Rattle.history_claims.specs.Swaps.{swap, Apart, sentFor, SameSequences, eventFor, SameByCard, Sequences}
 use Rattle.history_claims.proofs.Swaps.{imageBy, event, unsound-image, swapping}
 
 -- ---- those elements of a list
@@ -84,28 +85,28 @@ module _ {A : Type 0} (p : A → Bool) where
 
 -- ---- a malformed request is for no card and changes nothing
 
-unseen : (k : ℕ) (s : Sent) → formed (s .command) ≡ false → sentFor k s ≡ false
+unseen : (k : ℕ) (s : Sent) → formed V1 (s .command) ≡ false → sentFor k s ≡ false
 unseen k s f = rw f
 
-malformed-image : (image : List ℕ) (s : Sent) → formed (s .command) ≡ false → imageBy image s ≡ image
+malformed-image : (image : List ℕ) (s : Sent) → formed V1 (s .command) ≡ false → imageBy image s ≡ image
 unfolding serve serveBy
-malformed-image image s f = go (cases (sound image))
+malformed-image image s f = go (cases (sound V1 image))
   where
-    go : (sound image ≡ true) ⊎ (sound image ≡ false) → imageBy image s ≡ image
+    go : (sound V1 image ≡ true) ⊎ (sound V1 image ≡ false) → imageBy image s ≡ image
     go (inl e) = rw (e, f)
     go (inr e) = unsound-image image s e
 
 -- A well-formed request is for its card.
-own-card : (s : Sent) → formed (s .command) ≡ true → sentFor (fieldsOf (s .command) .card) s ≡ true
-own-card s f = and-in f (eq-eqb (fieldsOf (s .command) .card) (fieldsOf (s .command) .card) refl)
+own-card : (s : Sent) → formed V1 (s .command) ≡ true → sentFor (fieldsOf V1 (s .command) .card) s ≡ true
+own-card s f = and-in f (eq-eqb (fieldsOf V1 (s .command) .card) (fieldsOf V1 (s .command) .card) refl)
 
 -- Requests that are both for card k are for one card.
 not-both : (a b : Sent) → Apart a b → (k : ℕ) → sentFor k a ≡ true → sentFor k b ≡ true → ⊥
 not-both a b apart k ha hb =
-    let fa = and-left (formed (a .command)) (eqb (fieldsOf (a .command) .card) k) ha in
-    let fb = and-left (formed (b .command)) (eqb (fieldsOf (b .command) .card) k) hb in
-    let ka = eqb-true (fieldsOf (a .command) .card) k (and-right (formed (a .command)) (eqb (fieldsOf (a .command) .card) k) ha) in
-    let kb = eqb-true (fieldsOf (b .command) .card) k (and-right (formed (b .command)) (eqb (fieldsOf (b .command) .card) k) hb) in
+    let fa = and-left (formed V1 (a .command)) (eqb (fieldsOf V1 (a .command) .card) k) ha in
+    let fb = and-left (formed V1 (b .command)) (eqb (fieldsOf V1 (b .command) .card) k) hb in
+    let ka = eqb-true (fieldsOf V1 (a .command) .card) k (and-right (formed V1 (a .command)) (eqb (fieldsOf V1 (a .command) .card) k) ha) in
+    let kb = eqb-true (fieldsOf V1 (b .command) .card) k (and-right (formed V1 (b .command)) (eqb (fieldsOf V1 (b .command) .card) k) hb) in
     apart fa fb (ka ∙ sym kb)
 
 -- ---- a request moved to the front
@@ -118,9 +119,9 @@ moved-bytes (p ∷ front) s back b = let rest = moved-bytes front s back (b .1) 
 events-more : (k : ℕ) (e : Event) (a b : List Event) → those (eventFor k) a ≡ those (eventFor k) b → those (eventFor k) (e ∷ a) ≡ those (eventFor k) (e ∷ b)
 events-more k e a b h = ap (λ (l : List Event). cond (eventFor k e) (e ∷ l) l) h
 
-module _ (start : List ℕ) (bs : Bytes start) (s : Sent) (f : formed (s .command) ≡ true) where
+module _ (start : List ℕ) (bs : Bytes start) (s : Sent) (f : formed V1 (s .command) ≡ true) where
   abbrev k : ℕ
-  k = fieldsOf (s .command) .card
+  k = fieldsOf V1 (s .command) .card
 
   moved : (front back : List Sent) → AllBytes (front ++ s ∷ back) → any (sentFor k) front ≡ false
       → SameByCard start (front ++ s ∷ back) (s ∷ (front ++ back))
@@ -130,16 +131,16 @@ module _ (start : List ℕ) (bs : Bytes start) (s : Sent) (f : formed (s .comman
       let both = or-fails (sentFor k p) (any (sentFor k) front) free in
       let rest = moved front back (b .1) (both .1) in
       let bytes = moved-bytes front s back (b .1) in
-      let apart : Apart p s = λ fp fs z. never-both (and-in fp (eq-eqb (fieldsOf (p .command) .card) k z)) (both .0) in
+      let apart : Apart p s = λ fp fs z. never-both (and-in fp (eq-eqb (fieldsOf V1 (p .command) .card) k z)) (both .0) in
       let two = swapping start bs (p ∷ s ∷ (front ++ back)) (b .0, bytes) 0 apart in
-      let ahead : List ℕ = imageAfter start (s ∷ (front ++ back)) in
+      let ahead : List ℕ = imageAfter V1 start (s ∷ (front ++ back)) in
       record {
         image = ap (λ (image : List ℕ). imageBy image p) (rest .image) ∙ sym (two .image);
         events =
             λ j.
-            ap (λ (image : List ℕ). those (eventFor j) (event image p ∷ history start (front ++ s ∷ back))) (rest .image)
-            ∙ events-more j (event ahead p) (history start (front ++ s ∷ back)) (history start (s ∷ (front ++ back))) (rest .events j)
-            ∙ those-swap (eventFor j) (event ahead p) (event (imageAfter start (front ++ back)) s) (history start (front ++ back)) (not-both p s apart j)
+            ap (λ (image : List ℕ). those (eventFor j) (event image p ∷ history V1 start (front ++ s ∷ back))) (rest .image)
+            ∙ events-more j (event ahead p) (history V1 start (front ++ s ∷ back)) (history V1 start (s ∷ (front ++ back))) (rest .events j)
+            ∙ those-swap (eventFor j) (event ahead p) (event (imageAfter V1 start (front ++ back)) s) (history V1 start (front ++ back)) (not-both p s apart j)
             ∙ ap (those (eventFor j)) (sym (two .log));
       }
 
@@ -149,22 +150,22 @@ module _ (start : List ℕ) (bs : Bytes start) (s : Sent) (f : formed (s .comman
 idle : (start : List ℕ) (b : List Sent) → ((k : ℕ) → [] ≡ those (sentFor k) b) → SameByCard start [] b
 unfolding imageAfter history
 idle start [] h = record { image = refl; events = λ k. refl }
-idle start (s ∷ b) h = go (cases (formed (s .command))) (idle start b)
+idle start (s ∷ b) h = go (cases (formed V1 (s .command))) (idle start b)
   where
-    go : (formed (s .command) ≡ true) ⊎ (formed (s .command) ≡ false) → (((k : ℕ) → [] ≡ those (sentFor k) b) → SameByCard start [] b)
+    go : (formed V1 (s .command) ≡ true) ⊎ (formed V1 (s .command) ≡ false) → (((k : ℕ) → [] ≡ those (sentFor k) b) → SameByCard start [] b)
         → SameByCard start [] (s ∷ b)
     go (inl f) more =
-        let k : ℕ = fieldsOf (s .command) .card in
+        let k : ℕ = fieldsOf V1 (s .command) .card in
         absurd (nil≢cons (h k ∙ those-here (sentFor k) b (own-card s f)))
     go (inr f) more =
         let rest = more (λ k. h k ∙ those-past (sentFor k) b (unseen k s f)) in
         record {
-          image = rest .image ∙ sym (malformed-image (imageAfter start b) s f);
-          events = λ k. rest .events k ∙ sym (those-past (eventFor k) (history start b) (unseen k s f));
+          image = rest .image ∙ sym (malformed-image (imageAfter V1 start b) s f);
+          events = λ k. rest .events k ∙ sym (those-past (eventFor k) {x = eventOf V1 s (serve V1 (imageAfter V1 start b) (s .command) (s .lent))} (history V1 start b) (unseen k s f));
         }
 
 -- The sequences are the same without the request that was moved.
-without : (s : Sent) (a front back : List Sent) → formed (s .command) ≡ true → any (sentFor (fieldsOf (s .command) .card)) front ≡ false
+without : (s : Sent) (a front back : List Sent) → formed V1 (s .command) ≡ true → any (sentFor (fieldsOf V1 (s .command) .card)) front ≡ false
     → SameSequences (s ∷ a) (front ++ s ∷ back) → SameSequences a (front ++ back)
 without s a front back f free h j = go (cases (sentFor j s))
   where
@@ -176,7 +177,7 @@ without s a front back f free h j = go (cases (sentFor j s))
 
     go : (sentFor j s ≡ true) ⊎ (sentFor j s ≡ false) → those (sentFor j) a ≡ those (sentFor j) (front ++ back)
     go (inl t) =
-        let card = eqb-true (fieldsOf (s .command) .card) j (and-right (formed (s .command)) (eqb (fieldsOf (s .command) .card) j) t) in
+        let card = eqb-true (fieldsOf V1 (s .command) .card) j (and-right (formed V1 (s .command)) (eqb (fieldsOf V1 (s .command) .card) j) t) in
         let none : those (sentFor j) front ≡ [] = those-none (sentFor j) front (subst (λ (i : ℕ). any (sentFor i) front ≡ false) card free) in
         tail-eq-of-cons-eq
         (sym (those-here (sentFor j) a t)
@@ -195,19 +196,19 @@ without s a front back f free h j = go (cases (sentFor j s))
 pub sequences : Sequences
 unfolding imageAfter history
 sequences start bs [] b ba bb h = idle start b h
-sequences start bs (s ∷ a) b ba bb h = go (cases (formed (s .command))) (λ l. sequences start bs a l (ba .1))
+sequences start bs (s ∷ a) b ba bb h = go (cases (formed V1 (s .command))) (λ l. sequences start bs a l (ba .1))
   where
-    go : (formed (s .command) ≡ true) ⊎ (formed (s .command) ≡ false)
+    go : (formed V1 (s .command) ≡ true) ⊎ (formed V1 (s .command) ≡ false)
         → ((l : List Sent) → AllBytes l → SameSequences a l → SameByCard start a l)
         → SameByCard start (s ∷ a) b
     go (inr f) more =
         let rest = more b bb (λ k. sym (those-past (sentFor k) a (unseen k s f)) ∙ h k) in
         record {
-          image = malformed-image (imageAfter start a) s f ∙ rest .image;
-          events = λ k. those-past (eventFor k) (history start a) (unseen k s f) ∙ rest .events k;
+          image = malformed-image (imageAfter V1 start a) s f ∙ rest .image;
+          events = λ k. those-past (eventFor k) {x = eventOf V1 s (serve V1 (imageAfter V1 start a) (s .command) (s .lent))} (history V1 start a) (unseen k s f) ∙ rest .events k;
         }
     go (inl f) more =
-        let k : ℕ = fieldsOf (s .command) .card in
+        let k : ℕ = fieldsOf V1 (s .command) .card in
         let at = split-first (sentFor k) b s (those (sentFor k) a) (sym (h k) ∙ those-here (sentFor k) a (own-card s f)) in
         let front : List Sent = at .front in
         let back : List Sent = at .back in
@@ -220,11 +221,11 @@ sequences start bs (s ∷ a) b ba bb h = go (cases (formed (s .command))) (λ l.
           image =
               ap (λ (image : List ℕ). imageBy image s) (rest .image)
               ∙ sym (ahead .image)
-              ∙ ap (imageAfter start) (sym (at .joined));
+              ∙ ap (imageAfter V1 start) (sym (at .joined));
           events =
               λ j.
-              ap (λ (image : List ℕ). those (eventFor j) (event image s ∷ history start a)) (rest .image)
-              ∙ events-more j (event (imageAfter start (front ++ back)) s) (history start a) (history start (front ++ back)) (rest .events j)
+              ap (λ (image : List ℕ). those (eventFor j) (event image s ∷ history V1 start a)) (rest .image)
+              ∙ events-more j (event (imageAfter V1 start (front ++ back)) s) (history V1 start a) (history V1 start (front ++ back)) (rest .events j)
               ∙ sym (ahead .events j)
-              ∙ ap (λ (l : List Sent). those (eventFor j) (history start l)) (sym (at .joined));
+              ∙ ap (λ (l : List Sent). those (eventFor j) (history V1 start l)) (sym (at .joined));
         }

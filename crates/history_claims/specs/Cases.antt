@@ -5,11 +5,12 @@ use mathlib.Core.Path.{_≡_}
 use mathlib.Core.List.{List, [], _∷_, _++_, reverse}
 use mathlib.Core.Bool.{true, false}
 use lib.ListN.{replicate}
+use Rattle.formats.specs.declared.Format.the-variants.{V1}
 use Rattle.lists.specs.Parts.{splice}
 use Rattle.lists.specs.Le.{toLe}
 use Rattle.lists.specs.Search.{none}
 use Rattle.stamps.specs.Stamp.{shared, exclusive}
-use Rattle.commands.specs.Bytes.{fixed}
+use Rattle.formats.specs.Format.{fixed}
 use Rattle.image.specs.Image.{fresh}
 use Rattle.model.specs.Words.{Sent}
 use Rattle.model.specs.Cases.{pair, request, got, stamp1, stamp2, verify, verifyOpening, writeOriginal, writeTranslation, readOriginal, text205, text401, long}
@@ -23,7 +24,7 @@ use Rattle.history_claims.specs.Swaps.{Undisturbed, SameByCard}
 
 -- A kept command with so many payload bytes.
 abbrev pub paying : ℕ → List ℕ
-paying n = replicate (fixed + n) 0
+paying n = replicate (fixed V1 + n) 0
 
 -- 200 commands are kept and 201 are not; 32,768 payload bytes in all are kept and one more is not.
 pub record KeptLimits : Type 0 where
@@ -90,7 +91,7 @@ malformed = record { command = 5 ∷ []; lent = long 2 }
 -- A write of card 0 and a read of card 1 are swapped; so are a malformed request and a write; and two requests to bytes that are no image. Malformed
 -- requests aside, two writes may come in either order.
 pub record ApartCases : Type 0 where
-  pub cards-apart : Undisturbed (fresh 2 16) (onCard 1 (readOriginal (long 3)) ∷ wrote205 ∷ []) 0
-  pub malformed-apart : Undisturbed (fresh 2 16) (again ∷ wrote205 ∷ malformed ∷ []) 1
+  pub cards-apart : Undisturbed (fresh V1 2 16) (onCard 1 (readOriginal (long 3)) ∷ wrote205 ∷ []) 0
+  pub malformed-apart : Undisturbed (fresh V1 2 16) (again ∷ wrote205 ∷ malformed ∷ []) 1
   pub unsound-apart : Undisturbed (1 ∷ []) (onCard 1 again ∷ wrote205 ∷ []) 0
-  pub either-order : SameByCard (fresh 2 16) (onCard 1 wrote205 ∷ malformed ∷ wrote205 ∷ []) (wrote205 ∷ onCard 1 wrote205 ∷ [])
+  pub either-order : SameByCard (fresh V1 2 16) (onCard 1 wrote205 ∷ malformed ∷ wrote205 ∷ []) (wrote205 ∷ onCard 1 wrote205 ∷ [])

@@ -7,6 +7,7 @@ use mathlib.Core.List.{List, [], _∷_, map, reverse}
 use mathlib.Core.Bool.{Bool, true, false}
 use lib.ListN.{length}
 use lib.Dec.{T, eqb}
+use Rattle.formats.specs.declared.Format.the-variants.{V1}
 use Rattle.lists.specs.Parts.{table}
 use Rattle.lists.specs.Search.{none, those}
 use Rattle.lists.specs.Table.{applies, earlier, noRow, listed}
@@ -16,7 +17,7 @@ use Rattle.guard.specs.Replies.{replied}
 use Rattle.image.specs.Layout.{shapeOk}
 use Rattle.image.specs.Image.{fresh, Card, Cards, decode}
 use Rattle.model.specs.Serve.{entryOf, serve}
-use Rattle.model.specs.Words.{Sent, Event, imageAfter, logOf}
+use Rattle.model.specs.Words.{Sent, Event, imageAfter, logOf, received}
 use Rattle.model.specs.Claims.{SentBytes, AllBytes}
 use Rattle.history.specs.WorkedOut.{entryFrom, textFrom}
 use Rattle.history.specs.Engine.{overLimits, HISTORY-FULL, Deduced, guardRows, engineRows, deduced}
@@ -30,7 +31,7 @@ keptAfter n c (s ∷ earlier) = deduced n c (keptAfter n c earlier) (s .command)
 
 -- What a sender sees of a request to the engine.
 abbrev pub engineEvent : Sent → Deduced → Event
-engineEvent s d = record { sent = s; answer = d .answer; reply = d .reply }
+engineEvent s d = record { sent = s; read = received V1 s; answer = d .answer; reply = d .reply }
 
 -- The events of requests, both latest first.
 unfoldable pub engineEvents : ℕ → ℕ → List Sent → List Event
@@ -77,25 +78,25 @@ KeepsAccepted = (n c : ℕ) (sent : List Sent) → Keeping n c sent
 
 -- Requests to a fresh store and to the engine: one log, with every number, field and reply buffer, and one set of cards, with every text.
 pub record EqualSoFar (n c : ℕ) (sent : List Sent) : Type 0 where
-  pub log : engineLog n c sent ≡ logOf n c sent
-  pub cards : cardsShown n c (keptAfter n c (reverse sent)) ≡ decode (imageAfter (fresh n c) (reverse sent))
+  pub log : engineLog n c sent ≡ logOf V1 n c sent
+  pub cards : cardsShown n c (keptAfter n c (reverse sent)) ≡ decode V1 (imageAfter V1 (fresh V1 n c) (reverse sent))
 
 abbrev pub EqualsGuard : Type 0
 EqualsGuard =
-    (n c : ℕ) → T (shapeOk n c) → (sent : List Sent) → AllBytes sent → none gave22 (engineLog n c sent) ≡ true → EqualSoFar n c sent
+    (n c : ℕ) → T (shapeOk V1 n c) → (sent : List Sent) → AllBytes sent → none gave22 (engineLog n c sent) ≡ true → EqualSoFar n c sent
 
 -- ---- the first 22 (rule 14.11)
 
 -- A request that is the first to get 22: the store, sent the same, accepts it, and 22 replies the entry that the store has for its card.
 pub record FirstRefusal (n c : ℕ) (sent : List Sent) (s : Sent) : Type 0 where
-  pub accepted-there : serve (imageAfter (fresh n c) (reverse sent)) (s .command) (s .lent) .answer .number ≡ 0
+  pub accepted-there : serve V1 (imageAfter V1 (fresh V1 n c) (reverse sent)) (s .command) (s .lent) .answer .number ≡ 0
   pub replies-stored :
       deduced n c (keptAfter n c (reverse sent)) (s .command) (s .lent) .answer
-      ≡ replied HISTORY-FULL (entryOf (decode (imageAfter (fresh n c) (reverse sent))) (fieldsOf (s .command))) (fieldsOf (s .command))
+      ≡ replied HISTORY-FULL (entryOf V1 (decode V1 (imageAfter V1 (fresh V1 n c) (reverse sent))) (fieldsOf V1 (s .command))) (fieldsOf V1 (s .command))
 
 abbrev pub FirstFull : Type 0
 FirstFull =
-    (n c : ℕ) → T (shapeOk n c) → (sent : List Sent) → AllBytes sent → (s : Sent)
+    (n c : ℕ) → T (shapeOk V1 n c) → (sent : List Sent) → AllBytes sent → (s : Sent)
     → none gave22 (engineLog n c sent) ≡ true
     → gave22 (engineEvent s (deduced n c (keptAfter n c (reverse sent)) (s .command) (s .lent))) ≡ true
     → FirstRefusal n c sent s
@@ -115,7 +116,7 @@ pub record EngineNumber (n c : ℕ) (kept : List (List ℕ)) (command reply : Li
   -- 22 replies the entry as it stands
   pub stands :
       deduced n c kept command reply .answer .number ≡ HISTORY-FULL
-      → deduced n c kept command reply .answer ≡ replied HISTORY-FULL (entryFrom kept (fieldsOf command .card)) (fieldsOf command)
+      → deduced n c kept command reply .answer ≡ replied HISTORY-FULL (entryFrom kept (fieldsOf V1 command .card)) (fieldsOf V1 command)
   -- no refusal, 22 neither, changes anything
   pub unchanged :
       (m : ℕ) → deduced n c kept command reply .answer .number ≡ suc m

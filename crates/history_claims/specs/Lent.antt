@@ -6,10 +6,11 @@ use mathlib.Core.List.{List, [], _∷_, reverse}
 use mathlib.Core.Bool.{true}
 use lib.Dec.{T}
 use lib.ListN.{length}
+use Rattle.formats.specs.declared.Format.the-variants.{V1}
 use Rattle.lists.specs.Search.{none}
 use Rattle.image.specs.Layout.{shapeOk}
 use Rattle.image.specs.Image.{fresh, decode}
-use Rattle.model.specs.Words.{Sent, Event, imageAfter, logOf}
+use Rattle.model.specs.Words.{Sent, Event, imageAfter, logOf, received}
 use Rattle.model.specs.Claims.{AllBytes}
 use Rattle.history.specs.Engine.{deduced}
 use Rattle.history.specs.Lent.{historySize, keptIn, HistoryOutcome, historyServe}
@@ -47,6 +48,7 @@ eventsOver n c bytes [] = []
 eventsOver n c bytes (s ∷ earlier) =
     record {
       sent = s;
+      read = received V1 s;
       answer = servedFrom n c (heldAfter n c bytes earlier) s .answer;
       reply = servedFrom n c (heldAfter n c bytes earlier) s .reply;
     }
@@ -63,13 +65,13 @@ EngineOverBytes = (n c : ℕ) (bytes : List ℕ) → length bytes ≡ historySiz
 
 -- Equal to the guard until the first 22, in the terms of the exported operation. Rule 14.10.
 pub record LentEqual (n c : ℕ) (bytes : List ℕ) (sent : List Sent) : Type 0 where
-  pub log : eventsOver n c bytes (reverse sent) ≡ logOf n c sent
+  pub log : eventsOver n c bytes (reverse sent) ≡ logOf V1 n c sent
   pub cards :
       cardsShown n c (keptIn (heldAfter n c bytes (reverse sent) .bytes) (heldAfter n c bytes (reverse sent) .used))
-      ≡ decode (imageAfter (fresh n c) (reverse sent))
+      ≡ decode V1 (imageAfter V1 (fresh V1 n c) (reverse sent))
 
 abbrev pub LentEqualsGuard : Type 0
 LentEqualsGuard =
-    (n c : ℕ) → T (shapeOk n c) → (bytes : List ℕ) → length bytes ≡ historySize → (sent : List Sent) → AllBytes sent
+    (n c : ℕ) → T (shapeOk V1 n c) → (bytes : List ℕ) → length bytes ≡ historySize → (sent : List Sent) → AllBytes sent
     → none gave22 (eventsOver n c bytes (reverse sent)) ≡ true
     → LentEqual n c bytes sent

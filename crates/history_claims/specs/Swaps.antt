@@ -5,10 +5,11 @@ use Prim.Native.Nat.{ℕ, zero, suc}
 use mathlib.Core.Path.{_≡_}
 use mathlib.Core.List.{List, [], _∷_}
 use mathlib.Core.Bool.{Bool, true}
+use Rattle.formats.specs.declared.Format.the-variants.{V1}
 use Rattle.lists.specs.Parts.{Bytes}
 use Rattle.lists.specs.Search.{those}
 use Rattle.commands.specs.Bytes.{fieldsOf, formed}
-use Rattle.model.specs.Words.{Sent, Event, imageAfter, history, sentFor}
+use Rattle.model.specs.Words.{Sent, Event, imageAfter, history, received, formedFor}
 use Rattle.model.specs.Claims.{AllBytes}
 
 -- ---- two neighbours swapped (rule 14.12)
@@ -24,7 +25,7 @@ swap (suc i) [] = []
 -- Two requests are not both for one card. A malformed one is for no card, so it is apart from any.
 abbrev pub Apart : Sent → Sent → Type 0
 Apart a b =
-    formed (a .command) ≡ true → formed (b .command) ≡ true → fieldsOf (a .command) .card ≡ fieldsOf (b .command) .card → ⊥
+    formed V1 (a .command) ≡ true → formed V1 (b .command) ≡ true → fieldsOf V1 (a .command) .card ≡ fieldsOf V1 (b .command) .card → ⊥
 
 -- The requests at places i and i + 1 are.
 abbrev pub ApartAt : ℕ → List Sent → Type 0
@@ -37,8 +38,8 @@ ApartAt (suc i) [] = Unit {0}
 -- With those two swapped, the last image is the same, and so is each request's own event, its answer and its reply buffer: the log is the old log with
 -- the two events swapped.
 pub record Undisturbed (start : List ℕ) (sent : List Sent) (i : ℕ) : Type 0 where
-  pub image : imageAfter start (swap i sent) ≡ imageAfter start sent
-  pub log : history start (swap i sent) ≡ swap i (history start sent)
+  pub image : imageAfter V1 start (swap i sent) ≡ imageAfter V1 start sent
+  pub log : history V1 start (swap i sent) ≡ swap i (history V1 start sent)
 
 -- From any image, sound or not, whatever each request gets.
 abbrev pub Swapping : Type 0
@@ -46,18 +47,22 @@ Swapping = (start : List ℕ) → Bytes start → (sent : List Sent) → AllByte
 
 -- ---- the order among cards (rule 14.13)
 
+-- A well-formed request for card k.
+abbrev pub sentFor : ℕ → Sent → Bool
+sentFor k s = formedFor k (received V1 s)
+
 -- Two lists have the same sequence of requests for each card. Malformed ones do not count.
 abbrev pub SameSequences : List Sent → List Sent → Type 0
 SameSequences a b = (k : ℕ) → those (sentFor k) a ≡ those (sentFor k) b
 
 -- An event of a well-formed request for card k.
 abbrev pub eventFor : ℕ → Event → Bool
-eventFor k e = sentFor k (e .sent)
+eventFor k e = formedFor k (e .read)
 
 -- Then they leave the same image, and the requests for each card see the same, one by one.
 pub record SameByCard (start : List ℕ) (a b : List Sent) : Type 0 where
-  pub image : imageAfter start a ≡ imageAfter start b
-  pub events : (k : ℕ) → those (eventFor k) (history start a) ≡ those (eventFor k) (history start b)
+  pub image : imageAfter V1 start a ≡ imageAfter V1 start b
+  pub events : (k : ℕ) → those (eventFor k) (history V1 start a) ≡ those (eventFor k) (history V1 start b)
 
 abbrev pub Sequences : Type 0
 Sequences = (start : List ℕ) → Bytes start → (a b : List Sent) → AllBytes a → AllBytes b → SameSequences a b → SameByCard start a b

@@ -1,42 +1,27 @@
 -- Laws of a sound header, a sound card and a sound image. Assumes nothing.
-use Prim.Native.Nat.{ℕ, _+_, _≤_, _<_}
+use Prim.Native.Nat.{ℕ, suc, _+_, _-_, _≤_, _<_}
 use native.Mathlib.Omega.{arith}
-use mathlib.Core.Path.{_≡_, refl}
+use mathlib.Core.Path.{_≡_, refl, ap, _∙_}
 use mathlib.Core.List.{List, _∷_, []}
 use mathlib.Core.Bool.{Bool, true, false, _&&_}
 use borrow.Author.Tests.{ne-eqb, leb-true, eqb-true}
 use lib.Dec.{eqb}
-use lib.ListN.{length}
-use Rattle.lists.specs.Parts.{every}
-use Rattle.lists.specs.Table.{all, allFrom}
-use Rattle.lists.proofs.Every.{every-fail}
-use Rattle.lists.proofs.Tests.{all-out, all-fails-at}
+use lib.ListN.{length, take, drop}
+use Rattle.lists.specs.Parts.{part, zeros, every}
 use Rattle.lists.specs.Le.{field}
+use Rattle.lists.specs.Table.{all, allFrom}
+use Rattle.lists.proofs.Every.{every-fail, every-out}
+use Rattle.lists.proofs.Tests.{all-out, all-fails-at, and-left}
 use Rattle.guard.specs.Entry.{entrySound}
 use Rattle.guard.specs.declared.Entry.{Entry}
-use Rattle.image.specs.Layout.{sides, sizeOf, headerSize, bodyPlace, entryPlace}
-use Rattle.image.proofs.Shape.{body-within}
+use Rattle.formats.specs.declared.Format.{Format}
+use Rattle.formats.specs.Format.{translations, entrySize}
+use Rattle.image.specs.Layout.{sides, sizeOf, headerSize, bodyPlace, entryPlace, entryEnd}
 use Rattle.image.specs.Bytes.{countOf, roomOf, entryAt}
-use Rattle.image.specs.Image.{headerSound, tailZero, cardSound, sound}
-
--- ---- the header and a card
-
--- With the entry's test known to hold, the other three decide.
-pub three : (a b d : Bool) → (a && b && d) ≡ all (a ∷ true ∷ b ∷ d ∷ [])
-unfolding all allFrom
-three true b d = refl
-three false b d = refl
-
-pub entry-fails : (image : List ℕ) (k : ℕ) → entrySound (roomOf image) (entryAt image k) ≡ false → cardSound image k ≡ false
-unfolding cardSound
-entry-fails image k e = all-fails-at _ 1 e
-
-pub entry-holds : (image : List ℕ) (k : ℕ) → entrySound (roomOf image) (entryAt image k) ≡ true →
-    (eqb (field (entryPlace k + 18) 2 image) 0 && tailZero image k 0 (entryAt image k .original) && tailZero image k 1 (entryAt image k .translation))
-    ≡ cardSound image k
-unfolding cardSound
-entry-holds image k e =
-    rw e (three (eqb (field (entryPlace k + 18) 2 image) 0) (tailZero image k 0 (entryAt image k .original)) (tailZero image k 1 (entryAt image k .translation)))
+use Rattle.image.specs.Image.{headerSound, tailZero, translationSound, cardSound, sound}
+use Rattle.formats.proofs.Numbers.{numbers}
+use Rattle.image.proofs.Parts.{cut}
+use Rattle.image.proofs.Shape.{body-within, entry-within}
 
 -- The lengths of a sound entry are at most its room.
 pub record Lengths (room : ℕ) (e : Entry) : Type 0 where
@@ -51,31 +36,75 @@ lengths room e h =
       translation = leb-true (e .translation) room (all-out _ h 4);
     }
 
--- Fewer bytes than a header has.
-pub short : (image : List ℕ) → length image < headerSize → headerSound image ≡ false
-unfolding headerSound
-short image h = all-fails-at _ 4 (ne-eqb (length image) (sizeOf (countOf image) (roomOf image)) (λ e. omega arith))
+-- With the third test known to hold, the other three decide.
+three : (a b d : Bool) → (a && b && d) ≡ all (a ∷ b ∷ true ∷ d ∷ [])
+unfolding all allFrom
+three true true d = refl
+three true false d = refl
+three false b d = refl
 
-pub header-size : (image : List ℕ) → headerSound image ≡ true → length image ≡ sizeOf (countOf image) (roomOf image)
-unfolding headerSound
-header-size image e = eqb-true (length image) (sizeOf (countOf image) (roomOf image)) (all-out _ e 4)
+module _ (f : Format) (image : List ℕ) where
+  pub short : length image < headerSize → headerSound f image ≡ false
+  unfolding headerSound
+  short h = all-fails-at _ 4 (ne-eqb (length image) (sizeOf f (countOf image) (roomOf image)) (λ e. omega arith))
 
--- A body's place, by the numbers that were read.
-pub body-lies : {n c k side place : ℕ} (image : List ℕ) → place ≡ bodyPlace n c k side → n ≡ countOf image → c ≡ roomOf image →
-    length image ≡ sizeOf (countOf image) (roomOf image) → k < countOf image → side < sides → place + c ≤ length image
-body-lies {k = k} {side = side} image p q r size below h =
-    rw (p, q, r, size) (body-within (countOf image) (roomOf image) k side below h)
+  pub header-size : headerSound f image ≡ true → length image ≡ sizeOf f (countOf image) (roomOf image)
+  unfolding headerSound
+  header-size e = eqb-true (length image) (sizeOf f (countOf image) (roomOf image)) (all-out _ e 4)
 
--- ---- a sound image
+  pub translation-fails : (k t : ℕ) → entrySound (roomOf image) (entryAt f image k t) ≡ false → translationSound f image k t ≡ false
+  unfolding translationSound
+  translation-fails k t e = rw e
 
-pub header-fails : (image : List ℕ) → headerSound image ≡ false → sound image ≡ false
-unfolding sound
-header-fails image e = rw e
+  pub translation-holds : (k t : ℕ) → entrySound (roomOf image) (entryAt f image k t) ≡ true →
+      tailZero f image k (suc t) (entryAt f image k t .translation) ≡ translationSound f image k t
+  unfolding translationSound
+  translation-holds k t e = rw e
 
-pub card-fails : (image : List ℕ) (k : ℕ) → headerSound image ≡ true → k < countOf image → cardSound image k ≡ false → sound image ≡ false
-unfolding sound
-card-fails image k e h f = rw e (every-fail (cardSound image) (countOf image) k h f)
+  pub translations-fail : (k : ℕ) → every (translationSound f image k) (translations f) ≡ false → cardSound f image k ≡ false
+  unfolding cardSound
+  translations-fail k e = all-fails-at _ 2 e
 
-pub all-hold : (image : List ℕ) → headerSound image ≡ true → every (cardSound image) (countOf image) ≡ true → sound image ≡ true
-unfolding sound
-all-hold image e f = rw (e, f)
+  pub translations-hold : (k : ℕ) → every (translationSound f image k) (translations f) ≡ true →
+      (eqb (field (entryPlace f k + 18) 2 image) 0 && zeros (part (entryPlace f k + entryEnd f) (entrySize f - entryEnd f) image)
+      && tailZero f image k 0 (entryAt f image k 0 .original)) ≡ cardSound f image k
+  unfolding cardSound
+  translations-hold k e =
+      rw e
+      (three (eqb (field (entryPlace f k + 18) 2 image) 0) (zeros (part (entryPlace f k + entryEnd f) (entrySize f - entryEnd f) image))
+      (tailZero f image k 0 (entryAt f image k 0 .original)))
+
+  -- A body and an entry lie within the image, by the numbers that were read.
+  pub body-lies : {n c k side place : ℕ} → place ≡ bodyPlace f n c k side → n ≡ countOf image → c ≡ roomOf image →
+      length image ≡ sizeOf f (countOf image) (roomOf image) → k < countOf image → side < sides f → place + c ≤ length image
+  body-lies {k = k} {side = side} p q r size below h =
+      rw (p, q, r, size) (body-within f (countOf image) (roomOf image) k side below h)
+
+  pub entry-lies : {k : ℕ} → length image ≡ sizeOf f (countOf image) (roomOf image) → k < countOf image → entryPlace f k + entrySize f ≤ length image
+  entry-lies size below = rw size (entry-within f (countOf image) (roomOf image) below)
+
+  pub header-fails : headerSound f image ≡ false → sound f image ≡ false
+  unfolding sound
+  header-fails e = rw e
+
+  pub card-fails : (k : ℕ) → headerSound f image ≡ true → k < countOf image → cardSound f image k ≡ false → sound f image ≡ false
+  unfolding sound
+  card-fails k e h g = rw e (every-fail (cardSound f image) (countOf image) k h g)
+
+  pub all-hold : headerSound f image ≡ true → every (cardSound f image) (countOf image) ≡ true → sound f image ≡ true
+  unfolding sound
+  all-hold e g = rw (e, g)
+
+  -- The original's length is at most the room, where every translation keeps the rules.
+  pub first-fits : (k : ℕ) → every (translationSound f image k) (translations f) ≡ true → entryAt f image k 0 .original ≤ roomOf image
+  unfolding translationSound
+  first-fits k e =
+      lengths (roomOf image) (entryAt f image k 0)
+      (and-left (entrySound (roomOf image) (entryAt f image k 0)) (tailZero f image k 1 (entryAt f image k 0 .translation))
+      (every-out (translationSound f image k) (translations f) e 0 (numbers f .some))) .original
+
+  -- What stands behind an entry's numbers, by the numbers that were read.
+  pub blank-is : {at last size : ℕ} (k : ℕ) → at ≡ entryPlace f k → last ≡ entryEnd f → size ≡ entrySize f
+      → zeros (take (at + size - (at + last)) (drop (at + last) image)) ≡ zeros (part (entryPlace f k + entryEnd f) (entrySize f - entryEnd f) image)
+  blank-is {at} {last} {size} k p q r =
+      ap zeros (cut (at + last) (size - last) (at + size) image (omega (arith, numbers f)) ∙ rw (p, q, r))

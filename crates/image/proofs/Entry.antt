@@ -1,68 +1,128 @@
--- An entry and its 32 bytes, a text and its body: each reads back to the other. Assumes nothing.
-use Prim.Native.Nat.{ℕ, _+_, _-_, _≤_}
+-- An entry and its bytes, a text and its body: each reads back to the other. Assumes nothing.
+use Prim.Native.Nat.{ℕ, zero, suc, _+_, _*_, _-_, _≤_, _<_}
 use native.Mathlib.Omega.{arith}
 use mathlib.Core.Path.{_≡_, refl, sym, ap, _∙_}
-use mathlib.Core.List.{List, _++_}
+use mathlib.Core.List.{List, [], _∷_, _++_}
 use mathlib.Core.Bool.{true}
-use lib.ListN.{length, take, drop, replicate}
+use lib.Dec.{lit<}
+use lib.ListN.{length, take, drop, replicate, length-append}
 use lib.Seq.{take-at, drop-at}
-use Rattle.lists.specs.Parts.{part, zeros, Bytes}
-use Rattle.lists.specs.Le.{toLe, field}
+use Rattle.lists.specs.Parts.{part, zeros, spread, table, Bytes}
+use Rattle.lists.specs.Le.{le, toLe, field}
 use Rattle.lists.proofs.Bytes.{Bytes-part, zeros-means}
 use Rattle.lists.proofs.Le.{le-toLe, toLe-le}
-use Rattle.lists.proofs.Parts.{length-part, part-join}
+use Rattle.lists.proofs.Parts.{length-part, part-join, take-part, drop-part}
+use Rattle.lists.proofs.Spread.{spread-parts}
 use Rattle.guard.specs.Entry.{FitsEntry}
 use Rattle.guard.specs.declared.Entry.{Entry}
-use Rattle.image.specs.Bytes.{entryBytes, pad, readEntry}
-use Rattle.image.specs.Layout.{entrySize}
-use Rattle.image.proofs.Written.{pad-text}
+use Rattle.formats.specs.declared.Format.{Format}
+use Rattle.formats.specs.declared.Format.the-variants.{V1, V2}
+use Rattle.formats.specs.Format.{entrySize, translations, fromsAt, lengthsAt}
+use Rattle.image.specs.Layout.{entryEnd}
+use Rattle.image.specs.Bytes.{entryBytes, readEntry, pad}
+use Rattle.image.specs.Image.{Card, view, cardEntry}
 use Rattle.image.proofs.Encode.{part-whole}
+use Rattle.image.proofs.Written.{pad-text}
 
--- The entry that the bytes of an entry stand for.
-pub read-entryBytes : (e : Entry) → FitsEntry e → readEntry (entryBytes e) ≡ e
-unfolding readEntry entryBytes part toLe
-read-entryBytes e f =
-    rw (
-      le-toLe 8 (e .pair .s) (f .pair .s),
-      le-toLe 8 (e .pair .x) (f .pair .x),
-      le-toLe 2 (e .mark .desk) (f .mark .desk),
-      le-toLe 4 (e .mark .transaction) (f .mark .transaction),
-      le-toLe 2 (e .edition) (f .edition),
-      le-toLe 2 (e .from) (f .from),
-      le-toLe 2 (e .original) (f .original),
-      le-toLe 2 (e .translation) (f .translation),
-    )
+module _ (card : Card) where
+  from-back : (f : Format) (t : ℕ) → t < translations f → view t card .from < 65536 → field (fromsAt f + 2 * t) 2 (cardEntry f card) ≡ view t card .from
+  unfolding entryBytes part toLe spread table
+  from-back V1 zero h e = le-toLe 2 (view 0 card .from) e
+  from-back V1 (suc t) h e = absurd (omega arith)
+  from-back V2 zero h e = le-toLe 2 (view 0 card .from) e
+  from-back V2 (suc zero) h e = le-toLe 2 (view 1 card .from) e
+  from-back V2 (suc (suc zero)) h e = le-toLe 2 (view 2 card .from) e
+  from-back V2 (suc (suc (suc zero))) h e = le-toLe 2 (view 3 card .from) e
+  from-back V2 (suc (suc (suc (suc t)))) h e = absurd (omega arith)
+
+  length-back : (f : Format) (t : ℕ) → t < translations f → view t card .translation < 65536 →
+      field (lengthsAt f + 2 * t) 2 (cardEntry f card) ≡ view t card .translation
+  unfolding entryBytes part toLe spread table
+  length-back V1 zero h e = le-toLe 2 (view 0 card .translation) e
+  length-back V1 (suc t) h e = absurd (omega arith)
+  length-back V2 zero h e = le-toLe 2 (view 0 card .translation) e
+  length-back V2 (suc zero) h e = le-toLe 2 (view 1 card .translation) e
+  length-back V2 (suc (suc zero)) h e = le-toLe 2 (view 2 card .translation) e
+  length-back V2 (suc (suc (suc zero))) h e = le-toLe 2 (view 3 card .translation) e
+  length-back V2 (suc (suc (suc (suc t)))) h e = absurd (omega arith)
+
+  -- The entry that the bytes of an entry stand for.
+  pub read-entryBytes : (f : Format) (t : ℕ) → t < translations f → FitsEntry (view t card) → readEntry f t (cardEntry f card) ≡ view t card
+  unfolding readEntry entryBytes part toLe spread table
+  read-entryBytes V1 t h e =
+      rw (
+        from-back V1 t h (e .from),
+        length-back V1 t h (e .translation),
+        le-toLe 8 (card .pair .s) (e .pair .s),
+        le-toLe 8 (card .pair .x) (e .pair .x),
+        le-toLe 2 (card .mark .desk) (e .mark .desk),
+        le-toLe 4 (card .mark .transaction) (e .mark .transaction),
+        le-toLe 2 (card .edition) (e .edition),
+        le-toLe 2 (length (card .original)) (e .original),
+      )
+  read-entryBytes V2 t h e =
+      rw (
+        from-back V2 t h (e .from),
+        length-back V2 t h (e .translation),
+        le-toLe 8 (card .pair .s) (e .pair .s),
+        le-toLe 8 (card .pair .x) (e .pair .x),
+        le-toLe 2 (card .mark .desk) (e .mark .desk),
+        le-toLe 4 (card .mark .transaction) (e .mark .transaction),
+        le-toLe 2 (card .edition) (e .edition),
+        le-toLe 2 (length (card .original)) (e .original),
+      )
 
 -- A number's bytes, read and written again.
 pub again : (at n : ℕ) (l : List ℕ) → Bytes l → at + n ≤ length l → toLe n (field at n l) ≡ part at n l
 again at n l b h =
     ap (λ (m : ℕ). toLe m (field at n l)) (sym (length-part at n l h)) ∙ toLe-le (part at n l) (Bytes-part at n l b)
 
--- The bytes of the entry that 32 bytes stand for, where the zero field is zero.
-pub entryBytes-read : (l : List ℕ) → Bytes l → length l ≡ entrySize → field 18 2 l ≡ 0 → entryBytes (readEntry l) ≡ l
-unfolding entryBytes readEntry
-entryBytes-read l b long none =
-    let zero-field : toLe 2 0 ≡ part 18 2 l = ap (toLe 2) (sym none) ∙ again 18 2 l b (omega arith) in
-    rw (
-      zero-field,
-      again 0 8 l b (omega arith),
-      again 8 8 l b (omega arith),
-      again 16 2 l b (omega arith),
-      again 20 4 l b (omega arith),
-      again 24 2 l b (omega arith),
-      again 26 2 l b (omega arith),
-      again 28 2 l b (omega arith),
-      again 30 2 l b (omega arith),
-      ← part-join 0 8 8 l,
-      ← part-join 16 2 2 l,
-      ← part-join 16 4 4 l,
-      ← part-join 0 16 8 l,
-      ← part-join 24 2 2 l,
-      ← part-join 24 4 2 l,
-      ← part-join 24 6 2 l,
-      ← part-join 0 24 8 l,
-    )
-    (part-whole entrySize l long)
+-- The bytes of the entry that bytes stand for, where what is to be zero is zero.
+module _ (l : List ℕ) (b : Bytes l) where
+  -- The pair and the mark, and numbers of two bytes from 24 on.
+  front : 24 ≤ length l → field 18 2 l ≡ 0 →
+      toLe 8 (field 0 8 l) ++ toLe 8 (field 8 8 l) ++ (toLe 2 (field 16 2 l) ++ toLe 2 0 ++ toLe 4 (field 20 4 l)) ≡ part 0 24 l
+  front long none =
+      let zero-field : toLe 2 0 ≡ part 18 2 l = ap (toLe 2) (sym none) ∙ again 18 2 l b (omega arith) in
+      rw (
+        zero-field,
+        again 0 8 l b (omega arith),
+        again 8 8 l b (omega arith),
+        again 16 2 l b (omega arith),
+        again 20 4 l b (omega arith),
+        ← part-join 0 8 8 l,
+        ← part-join 16 2 2 l,
+        ← part-join 16 4 4 l,
+        ← part-join 0 16 8 l,
+      )
+
+  numbers : (n : ℕ) → 24 + n * 2 ≤ length l → spread (toLe 2) (table (λ i. field (24 + i * 2) 2 l) n) ≡ part 24 (n * 2) l
+  numbers n long =
+      spread-parts (toLe 2) (λ (i : ℕ). field (24 + i * 2) 2 l) 24 2 l n (λ k below. again (24 + k * 2) 2 l b (omega arith))
+
+  -- Two numbers among four zero bytes.
+  blanks : (at : ℕ) → zeros (part at 4 l) ≡ true → (length (part at 4 l) ≡ 4) → (field at 2 l ≡ 0) × (field (at + 2) 2 l ≡ 0)
+  unfolding le part
+  blanks at z long =
+      let all : part at 4 l ≡ replicate 4 0 = zeros-means (part at 4 l) z ∙ ap (λ (n : ℕ). replicate n 0) long in
+      (ap le (sym (take-part at 4 2 l (omega arith)) ∙ ap (take 2) all), ap le (sym (drop-part at 4 2 l) ∙ ap (drop 2) all))
+
+  pub entryBytes-read : (f : Format) → length l ≡ entrySize f → field 18 2 l ≡ 0
+      → zeros (part (entryEnd f) (entrySize f - entryEnd f) l) ≡ true
+      → entryBytes f (λ t. readEntry f t l) ≡ l
+  unfolding entryBytes readEntry table
+  entryBytes-read V1 long none blank =
+      rw (front (omega arith) none) (ap (λ (u : List ℕ). part 0 24 l ++ u) (numbers 4 (omega arith)) ∙ sym (part-join 0 24 8 l) ∙ part-whole 32 l long)
+  entryBytes-read V2 long none blank =
+      let two = blanks 44 blank (length-part 44 4 l (omega arith)) in
+      let last : 0 ∷ 0 ∷ [] ≡ field 44 2 l ∷ field 46 2 l ∷ [] = rw (two .0, two .1) in
+      rw (front (omega arith) none, last) (ap (λ (u : List ℕ). part 0 24 l ++ u) (numbers 12 (omega arith)) ∙ sym (part-join 0 24 24 l) ∙ part-whole 48 l long)
+
+-- An entry's bytes go by what is seen in the version's own languages.
+pub entryBytes-ext : (f : Format) (see other : ℕ → Entry) → ((t : ℕ) → t < translations f → see t ≡ other t) → entryBytes f see ≡ entryBytes f other
+unfolding entryBytes table
+entryBytes-ext V1 see other same = rw (same 0 (lit< tt))
+entryBytes-ext V2 see other same = rw (same 0 (lit< tt), same 1 (lit< tt), same 2 (lit< tt), same 3 (lit< tt))
 
 -- ---- a text and its body
 

@@ -10,6 +10,7 @@ use native.Mathlib.Omega.{arith}
 use Rattle.lists.specs.Le.{le}
 use Rattle.lists.proofs.Parts.{part-take}
 use Rattle.lists.proofs.Tests.{to-T, and-left, and-right}
+use Rattle.formats.specs.declared.Format.the-variants.{V1}
 use Rattle.image.specs.Layout.{headerSize, mostBytes, mostRoom}
 use Rattle.image.specs.Bytes.{countOf, roomOf}
 use Rattle.image.specs.Image.{sound, claimed, goodFront, frontSize, frontOf}
@@ -28,7 +29,7 @@ module _ (bytes : List ℕ) where
     front-cut h = rw (le-leb headerSize (length bytes) header, lt-leb (claimed bytes) (length bytes) (rw is at h))
 
     -- As sound as the bytes that the header claims.
-    pub front-sound : size ≤ length bytes → goodFront bytes ≡ sound (take size bytes)
+    pub front-sound : size ≤ length bytes → goodFront bytes ≡ sound V1 (take size bytes)
     unfolding goodFront
     front-sound h = rw (le-leb headerSize (length bytes) header, le-leb (claimed bytes) (length bytes) (rw is at h), is)
 
@@ -50,19 +51,19 @@ pub record Fronting (bytes : List ℕ) : Type 0 where
   pub within : claimed bytes ≤ length bytes
   pub small : claimed bytes ≤ mostBytes
   pub room : roomOf bytes ≤ mostRoom
-  pub sounds : sound (take (claimed bytes) bytes) ≡ true
+  pub sounds : sound V1 (take (claimed bytes) bytes) ≡ true
   pub same : roomOf (take (claimed bytes) bytes) ≡ roomOf bytes
 
 pub good-front : (bytes : List ℕ) → goodFront bytes ≡ true → Fronting bytes
 unfolding goodFront
 good-front bytes e =
-    let ab = and-left (leb headerSize (length bytes) && leb (claimed bytes) (length bytes)) (sound (take (claimed bytes) bytes)) e in
+    let ab = and-left (leb headerSize (length bytes) && leb (claimed bytes) (length bytes)) (sound V1 (take (claimed bytes) bytes)) e in
     let a = leb→le headerSize (length bytes) (to-T (and-left (leb headerSize (length bytes)) (leb (claimed bytes) (length bytes)) ab)) in
     let b = leb→le (claimed bytes) (length bytes) (to-T (and-right (leb headerSize (length bytes)) (leb (claimed bytes) (length bytes)) ab)) in
-    let s = and-right (leb headerSize (length bytes) && leb (claimed bytes) (length bytes)) (sound (take (claimed bytes) bytes)) e in
+    let s = and-right (leb headerSize (length bytes) && leb (claimed bytes) (length bytes)) (sound V1 (take (claimed bytes) bytes)) e in
     let n : countOf (take (claimed bytes) bytes) ≡ countOf bytes = ap le (part-take 6 2 (claimed bytes) bytes (omega arith)) in
     let r : roomOf (take (claimed bytes) bytes) ≡ roomOf bytes = ap le (part-take 8 2 (claimed bytes) bytes (omega arith)) in
-    let w = shape (countOf (take (claimed bytes) bytes)) (roomOf (take (claimed bytes) bytes)) (shape-holds (take (claimed bytes) bytes) (to-T s)) in
+    let w = shape V1 (countOf (take (claimed bytes) bytes)) (roomOf (take (claimed bytes) bytes)) (shape-holds V1 (take (claimed bytes) bytes) (to-T s)) in
     record {
       size = rw e;
       cards-said = rw e;

@@ -16,8 +16,11 @@ use Rattle.stamps.specs.declared.Pair.{Pair}
 use Rattle.guard.specs.Entry.{entrySound, FitsEntry}
 use Rattle.guard.specs.declared.Entry.{Entry}
 use Rattle.image.specs.declared.Dimensions.{Dimensions}
-use Rattle.image.specs.Layout.{translations, sides, sizeOf, shapeOk, entryPlace, bodyPlace, headerSize}
-use Rattle.image.specs.Bytes.{countOf, roomOf, entryAt, magic, version, header, entryBytes, pad}
+use Rattle.formats.specs.declared.Format.{Format}
+use Rattle.formats.specs.declared.Format.the-variants.{V1}
+use Rattle.formats.specs.Format.{version, translations, entrySize}
+use Rattle.image.specs.Layout.{sides, sizeOf, shapeOk, entryPlace, entryEnd, bodyPlace, headerSize}
+use Rattle.image.specs.Bytes.{countOf, roomOf, entryAt, magic, header, entryBytes, pad}
 
 -- A translation of a card: the edition that it was made from, and its text.
 pub record Translation : Type 0 where
@@ -70,120 +73,127 @@ abbrev pub text : Language → Card → List ℕ
 text l card = sideText (sideOf l) card
 
 -- A card with nothing on it.
-abbrev pub noCard : Card
-noCard = record { pair = noPair; mark = noMark; edition = 0; original = []; translated = replicate translations noTranslation }
+abbrev pub noCard : Format → Card
+noCard f =
+    record { pair = noPair; mark = noMark; edition = 0; original = []; translated = replicate (translations f) noTranslation }
 
 -- The cards with another card at place k: every other card stays.
 abbrev pub withCard : ℕ → Card → Cards → Cards
 withCard k card cs = record { room = cs .room; cards = set (cs .cards) k card }
 
--- A card by the rules: as many translations as a card has, in each of them a sound entry, and texts of bytes.
-pub record GoodCard (room : ℕ) (card : Card) : Type 0 where
-  pub count : length (card .translated) ≡ translations
-  pub fits : (t : ℕ) → t < translations → FitsEntry (view t card)
-  pub rules : (t : ℕ) → t < translations → T (entrySound room (view t card))
+-- A card by the rules: as many translations as its version has, in each of them a sound entry, and texts of bytes.
+pub record GoodCard (f : Format) (room : ℕ) (card : Card) : Type 0 where
+  pub count : length (card .translated) ≡ translations f
+  pub fits : (t : ℕ) → t < translations f → FitsEntry (view t card)
+  pub rules : (t : ℕ) → t < translations f → T (entrySound room (view t card))
   pub bytes : (side : ℕ) → Bytes (sideText side card)
 
 -- Cards by the rules: N and C within the limits, and each card.
-pub record GoodCards (cs : Cards) : Type 0 where
-  pub shape : T (shapeOk (length (cs .cards)) (cs .room))
-  pub each : (k : ℕ) → k < length (cs .cards) → GoodCard (cs .room) (getD (cs .cards) k noCard)
+pub record GoodCards (f : Format) (cs : Cards) : Type 0 where
+  pub shape : T (shapeOk f (length (cs .cards)) (cs .room))
+  pub each : (k : ℕ) → k < length (cs .cards) → GoodCard f (cs .room) (getD (cs .cards) k (noCard f))
 
 -- The bytes of a card's entry, and its bodies side by side.
-abbrev pub cardEntry : Card → List ℕ
-cardEntry card = entryBytes (view 0 card)
+abbrev pub cardEntry : Format → Card → List ℕ
+cardEntry f card = entryBytes f (λ t. view t card)
 
-unfoldable pub bodies : ℕ → Card → List ℕ
-bodies room card = spread (pad room) (table (λ side. sideText side card) sides)
+unfoldable pub bodies : Format → ℕ → Card → List ℕ
+bodies f room card = spread (pad room) (table (λ side. sideText side card) (sides f))
 
 -- The bytes of cards (rules 2.3 to 2.5): the header, the entries, then the bodies card by card.
-unfoldable pub encode : Cards → List ℕ
-encode cs =
-    header (length (cs .cards)) (cs .room)
-    ++ spread cardEntry (cs .cards)
-    ++ spread (bodies (cs .room)) (cs .cards)
+unfoldable pub encode : Format → Cards → List ℕ
+encode f cs =
+    header f (length (cs .cards)) (cs .room)
+    ++ spread (cardEntry f) (cs .cards)
+    ++ spread (bodies f (cs .room)) (cs .cards)
 
 -- The length bytes of a side's body.
-abbrev pub bodyAt : List ℕ → ℕ → ℕ → ℕ → List ℕ
-bodyAt image k side count = part (bodyPlace (countOf image) (roomOf image) k side) count image
+abbrev pub bodyAt : Format → List ℕ → ℕ → ℕ → ℕ → List ℕ
+bodyAt f image k side count = part (bodyPlace f (countOf image) (roomOf image) k side) count image
 
--- Card k: what its entry says, and its texts. Its one translation is the entry's.
-abbrev pub translationAt : List ℕ → ℕ → Translation
-translationAt image k = record { from = entryAt image k .from; text = bodyAt image k 1 (entryAt image k .translation) }
+-- Card k: what its entry says, its original, and each translation with its text.
+abbrev pub translationAt : Format → List ℕ → ℕ → ℕ → Translation
+translationAt f image k t =
+    record { from = entryAt f image k t .from; text = bodyAt f image k (suc t) (entryAt f image k t .translation) }
 
-unfoldable pub cardAt : List ℕ → ℕ → Card
-cardAt image k =
+unfoldable pub cardAt : Format → List ℕ → ℕ → Card
+cardAt f image k =
     record {
-      pair = entryAt image k .pair;
-      mark = entryAt image k .mark;
-      edition = entryAt image k .edition;
-      original = bodyAt image k 0 (entryAt image k .original);
-      translated = translationAt image k ∷ [];
+      pair = entryAt f image k 0 .pair;
+      mark = entryAt f image k 0 .mark;
+      edition = entryAt f image k 0 .edition;
+      original = bodyAt f image k 0 (entryAt f image k 0 .original);
+      translated = table (translationAt f image k) (translations f);
     }
 
 -- The cards that an image holds.
-unfoldable pub decode : List ℕ → Cards
-decode image = record { room = roomOf image; cards = table (cardAt image) (countOf image) }
+unfoldable pub decode : Format → List ℕ → Cards
+decode f image = record { room = roomOf image; cards = table (cardAt f image) (countOf image) }
 
 -- Behind a text its body has zeros (rule 2.6).
-unfoldable pub tailZero : List ℕ → ℕ → ℕ → ℕ → Bool
-tailZero image k side count =
-    zeros (part (bodyPlace (countOf image) (roomOf image) k side + count) (roomOf image - count) image)
+unfoldable pub tailZero : Format → List ℕ → ℕ → ℕ → ℕ → Bool
+tailZero f image k side count =
+    zeros (part (bodyPlace f (countOf image) (roomOf image) k side + count) (roomOf image - count) image)
 
--- Card k is sound: its entry by the rules, its zero field, and both tails.
-unfoldable pub cardSound : List ℕ → ℕ → Bool
-cardSound image k =
+-- The entry of card k is by the rules as seen in translation t, and behind that text there are zeros.
+unfoldable pub translationSound : Format → List ℕ → ℕ → ℕ → Bool
+translationSound f image k t =
+    entrySound (roomOf image) (entryAt f image k t) && tailZero f image k (suc t) (entryAt f image k t .translation)
+
+-- Card k is sound: its zero field, the zeros behind its entry's numbers, each translation, and the original's tail.
+unfoldable pub cardSound : Format → List ℕ → ℕ → Bool
+cardSound f image k =
     all
-    (eqb (field (entryPlace k + 18) 2 image) 0
-    ∷ entrySound (roomOf image) (entryAt image k)
-    ∷ tailZero image k 0 (entryAt image k .original)
-    ∷ tailZero image k 1 (entryAt image k .translation)
+    (eqb (field (entryPlace f k + 18) 2 image) 0
+    ∷ zeros (part (entryPlace f k + entryEnd f) (entrySize f - entryEnd f) image)
+    ∷ every (translationSound f image k) (translations f)
+    ∷ tailZero f image k 0 (entryAt f image k 0 .original)
     ∷ [])
 
 -- The header by the rules, with N and C within the limits, and as many bytes as they give (rules 2.2, 2.3 and 2.6).
-unfoldable pub headerSound : List ℕ → Bool
-headerSound image =
+unfoldable pub headerSound : Format → List ℕ → Bool
+headerSound f image =
     all
     (eqb (field 0 4 image) (le magic)
-    ∷ eqb (field 4 2 image) version
-    ∷ shapeOk (countOf image) (roomOf image)
+    ∷ eqb (field 4 2 image) (version f)
+    ∷ shapeOk f (countOf image) (roomOf image)
     ∷ zeros (part 10 6 image)
-    ∷ eqb (length image) (sizeOf (countOf image) (roomOf image))
+    ∷ eqb (length image) (sizeOf f (countOf image) (roomOf image))
     ∷ [])
 
--- An image is sound.
-unfoldable pub sound : List ℕ → Bool
-sound image = headerSound image && every (cardSound image) (countOf image)
+-- An image of a version is sound.
+unfoldable pub sound : Format → List ℕ → Bool
+sound f image = headerSound f image && every (cardSound f image) (countOf image)
 
 -- ---- A fresh image, and when one is made (rule 2.7).
 
 -- Rule 2.7: zeros behind the header.
-unfoldable pub fresh : ℕ → ℕ → List ℕ
-fresh n c = header n c ++ replicate (sizeOf n c - headerSize) 0
+unfoldable pub fresh : Format → ℕ → ℕ → List ℕ
+fresh f n c = header f n c ++ replicate (sizeOf f n c - headerSize) 0
 
 -- The cards of a fresh image.
-unfoldable pub freshCards : ℕ → ℕ → Cards
-freshCards n c = record { room = c; cards = replicate n noCard }
+unfoldable pub freshCards : Format → ℕ → ℕ → Cards
+freshCards f n c = record { room = c; cards = replicate n (noCard f) }
 
 -- Rule 2.7: when an image is made, and the number if it is not.
-unfoldable pub makes : ℕ → ℕ → ℕ → Bool
-makes n c lent = shapeOk n c && eqb lent (sizeOf n c)
+unfoldable pub makes : Format → ℕ → ℕ → ℕ → Bool
+makes f n c lent = shapeOk f n c && eqb lent (sizeOf f n c)
 
 abbrev pub NOT-MADE : ℕ
 NOT-MADE = 14
 
-abbrev pub makeNumber : ℕ → ℕ → ℕ → ℕ
-makeNumber n c lent = cond (makes n c lent) 0 NOT-MADE
+abbrev pub makeNumber : Format → ℕ → ℕ → ℕ → ℕ
+makeNumber f n c lent = cond (makes f n c lent) 0 NOT-MADE
 
--- ---- The image in front of some bytes (rule 2.9).
+-- ---- The image in front of some bytes (rule 2.9), of version 1.
 
 -- How long an image is by its own header.
 abbrev pub claimed : List ℕ → ℕ
-claimed bytes = sizeOf (countOf bytes) (roomOf bytes)
+claimed bytes = sizeOf V1 (countOf bytes) (roomOf bytes)
 
 -- The bytes begin with a sound image: they have a whole header, and as many bytes as it claims, which are sound.
 unfoldable pub goodFront : List ℕ → Bool
-goodFront bytes = leb headerSize (length bytes) && leb (claimed bytes) (length bytes) && sound (take (claimed bytes) bytes)
+goodFront bytes = leb headerSize (length bytes) && leb (claimed bytes) (length bytes) && sound V1 (take (claimed bytes) bytes)
 
 -- The image in front: its size, its N and its C; zeros where the bytes begin with no sound image. (No image has size 0.)
 abbrev pub frontSize : List ℕ → ℕ

@@ -5,6 +5,8 @@ use mathlib.Core.List.{[], _∷_}
 use mathlib.Core.Bool.{Bool}
 use lib.Dec.{leb, eqb}
 use Rattle.lists.specs.Table.{all}
+use Rattle.formats.specs.declared.Format.{Format}
+use Rattle.formats.specs.Format.{translations, entrySize, lengthsAt}
 
 -- The limits of N, C and the whole (rule 2.2).
 abbrev pub mostCards : ℕ
@@ -22,37 +24,34 @@ roomStep = 16
 abbrev pub mostBytes : ℕ
 mostBytes = 65536
 
--- The sizes of a header and of an entry (rules 2.3 and 2.4).
+-- The size of a header (rule 2.3).
 abbrev pub headerSize : ℕ
 headerSize = 16
 
-abbrev pub entrySize : ℕ
-entrySize = 32
+-- How many bodies a card has: side 0 is the original's, side t + 1 that of translation t (rule 2.5).
+abbrev pub sides : Format → ℕ
+sides f = suc (translations f)
 
--- How many translations a card has, and how many bodies: side 0 is the original's, side t + 1 that of translation t (rule 2.5).
-abbrev pub translations : ℕ
-translations = 1
+abbrev pub sizeOf : Format → ℕ → ℕ → ℕ
+sizeOf f n c = headerSize + entrySize f * n + sides f * c * n
 
-abbrev pub sides : ℕ
-sides = suc translations
-
-abbrev pub sizeOf : ℕ → ℕ → ℕ
-sizeOf n c = headerSize + entrySize * n + sides * c * n
-
-unfoldable pub shapeOk : ℕ → ℕ → Bool
-shapeOk n c =
+unfoldable pub shapeOk : Format → ℕ → ℕ → Bool
+shapeOk f n c =
     all
     (leb 1 n
     ∷ leb n mostCards
     ∷ leb leastRoom c
     ∷ leb c mostRoom
     ∷ eqb (c % roomStep) 0
-    ∷ leb (sizeOf n c) mostBytes
+    ∷ leb (sizeOf f n c) mostBytes
     ∷ [])
 
--- Where an entry stands, and where the body of a card's side stands.
-abbrev pub entryPlace : ℕ → ℕ
-entryPlace k = headerSize + entrySize * k
+-- Where an entry stands, where its numbers end in it, and where the body of a card's side stands.
+abbrev pub entryPlace : Format → ℕ → ℕ
+entryPlace f k = headerSize + entrySize f * k
 
-abbrev pub bodyPlace : ℕ → ℕ → ℕ → ℕ → ℕ
-bodyPlace n c k side = headerSize + entrySize * n + (sides * k + side) * c
+abbrev pub entryEnd : Format → ℕ
+entryEnd f = lengthsAt f + 2 * translations f
+
+abbrev pub bodyPlace : Format → ℕ → ℕ → ℕ → ℕ → ℕ
+bodyPlace f n c k side = headerSize + entrySize f * n + (sides f * k + side) * c

@@ -1,3 +1,4 @@
 pub mod Layout
 pub mod Bytes
 pub mod Image
+pub mod Write

@@ -5,23 +5,25 @@ ghost use mathlib.Core.Path.{_≡_};
 ghost use Rattle.image.specs.Image.{sound, frontOf, makeNumber, fresh};
 ghost use lib.ListN.{length};
 ghost use Rattle.lists.specs.Table.{settled};
+ghost use Rattle.formats.specs.declared.Format.the-variants.{V1};
+use formats::Format;
 
 // ---- The image: the bytes of a store's cards.
 
-// Whether any bytes are a sound image.
-pub fn sound(image: &[u8]) -> bool
-    ensures { λ r. ⌜ r ≡ sound (now (image .entry)) ⌝ }
+// Whether any bytes are a sound image of a version.
+pub fn sound_as(f: Format, image: &[u8]) -> bool
+    ensures { λ r. ⌜ r ≡ sound f (now (image .entry)) ⌝ }
 {
     if image.len() < inner::layout::HEADER {
         return false;
     }
-    if !inner::rules::header_sound(image) {
+    if !inner::rules::header_sound(f, image) {
         return false;
     }
     let n = inner::read::count(image);
     let mut k: u16 = 0;
     while k < n {
-        if !inner::rules::card_sound(image, k) {
+        if !inner::rules::card_sound(f, image, k) {
             return false;
         }
         k += 1;
@@ -29,7 +31,14 @@ pub fn sound(image: &[u8]) -> bool
     true
 }
 
-// ---- The image in front of some bytes.
+// Whether any bytes are a sound image of version 1.
+pub fn sound(image: &[u8]) -> bool
+    ensures { λ r. ⌜ r ≡ sound V1 (now (image .entry)) ⌝ }
+{
+    sound_as(Format::V1, image)
+}
+
+// ---- The image in front of some bytes, of version 1.
 
 // The size of an image, how many cards it has, and the room that each of its texts has.
 pub struct Dimensions {
@@ -58,7 +67,7 @@ pub fn front(bytes: &[u8]) -> Dimensions
     }
     let cards = inner::read::count(bytes);
     let room = inner::read::room(bytes);
-    let size = inner::layout::size_of(cards, room);
+    let size = inner::layout::size_of(Format::V1, cards, room);
     if bytes.len() < size {
         return nothing();
     }
@@ -75,20 +84,29 @@ pub const MADE: u8 = 0;
 
 pub const NOT_MADE: u8 = 14;
 
-// Makes a fresh image, and answers MADE; or answers NOT_MADE and writes nothing, if N, C or the lent length breaks the rules.
-pub fn make(image: &mut [u8], cards: usize, room: usize) -> u8
-    ensures number { λ r. ⌜ r ≡ makeNumber cards room (length (now (image .entry))) ⌝ }
+// Makes a fresh image of a version, and answers MADE; or answers NOT_MADE and writes nothing, if N, C or the lent length breaks the rules.
+pub fn make_as(f: Format, image: &mut [u8], cards: usize, room: usize) -> u8
+    ensures number { λ r. ⌜ r ≡ makeNumber f cards room (length (now (image .entry))) ⌝ }
     ensures bytes { λ r. ⌜ now (image .exit)
-        ≡ settled (makeNumber cards room (length (now (image .entry)))) (fresh cards room) (now (image .entry)) ⌝ }
+        ≡ settled (makeNumber f cards room (length (now (image .entry)))) (fresh f cards room) (now (image .entry)) ⌝ }
 {
-    if !inner::layout::shape_ok(cards, room) {
+    if !inner::layout::shape_ok(f, cards, room) {
         return NOT_MADE;
     }
     let n = cards as u16;
     let c = room as u16;
-    if image.len() != inner::layout::size_of(n, c) {
+    if image.len() != inner::layout::size_of(f, n, c) {
         return NOT_MADE;
     }
-    inner::fresh::fill(image, n, c);
+    inner::fresh::fill(f, image, n, c);
     MADE
+}
+
+// Makes a fresh image of version 1, as `make_as` does.
+pub fn make(image: &mut [u8], cards: usize, room: usize) -> u8
+    ensures number { λ r. ⌜ r ≡ makeNumber V1 cards room (length (now (image .entry))) ⌝ }
+    ensures bytes { λ r. ⌜ now (image .exit)
+        ≡ settled (makeNumber V1 cards room (length (now (image .entry)))) (fresh V1 cards room) (now (image .entry)) ⌝ }
+{
+    make_as(Format::V1, image, cards, room)
 }

@@ -7,12 +7,12 @@ use Rattle.guard.specs.Entry.{entrySound}
 use Rattle.image_claims.specs.Cases.{Limits, Changes}
 use Rattle.image.specs.Layout.{shapeOk}
 use Rattle.image.specs.Bytes.{header, entryBytes, pad, readEntry, entryAt}
-use Rattle.image.specs.Image.{bodies, encode, tailZero, cardSound, headerSound, sound, makes}
+use Rattle.image.specs.Image.{bodies, encode, tailZero, translationSound, cardSound, headerSound, sound, makes}
 
 pub limits-hold : Limits
 unfolding makes shapeOk all allFrom
 limits-hold = refl
 
 pub changes-hold : Changes
-unfolding sound headerSound cardSound tailZero entryAt readEntry encode bodies pad entryBytes header shapeOk entrySound all allFrom le toLe part spread table every zeros
+unfolding sound headerSound cardSound translationSound tailZero entryAt readEntry encode bodies pad entryBytes header shapeOk entrySound all allFrom le toLe part spread table every zeros
 changes-hold = refl

@@ -1,88 +1,98 @@
--- The claims on images and cards, proved. Assumes nothing.
+-- The claims on images and cards, proved for each version. Assumes nothing.
 use Prim.Native.Nat.{ℕ, zero, suc, _+_, _*_, _-_, _/_, _<_}
 use native.Mathlib.Omega.{arith}
 use mathlib.Core.Path.{_≡_, refl, sym, ap, _∙_, subst}
 use mathlib.Core.List.{List, [], append-assoc}
 use mathlib.Core.Bool.{Bool, true, false}
-use lib.Dec.{T, lit<, leb·zero}
-use lib.ListN.{length, drop, getD, replicate, length-replicate, getD-replicate, replicate-append-replicate}
+use borrow.Author.Tests.{eqb-true, ne-eqb}
+use lib.Dec.{T, eqb, lit<, leb·zero}
+use lib.ListN.{length, drop, getD, replicate, length-replicate, getD-replicate, replicate-append-replicate, List·getD-eq-default}
 use lib.Seq.{drop-at}
 use Rattle.lists.specs.Parts.{spread, table, Bytes}
-use Rattle.lists.specs.Le.{toLe}
+use Rattle.lists.specs.Le.{toLe, field}
 use Rattle.lists.proofs.Spread.{table-ext, table-is, spread-replicate}
-use Rattle.lists.proofs.Tests.{to-T, from-T}
+use Rattle.lists.proofs.Tests.{to-T, from-T, all-out, all-fails-at}
 use Rattle.lists.specs.Table.{all, allFrom, listed}
 use Rattle.lists.proofs.Bytes.{Bytes-nil, zeros-at, zeros-replicate}
 use Rattle.guard.specs.Entry.{entrySound, noEntry, FitsEntry}
 use Rattle.guard.specs.declared.Entry.{Entry}
-use Rattle.image.specs.Image.{Card, Translation, noTranslation, translationOf, view, sideText, noCard, cardEntry, bodies, encode, cardAt, decode, sound, fresh}
-use Rattle.image.specs.Layout.{shapeOk, sizeOf, headerSize, entrySize, translations, sides}
+use Rattle.formats.specs.declared.Format.{Format}
+use Rattle.formats.specs.declared.Format.the-variants.{V1, V2}
+use Rattle.formats.specs.Format.{version, entrySize, translations}
+use Rattle.image.specs.Layout.{sides, shapeOk, sizeOf, headerSize}
 use Rattle.image.specs.Bytes.{header, entryBytes, pad, countOf}
-use Rattle.image.specs.Image.{freshCards, GoodCard, GoodCards, makes, makeNumber}
-use Rattle.image_claims.specs.Claims.{SoundReadsBack, GoodEncodes, OneImage, FreshSound, LargestImage, makeNumbers, MakeListed}
+use Rattle.image.specs.Image.{Card, Translation, translationOf, noTranslation, view, sideText, noCard, cardEntry, bodies, encode, cardAt, decode, headerSound, sound, fresh, GoodCard, GoodCards, freshCards, makes, makeNumber}
+use Rattle.image_claims.specs.Claims.{SoundReadsBack, GoodEncodes, OneImage, OneVersion, FreshSound, LargestImage, makeNumbers, MakeListed}
 use Rattle.image.proofs.Shape.{shape}
 use Rattle.image.proofs.Cards.{Bytes-encode, sound-encode, decode-encode}
 use Rattle.image.proofs.Encode.{length-header, length-encode}
 use Rattle.image.proofs.Written.{take-replicate}
-use Rattle.image.proofs.Decode.{encode-decode, decode-good}
+use Rattle.image.proofs.Decode.{encode-decode, decode-good, header-holds}
 
 pub soundReadsBack : SoundReadsBack
-soundReadsBack image b holds = record { good = decode-good image b holds; same = encode-decode image b holds }
+soundReadsBack f image b holds = record { good = decode-good f image b holds; same = encode-decode f image b holds }
 
 pub goodEncodes : GoodEncodes
-goodEncodes cs good = record { bytes = Bytes-encode cs good; sounds = to-T (sound-encode cs good); same = decode-encode cs good }
+goodEncodes f cs good = record { bytes = Bytes-encode f cs good; sounds = to-T (sound-encode f cs good); same = decode-encode f cs good }
 
 pub oneImage : OneImage
 unfolding decode
-oneImage x y bx by sx sy n c same =
-    let cards : decode x ≡ decode y = rw (← n, ← c, table-ext (cardAt x) (cardAt y) (countOf x) same) in
-    sym (encode-decode x bx sx) ∙ ap encode cards ∙ encode-decode y by sy
+oneImage f x y bx by sx sy n c same =
+    let cards : decode f x ≡ decode f y = rw (← n, ← c, table-ext (cardAt f x) (cardAt f y) (countOf x) same) in
+    sym (encode-decode f x bx sx) ∙ ap (encode f) cards ∙ encode-decode f y by sy
+
+pub oneVersion : OneVersion
+unfolding headerSound sound
+oneVersion image holds =
+    let two : field 4 2 image ≡ 2 = eqb-true (field 4 2 image) 2 (all-out _ (header-holds V2 image holds) 1) in
+    let other : headerSound V1 image ≡ false = all-fails-at _ 1 (ne-eqb (field 4 2 image) 1 (λ one. omega arith)) in
+    rw other
 
 -- ---- a fresh image
 
--- A card with nothing on it, seen in any translation.
-pub no-translation : (t : ℕ) → translationOf t noCard ≡ noTranslation
-no-translation t = go translations t
+-- A card with nothing on it, seen in any language.
+pub no-translation : (f : Format) (t : ℕ) → translationOf t (noCard f) ≡ noTranslation
+no-translation f t = go (translations f) t
   where
     go : (n t : ℕ) → getD (replicate n noTranslation) t noTranslation ≡ noTranslation
     go zero t = refl
     go (suc n) zero = refl
     go (suc n) (suc t) = go n t
 
-pub no-view : (t : ℕ) → view t noCard ≡ noEntry
-no-view t = rw (no-translation t)
+entry-zero : (f : Format) → cardEntry f (noCard f) ≡ replicate (entrySize f) 0
+unfolding entryBytes toLe spread table
+entry-zero V1 = refl
+entry-zero V2 = refl
 
-side-empty : (side : ℕ) → sideText side noCard ≡ []
-side-empty zero = refl
-side-empty (suc t) = ap (λ (u : Translation). u .text) (no-translation t)
+side-empty : (f : Format) (side : ℕ) → sideText side (noCard f) ≡ []
+side-empty f zero = refl
+side-empty f (suc t) = ap (λ (u : Translation). u .text) (no-translation f t)
 
--- Pieces that are all zero.
-entry-zero : cardEntry noCard ≡ replicate entrySize 0
-unfolding entryBytes toLe
-entry-zero = refl
-
-bodies-zero : (c : ℕ) → bodies c noCard ≡ replicate (sides * c) 0
+bodies-zero : (f : Format) (c : ℕ) → bodies f c (noCard f) ≡ replicate (sides f * c) 0
 unfolding bodies pad
-bodies-zero c =
-    let texts : ℕ → List ℕ = λ (side : ℕ). sideText side noCard in
-    let none : List (List ℕ) = replicate sides [] in
-    let empty : table texts sides ≡ none =
-    ap (table texts) (sym (length-replicate {A = List ℕ} sides []))
-    ∙ table-is texts none [] (λ i h. side-empty i ∙ sym (getD-replicate {A = List ℕ} sides i [] [] (subst (λ (n : ℕ). i < n) (length-replicate {A = List ℕ} sides []) h))) in
-    ap (spread (pad c)) empty ∙ spread-replicate (pad c) [] c 0 (take-replicate {A = ℕ} c c 0 (omega arith)) sides
+bodies-zero f c =
+    let texts : ℕ → List ℕ = λ (side : ℕ). sideText side (noCard f) in
+    let none : List (List ℕ) = replicate (sides f) [] in
+    let empty : table texts (sides f) ≡ none =
+    ap (table texts) (sym (length-replicate (sides f) []))
+    ∙ table-is texts none [] (λ i h. side-empty f i ∙ sym (getD-replicate (sides f) i [] [] (subst (λ (n : ℕ). i < n) (length-replicate (sides f) []) h))) in
+    ap (spread (pad c)) empty ∙ spread-replicate (pad c) [] c 0 (take-replicate {A = ℕ} c c 0 (omega arith)) (sides f)
 
-fresh-cards : (n c : ℕ) → encode (freshCards n c) ≡ fresh n c
+fresh-cards : (f : Format) (n c : ℕ) → encode f (freshCards f n c) ≡ fresh f n c
 unfolding encode freshCards fresh
-fresh-cards n c =
-    let rest : n * entrySize + n * (sides * c) ≡ sizeOf n c - headerSize = omega arith in
+fresh-cards f n c =
+    let rest : n * entrySize f + n * (sides f * c) ≡ sizeOf f n c - headerSize = omega arith in
     rw (
-      length-replicate n noCard,
-      spread-replicate cardEntry noCard entrySize 0 entry-zero n,
-      spread-replicate (bodies c) noCard (sides * c) 0 (bodies-zero c) n,
-      append-assoc (header n c) (replicate (n * entrySize) 0) (replicate (n * (sides * c)) 0),
-      replicate-append-replicate {A = ℕ} (n * entrySize) (n * (sides * c)) 0,
+      length-replicate n (noCard f),
+      spread-replicate (cardEntry f) (noCard f) (entrySize f) 0 (entry-zero f) n,
+      spread-replicate (bodies f c) (noCard f) (sides f * c) 0 (bodies-zero f c) n,
+      append-assoc (header f n c) (replicate (n * entrySize f) 0) (replicate (n * (sides f * c)) 0),
+      replicate-append-replicate {A = ℕ} (n * entrySize f) (n * (sides f * c)) 0,
       rest,
     )
+
+no-view : (f : Format) (t : ℕ) → view t (noCard f) ≡ noEntry
+no-view f t = rw (no-translation f t)
 
 pub fits-none : FitsEntry noEntry
 fits-none =
@@ -95,67 +105,67 @@ fits-none =
       translation = lit< tt;
     }
 
-sound-none : (c : ℕ) → T (entrySound c noEntry)
+pub sound-none : (c : ℕ) → T (entrySound c noEntry)
 unfolding entrySound all allFrom
 sound-none c = rw (leb·zero c) tt
 
-no-card : (c : ℕ) → GoodCard c noCard
-no-card c =
+no-card : (f : Format) (c : ℕ) → GoodCard f c (noCard f)
+no-card f c =
     record {
-      count = length-replicate translations noTranslation;
-      fits = λ t h. subst FitsEntry (sym (no-view t)) fits-none;
-      rules = λ t h. subst (λ (e : Entry). T (entrySound c e)) (sym (no-view t)) (sound-none c);
-      bytes = λ side. subst Bytes (sym (side-empty side)) Bytes-nil;
+      count = length-replicate (translations f) noTranslation;
+      fits = λ t h. subst FitsEntry (sym (no-view f t)) fits-none;
+      rules = λ t h. subst (λ (e : Entry). T (entrySound c e)) (sym (no-view f t)) (sound-none c);
+      bytes = λ side. subst Bytes (sym (side-empty f side)) Bytes-nil;
     }
 
-fresh-good : (n c : ℕ) → T (shapeOk n c) → GoodCards (freshCards n c)
+fresh-good : (f : Format) (n c : ℕ) → T (shapeOk f n c) → GoodCards f (freshCards f n c)
 unfolding freshCards
-fresh-good n c ok =
+fresh-good f n c ok =
     record {
-      shape = rw (length-replicate n noCard) ok;
-      each = λ k below. rw (getD-replicate n k noCard noCard (rw (length-replicate n noCard) at below)) (no-card c);
+      shape = rw (length-replicate n (noCard f)) ok;
+      each = λ k below. rw (getD-replicate n k (noCard f) (noCard f) (rw (length-replicate n (noCard f)) at below)) (no-card f c);
     }
 
-fresh-zero : (n c i : ℕ) → getD (drop headerSize (fresh n c)) i 0 ≡ 0
+fresh-zero : (f : Format) (n c i : ℕ) → getD (drop headerSize (fresh f n c)) i 0 ≡ 0
 unfolding fresh
-fresh-zero n c i =
-    let rest = sizeOf n c - headerSize in
-    rw (drop-at (header n c) (replicate rest 0) headerSize (length-header n c)) (zeros-at (replicate rest 0) (zeros-replicate rest) i)
+fresh-zero f n c i =
+    let rest = sizeOf f n c - headerSize in
+    rw (drop-at (header f n c) (replicate rest 0) headerSize (length-header f n c)) (zeros-at (replicate rest 0) (zeros-replicate rest) i)
 
-fresh-long : (n c : ℕ) → length (encode (freshCards n c)) ≡ sizeOf n c
+fresh-long : (f : Format) (n c : ℕ) → length (encode f (freshCards f n c)) ≡ sizeOf f n c
 unfolding freshCards
-fresh-long n c = length-encode (freshCards n c) ∙ rw (length-replicate n noCard)
+fresh-long f n c = length-encode f (freshCards f n c) ∙ rw (length-replicate n (noCard f))
 
 pub freshSound : FreshSound
-freshSound n c ok =
-    let good = fresh-good n c ok in
+freshSound f n c ok =
+    let good = fresh-good f n c ok in
     record {
-      cards = fresh-cards n c;
+      cards = fresh-cards f n c;
       good = good;
-      sounds = subst (λ (image : List ℕ). T (sound image)) (fresh-cards n c) (to-T (sound-encode (freshCards n c) good));
-      zero-after = fresh-zero n c;
-      long = ap length (sym (fresh-cards n c)) ∙ fresh-long n c;
+      sounds = subst (λ (image : List ℕ). T (sound f image)) (fresh-cards f n c) (to-T (sound-encode f (freshCards f n c) good));
+      zero-after = fresh-zero f n c;
+      long = ap length (sym (fresh-cards f n c)) ∙ fresh-long f n c;
     }
 
 -- ---- lengths
 
 -- A room of so many sixteens takes as many times 32 bytes of each card.
-thirty-twos : (n m : ℕ) → sizeOf n (16 * m) ≡ 16 + 32 * (n + m * n)
+thirty-twos : (n m : ℕ) → sizeOf V1 n (16 * m) ≡ 16 + 32 * (n + m * n)
 thirty-twos n m = omega arith
 
 pub largest-image : LargestImage
 largest-image n c ok =
-    let w = shape n c (from-T (shapeOk n c) ok) in
+    let w = shape V1 n c (from-T (shapeOk V1 n c) ok) in
     let sixteens : c ≡ 16 * (c / 16) = let step = w .steps in omega arith in
-    let long : sizeOf n c ≡ 16 + 32 * (n + c / 16 * n) = ap (sizeOf n) sixteens ∙ thirty-twos n (c / 16) in
+    let long : sizeOf V1 n c ≡ 16 + 32 * (n + c / 16 * n) = ap (sizeOf V1 n) sixteens ∙ thirty-twos n (c / 16) in
     let within = w .size in
     record { past-32 = omega (arith, long); most = omega (arith, long, within) }
 
 -- ---- the numbers
 
 pub make-listed : MakeListed
-make-listed n c lent = go (makes n c lent) refl
+make-listed f n c lent = go (makes f n c lent) refl
   where
-    go : (made : Bool) → makes n c lent ≡ made → T (listed makeNumbers (makeNumber n c lent))
+    go : (made : Bool) → makes f n c lent ≡ made → T (listed makeNumbers (makeNumber f n c lent))
     go true e = rw e tt
     go false e = rw e tt

@@ -6,6 +6,7 @@ use mathlib.Core.Path.{_≡_}
 use mathlib.Core.List.{List, [], _∷_, map}
 use mathlib.Core.Bool.{Bool, true, false}
 use lib.ListN.{set}
+use Rattle.formats.specs.declared.Format.the-variants.{V1}
 use Rattle.image.specs.Image.{Cards, encode, sound, makeNumber}
 
 -- N, C, the lent length, and the number that making a fresh image gives.
@@ -54,7 +55,7 @@ limits =
     ∷ []
 
 abbrev pub Limits : Type 0
-Limits = map (λ (a : MakeCase). makeNumber (a .n) (a .c) (a .lent)) limits ≡ map (λ (a : MakeCase). a .number) limits
+Limits = map (λ (a : MakeCase). makeNumber V1 (a .n) (a .c) (a .lent)) limits ≡ map (λ (a : MakeCase). a .number) limits
 
 -- One card with both stamps 1.1.0, the mark of desk 1 and transaction 7, edition 2, a translation from edition 1, and texts of 3 and 2 bytes.
 abbrev pub oneCard : Cards
@@ -130,4 +131,4 @@ changes =
     ∷ []
 
 abbrev pub Changes : Type 0
-Changes = map (λ (a : Changed). sound (set (encode oneCard) (a .place) (a .byte))) changes ≡ map (λ (a : Changed). a .sounds) changes
+Changes = map (λ (a : Changed). sound V1 (set (encode V1 oneCard) (a .place) (a .byte))) changes ≡ map (λ (a : Changed). a .sounds) changes

@@ -10,40 +10,41 @@ use Rattle.commands.specs.Bytes.{fieldsOf, payload, formed, commandBytes}
 use Rattle.guard.specs.Entry.{entrySound}
 use Rattle.guard.specs.Judge.{raise}
 use Rattle.guard.specs.Replies.{replied}
+use Rattle.formats.specs.declared.Format.{Format}
 use Rattle.image.specs.Layout.{shapeOk}
 use Rattle.image.specs.Bytes.{header, entryBytes, pad, readEntry, entryAt}
-use Rattle.image.specs.Image.{bodies, encode, cardAt, decode, tailZero, cardSound, headerSound, sound, fresh}
+use Rattle.image.specs.Image.{bodies, encode, cardAt, decode, tailZero, translationSound, cardSound, headerSound, sound, fresh}
 use Rattle.model.specs.Serve.{stepped, serveBy, serve}
 use Rattle.model.specs.Cases.{run, RunLogged, Trials}
 use Rattle.model.specs.Words.{Sent, eventOf, imageAfter, history}
 
 pub trials-hold : Trials
-unfolding run serve serveBy stepped sound headerSound cardSound tailZero decode cardAt entryAt readEntry encode bodies pad entryBytes header shapeOk fresh replied raise entrySound commandBytes formed payload fieldsOf wellFormed all allFrom le toLe part splice table spread every zeros
+unfolding run serve serveBy stepped sound headerSound cardSound translationSound tailZero decode cardAt entryAt readEntry encode bodies pad entryBytes header shapeOk fresh replied raise entrySound commandBytes formed payload fieldsOf wellFormed all allFrom le toLe part splice table spread every zeros
 trials-hold = refl
 
 -- ---- a run and the log of the same requests
 
-module _ (start : List ℕ) (s : Sent) where
+module _ (f : Format) (start : List ℕ) (s : Sent) where
   abbrev next : List ℕ
-  next = serve start (s .command) (s .lent) .image
+  next = serve f start (s .command) (s .lent) .image
 
-  pub image-first : (l : List Sent) → imageAfter start (l ++ (s ∷ [])) ≡ imageAfter next l
+  pub image-first : (l : List Sent) → imageAfter f start (l ++ (s ∷ [])) ≡ imageAfter f next l
   unfolding imageAfter
   image-first [] = refl
-  image-first (a ∷ l) = ap (λ (i : List ℕ). serve i (a .command) (a .lent) .image) (image-first l)
+  image-first (a ∷ l) = ap (λ (i : List ℕ). serve f i (a .command) (a .lent) .image) (image-first l)
 
-  history-first : (l : List Sent) → history start (l ++ (s ∷ [])) ≡ history next l ++ (eventOf s (serve start (s .command) (s .lent)) ∷ [])
+  history-first : (l : List Sent) → history f start (l ++ (s ∷ [])) ≡ history f next l ++ (eventOf f s (serve f start (s .command) (s .lent)) ∷ [])
   unfolding history imageAfter
   history-first [] = refl
   history-first (a ∷ l) = rw (image-first l, history-first l)
 
 pub run-logged : RunLogged
 unfolding run history
-run-logged start [] = refl
-run-logged start (s ∷ later) =
+run-logged f start [] = refl
+run-logged f start (s ∷ later) =
     rw (
       reverse-cons s later,
-      history-first start s (reverse later),
-      reverse-append (history (next start s) (reverse later)) (eventOf s (serve start (s .command) (s .lent)) ∷ []),
-      run-logged (next start s) later,
+      history-first f start s (reverse later),
+      reverse-append (history f (next f start s) (reverse later)) (eventOf f s (serve f start (s .command) (s .lent)) ∷ []),
+      run-logged f (next f start s) later,
     )

@@ -8,12 +8,15 @@ use mathlib.Core.Bool.{true, false}
 use lib.Dec.{T}
 use lib.ListN.{length, length-replicate, getD-replicate}
 use Rattle.lists.proofs.Tests.{cases}
+use Rattle.formats.specs.declared.Format.{Format}
 use Rattle.image.specs.Image.{Cards, noCard, fresh}
 use Rattle.image.specs.Image.{freshCards}
 use Rattle.image.specs.Layout.{shapeOk}
 use Rattle.image_claims.proofs.Claims.{freshSound}
-use Rattle.model.specs.Words.{Sent, Event, history, logOf, commandOf, late}
+use Rattle.model.specs.Words.{Sent, Event, Received, received, history, logOf, commandOf, late, premise, commandsIn}
 use Rattle.model.specs.Claims.{AllBytes, Claim, Demand3}
+use Rattle.model.specs.Meaning.{Among}
+use Rattle.model.proofs.Meaning.{among-map, among-mapped, among-reverse, premise-within}
 use Rattle.model.proofs.Isolation.{Timely, isolated}
 use Rattle.model.proofs.Machine.{numberOn, eventBy, cardsFrom, eventsFrom, tied-fresh, Ties, ties-more, count-kept}
 use Rattle.model.proofs.Sentences.{Told, told}
@@ -34,40 +37,40 @@ module _ (P : Event → List Event → Type 0) where
 
 -- ---- the run on cards
 
-ties-fresh : (n c : ℕ) → Ties (freshCards n c) []
+ties-fresh : (f : Format) (n c : ℕ) → Ties f (freshCards f n c) []
 unfolding freshCards
-ties-fresh n c k b =
-    rw (getD-replicate n k noCard noCard (subst (λ (m : ℕ). k < m) (length-replicate n noCard) b)) (tied-fresh k)
+ties-fresh f n c k b =
+    rw (getD-replicate n k (noCard f) (noCard f) (subst (λ (m : ℕ). k < m) (length-replicate n (noCard f)) b)) (tied-fresh f k)
 
-module _ (start : Cards) (first : Ties start []) where
-  ties-all : (sent : List Sent) → Ties (cardsFrom start sent) (eventsFrom start sent)
+module _ (f : Format) (start : Cards) (first : Ties f start []) where
+  ties-all : (sent : List Sent) → Ties f (cardsFrom f start sent) (eventsFrom f start sent)
   unfolding cardsFrom eventsFrom
   ties-all [] = first
   ties-all (s ∷ earlier) =
-      ties-more (cardsFrom start earlier) s (eventsFrom start earlier) (ties-all earlier) (numberOn (cardsFrom start earlier) s) refl
+      ties-more f (cardsFrom f start earlier) s (eventsFrom f start earlier) (ties-all earlier) (numberOn f (cardsFrom f start earlier) s) refl
 
-  count-all : (sent : List Sent) → length (cardsFrom start sent .cards) ≡ length (start .cards)
+  count-all : (sent : List Sent) → length (cardsFrom f start sent .cards) ≡ length (start .cards)
   unfolding cardsFrom
   count-all [] = refl
   count-all (s ∷ earlier) =
-      count-kept (numberOn (cardsFrom start earlier) s) (cardsFrom start earlier) s ∙ count-all earlier
+      count-kept f (numberOn f (cardsFrom f start earlier) s) (cardsFrom f start earlier) s ∙ count-all earlier
 
-  told-all : (sent : List Sent) → Along (Told (length (start .cards))) (eventsFrom start sent)
+  told-all : (sent : List Sent) → Along (Told (length (start .cards))) (eventsFrom f start sent)
   unfolding eventsFrom
   told-all [] = tt
   told-all (s ∷ earlier) = (
-    subst (λ (n : ℕ). Told n (eventBy (numberOn (cardsFrom start earlier) s) (cardsFrom start earlier) s) (eventsFrom start earlier)) (count-all earlier)
-        (told (cardsFrom start earlier) s (eventsFrom start earlier) (ties-all earlier)),
+    subst (λ (n : ℕ). Told n (eventBy f (numberOn f (cardsFrom f start earlier) s) (cardsFrom f start earlier) s) (eventsFrom f start earlier)) (count-all earlier)
+        (told f (cardsFrom f start earlier) s (eventsFrom f start earlier) (ties-all earlier)),
     told-all earlier,
   )
 
 -- ---- the log
 
 -- Each event of the log has what was sent.
-whole-history : (start : List ℕ) (sent : List Sent) → map (λ (e : Event). e .sent) (history start sent) ≡ sent
+whole-history : (f : Format) (start : List ℕ) (sent : List Sent) → map (λ (e : Event). e .sent) (history f start sent) ≡ sent
 unfolding history
-whole-history start [] = refl
-whole-history start (s ∷ earlier) = ap (λ (l : List Sent). s ∷ l) (whole-history start earlier)
+whole-history f start [] = refl
+whole-history f start (s ∷ earlier) = ap (λ (l : List Sent). s ∷ l) (whole-history f start earlier)
 
 pub bytes-reverse : (sent more : List Sent) → AllBytes sent → AllBytes more → AllBytes (reverseAux sent more)
 bytes-reverse [] more b m = m
@@ -75,7 +78,7 @@ bytes-reverse (s ∷ sent) more b m = bytes-reverse sent (s ∷ more) (b .1) (b 
 
 -- An accepted event is proper, and not late: a late one is refused as stale.
 timely : (n : ℕ) (e : Event) (before : List Event) → Told n e before → e .answer .number ≡ 0 → Timely n e before
-timely n e before t z = record { proper = t .proper z; prompt = go (cases (late before (commandOf e))) }
+timely n e before t z = record { proper = t .proper z; rules = t .rules (t .proper z); prompt = go (cases (late before (commandOf e))) }
   where
     go : (late before (commandOf e) ≡ true) ⊎ (late before (commandOf e) ≡ false) → late before (commandOf e) ≡ false
     go (inl h) = let stale : e .answer .number ≡ 3 = t .staleness (t .proper z) .1 h in absurd (omega arith)
@@ -87,29 +90,46 @@ claim n sent log whole a =
       whole = whole;
       staleness = λ later e before split p. at later e before split .staleness p;
       aheadness = λ later e before split p h. at later e before split .aheadness p h;
-      behindness = λ later e before t split p r h f m. at later e before split .behindness t p r h f m;
+      behindness = λ later e before t split p r h g m. at later e before split .behindness t p r h g m;
       showing = λ later e before l split z r. at later e before split .showing l z r;
       showing-length = λ later e before l split z r. at later e before split .showing-length l z r;
-      isolation = isolated n sent log whole (λ later e before split z. timely n e before (at later e before split) z);
+      isolation = isolated n log (λ later e before split z. timely n e before (at later e before split) z);
     }
   where
     at : (later : List Event) (e : Event) (before : List Event) → log ≡ later ++ e ∷ before → Told n e before
     at later e before split = along-split (Told n) log later e before a split
 
-pub same-log : (n c : ℕ) → T (shapeOk n c) → (sent : List Sent) → AllBytes sent → logOf n c sent ≡ eventsFrom (freshCards n c) (reverse sent)
+pub same-log : (f : Format) (n c : ℕ) → T (shapeOk f n c) → (sent : List Sent) → AllBytes sent → logOf f n c sent ≡ eventsFrom f (freshCards f n c) (reverse sent)
 unfolding logOf
-same-log n c shape sent b =
-    ap (λ (image : List ℕ). history image (reverse sent)) (sym (freshSound n c shape .cards))
-    ∙ same-events (freshCards n c) (reverse sent) (freshSound n c shape .good) (bytes-reverse sent [] b tt)
+same-log f n c shape sent b =
+    ap (λ (image : List ℕ). history f image (reverse sent)) (sym (freshSound f n c shape .cards))
+    ∙ same-events f (freshCards f n c) (reverse sent) (freshSound f n c shape .good) (bytes-reverse sent [] b tt)
 
-count-fresh : (n c : ℕ) → length (freshCards n c .cards) ≡ n
+count-fresh : (f : Format) (n c : ℕ) → length (freshCards f n c .cards) ≡ n
 unfolding freshCards
-count-fresh n c = length-replicate n noCard
+count-fresh f n c = length-replicate n (noCard f)
 
 pub demand3 : Demand3
 unfolding logOf
-demand3 n c shape sent b =
-    claim n sent (logOf n c sent) (whole-history (fresh n c) (reverse sent))
-    (subst (Along (Told n)) (sym (same-log n c shape sent b))
-    (subst (λ (m : ℕ). Along (Told m) (eventsFrom (freshCards n c) (reverse sent))) (count-fresh n c)
-    (told-all (freshCards n c) (ties-fresh n c) (reverse sent))))
+demand3 f n c shape sent b =
+    claim n sent (logOf f n c sent) (whole-history f (fresh f n c) (reverse sent))
+    (subst (Along (Told n)) (sym (same-log f n c shape sent b))
+    (subst (λ (m : ℕ). Along (Told m) (eventsFrom f (freshCards f n c) (reverse sent))) (count-fresh f n c)
+    (told-all f (freshCards f n c) (ties-fresh f n c) (reverse sent))))
+
+-- ---- the premise on what is sent, and on the log
+
+commands-read : (f : Format) (start : List ℕ) (sent : List Sent) → commandsIn (history f start sent) ≡ map (received f) sent
+unfolding history
+commands-read f start [] = refl
+commands-read f start (s ∷ earlier) = ap (λ (l : List Received). received f s ∷ l) (commands-read f start earlier)
+
+pub premise-logged : (f : Format) (n c k : ℕ) (sent : List Sent) → premise k (map (received f) sent) ≡ true → premise k (commandsIn (logOf f n c sent)) ≡ true
+unfolding logOf
+premise-logged f n c k sent h =
+    premise-within k (map (received f) sent) (commandsIn (history f (fresh f n c) (reverse sent))) back h
+  where
+    back : (r : Received) → Among r (commandsIn (history f (fresh f n c) (reverse sent))) → Among r (map (received f) sent)
+    back r m =
+        let one = among-mapped (received f) (reverse sent) (subst (Among r) (commands-read f (fresh f n c) (reverse sent)) m) in
+        subst (λ (d : Received). Among d (map (received f) sent)) (sym (one .is)) (among-map (received f) {l = sent} (among-reverse {l = sent} (one .among)))

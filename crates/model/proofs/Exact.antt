@@ -7,6 +7,7 @@ use mathlib.Core.List.{List}
 use mathlib.Core.Bool.{_||_}
 use lib.Dec.{T, leb, eqb, leb→le, eqb→eq}
 use lib.ListN.{length}
+use Rattle.formats.specs.declared.Format.{Format}
 use Rattle.guard.specs.Replies.{replied}
 use Rattle.lists.specs.Table.{first, applies, earlier, noRow}
 use Rattle.lists.proofs.Table.{given, unapplied, first-all}
@@ -15,21 +16,21 @@ use Rattle.model.specs.Serve.{serveBy, serve, storeRows}
 use Rattle.model.specs.Claims.{Exactly, Refusals}
 
 -- The answer's number is the table's.
-number-is : (image command reply : List ℕ) → serve image command reply .answer .number ≡ first (storeRows image command (length reply))
+number-is : (f : Format) (image command reply : List ℕ) → serve f image command reply .answer .number ≡ first (storeRows f image command (length reply))
 unfolding serve serveBy replied
-number-is image command reply = refl
+number-is f image command reply = refl
 
 pub exactly : Exactly
-exactly image command reply =
+exactly f image command reply =
     record {
       refused = λ n.
           subst
-          (λ (m : ℕ). (m ≡ suc n) ↔ (T (applies (suc n) (storeRows image command (length reply))) × T (noRow (earlier (suc n) (storeRows image command (length reply))))))
-          (sym (number-is image command reply))
-          (given (storeRows image command (length reply)) tt n);
+          (λ (m : ℕ). (m ≡ suc n) ↔ (T (applies (suc n) (storeRows f image command (length reply))) × T (noRow (earlier (suc n) (storeRows f image command (length reply))))))
+          (sym (number-is f image command reply))
+          (given (storeRows f image command (length reply)) tt n);
       accepts =
-          subst (λ (m : ℕ). (m ≡ 0) ↔ T (noRow (storeRows image command (length reply)))) (sym (number-is image command reply))
-          (unapplied (storeRows image command (length reply)) tt);
+          subst (λ (m : ℕ). (m ≡ 0) ↔ T (noRow (storeRows f image command (length reply)))) (sym (number-is f image command reply))
+          (unapplied (storeRows f image command (length reply)) tt);
     }
 
 -- The list as a test and as a statement.
@@ -42,11 +43,11 @@ in-list n t = go (T-or-cases (leb n 9) (eqb n 17) t)
 
 pub refusals : Refusals
 unfolding serve serveBy
-refusals image command reply =
+refusals f image command reply =
     record {
       listed =
-          in-list (serve image command reply .answer .number)
-          (subst (λ (m : ℕ). T (leb m 9 || eqb m 17)) (sym (number-is image command reply))
-          (first-all (λ n. leb n 9 || eqb n 17) (storeRows image command (length reply)) tt tt));
-      kept = λ n e. let given-number = sym (number-is image command reply) ∙ e in (rw given-number, rw given-number);
+          in-list (serve f image command reply .answer .number)
+          (subst (λ (m : ℕ). T (leb m 9 || eqb m 17)) (sym (number-is f image command reply))
+          (first-all (λ n. leb n 9 || eqb n 17) (storeRows f image command (length reply)) tt tt));
+      kept = λ n e. let given-number = sym (number-is f image command reply) ∙ e in (rw given-number, rw given-number);
     }

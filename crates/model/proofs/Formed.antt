@@ -5,17 +5,18 @@ use mathlib.Core.Bool.{Bool, true, false, _||_, or-false}
 use Prim.Native.Nat.{ℕ}
 use borrow.Author.Tests.{eqb-true}
 use lib.Dec.{eqb}
+use Rattle.formats.specs.declared.Format.{Format}
 use Rattle.commands.specs.Command.{isWrite, wellFormed}
 use Rattle.commands.specs.Bytes.{fieldsOf, formed}
 use Rattle.commands.specs.declared.Command.{Command}
 use Rattle.commands.proofs.CommandBytes.{formedness}
 use Rattle.commands.proofs.Rules.{CommandRules, command-rules}
 
-pub formed-well : (bytes : List ℕ) → formed bytes ≡ true → wellFormed (fieldsOf bytes) ≡ true
-formed-well bytes e = formedness bytes e .rules
+pub formed-well : (f : Format) (bytes : List ℕ) → formed f bytes ≡ true → wellFormed (fieldsOf f bytes) ≡ true
+formed-well f bytes e = formedness f bytes e .rules
 
-pub formed-rules : (bytes : List ℕ) → formed bytes ≡ true → CommandRules (fieldsOf bytes)
-formed-rules bytes e = command-rules (fieldsOf bytes) (formed-well bytes e)
+pub formed-rules : (f : Format) (bytes : List ℕ) → formed f bytes ≡ true → CommandRules (fieldsOf f bytes)
+formed-rules f bytes e = command-rules (fieldsOf f bytes) (formed-well f bytes e)
 
 -- A command that writes nothing has no payload.
 pub no-payload : (c : Command) → CommandRules c → isWrite c ≡ false → c .length ≡ 0

@@ -4,7 +4,7 @@ use Prim.Native.Nat.{ℕ, _<_, _≤_}
 use native.Mathlib.Omega.{arith}
 use mathlib.Core.Path.{_≡_, sym, ap, subst, _∙_}
 use mathlib.Core.Logic.{_⊎_, inl, inr}
-use mathlib.Core.List.{List, _∷_, _++_, map, reverse, append-assoc}
+use mathlib.Core.List.{List, _∷_, _++_, append-assoc}
 use mathlib.Core.Bool.{Bool, true, false, _&&_}
 use borrow.Author.Tests.{eqb-true, eq-eqb, ne-eqb, ltb-false}
 use lib.Dec.{eqb, ltb}
@@ -13,16 +13,16 @@ use Rattle.stamps.specs.Stamp.{shared, exclusive, deskStart, deskOf, own}
 use Rattle.commands.specs.Command.{verifier, update, session, Session}
 use Rattle.commands.specs.declared.Command.{Command}
 use Rattle.stamps.specs.declared.Pair.{Pair}
-use Rattle.model.specs.Words.{Sent, Event, commandOf, accepted, Proper, largerS, largerX, late, carries, sentFor, premise, OneSession, deskIn, intrudes}
+use Rattle.model.specs.Words.{Event, commandOf, accepted, Proper, largerS, largerX, late, carries, formedFor, premise, commandsIn, OneSession, deskIn, intrudes}
 use Rattle.lists.specs.Search.{any, none}
 use Rattle.commands.proofs.Rules.{CommandRules}
-use Rattle.model.proofs.Formed.{formed-rules}
 use Rattle.model.specs.Meaning.{Among, Intruder}
-use Rattle.model.proofs.Meaning.{among-here, among-right, among-reverse, among-map, none-means, premise-means, accepted-means, intrudes-means}
+use Rattle.model.proofs.Meaning.{among-here, among-right, among-map, none-means, premise-means, accepted-means, intrudes-means}
 
--- What an accepted event is known to be by the events before it: it is proper, and not late.
+-- What an accepted event is known to be by the events before it: it is proper, by the rules of a command, and not late.
 pub record Timely (n : ℕ) (e : Event) (before : List Event) : Type 0 where
   pub proper : Proper n e
+  pub rules : CommandRules (commandOf e)
   pub prompt : late before (commandOf e) ≡ false
 
 -- A command that is not late is not below any command accepted before it for its card: its x, and its s if it is exclusive. Of its verifier this is what
@@ -76,16 +76,16 @@ meets c d r h g x s order = go (cases (eqb (deskStart (update c .x)) (deskStart 
         let above = order (and-in (and-in (eq-eqb (c .mode) shared h) (not-in stamped)) (not-in e)) in
         absurd (omega arith)
 
-module _ (n : ℕ) (sent : List Sent) (log : List Event) (whole : map (λ (e : Event). e .sent) log ≡ reverse sent)
+module _ (n : ℕ) (log : List Event)
     (timely : (later : List Event) (e : Event) (before : List Event) → log ≡ later ++ e ∷ before → e .answer .number ≡ 0 → Timely n e before) where
-  sent-for : (k : ℕ) (e : Event) → Proper n e → accepted k e ≡ true → sentFor k (e .sent) ≡ true
+  sent-for : (k : ℕ) (e : Event) → Proper n e → accepted k e ≡ true → formedFor k (e .read) ≡ true
   sent-for k e p a =
       and-in (p .wellFormed) (and-right (eqb (e .answer .number) 0) (eqb (commandOf e .card) k) a)
 
-  was-sent : (e : Event) → Among e log → Among (e .sent) sent
-  was-sent e m = among-reverse (subst (Among (e .sent)) whole (among-map (λ (e : Event). e .sent) m))
+  was-read : (e : Event) → Among e log → Among (e .read) (commandsIn log)
+  was-read e m = among-map (λ (e : Event). e .read) m
 
-  module _ (k : ℕ) (b : Event) (e : Event) (a : Event) (later m₁ m₂ before : List Event) (holds : premise k sent ≡ true)
+  module _ (k : ℕ) (b : Event) (e : Event) (a : Event) (later m₁ m₂ before : List Event) (holds : premise k (commandsIn log) ≡ true)
       (log-is : log ≡ later ++ b ∷ (m₁ ++ e ∷ (m₂ ++ a ∷ before))) (by-b : accepted k b ≡ true) (by-e : accepted k e ≡ true) (by-a : accepted k a ≡ true)
       (one : OneSession a b) where
     time-b : Timely n b (m₁ ++ e ∷ (m₂ ++ a ∷ before))
@@ -98,10 +98,10 @@ module _ (n : ℕ) (sent : List Sent) (log : List Event) (whole : map (λ (e : E
     time-e = timely (later ++ b ∷ m₁) e (m₂ ++ a ∷ before) e-in (accepted-means k e .0 by-e .0)
 
     rules-b : CommandRules (commandOf b)
-    rules-b = formed-rules (b .sent .command) (time-b .proper .wellFormed)
+    rules-b = time-b .rules
 
     rules-e : CommandRules (commandOf e)
-    rules-e = formed-rules (e .sent .command) (time-e .proper .wellFormed)
+    rules-e = time-e .rules
 
     same-pair : update (commandOf a) ≡ update (commandOf b)
     same-pair = ap (λ (s : Session). s .pair) one
@@ -131,7 +131,7 @@ module _ (n : ℕ) (sent : List Sent) (log : List Event) (whole : map (λ (e : E
         → carries (commandOf c) ≡ true
         → update (commandOf d) .s < update (commandOf c) .s
     ordered c d mc md pc pd ac ad x same carry =
-        premise-means k sent .0 holds (c .sent) (d .sent) (was-sent c mc) (was-sent d md) (sent-for k c pc ac) (sent-for k d pd ad) carry
+        premise-means k (commandsIn log) .0 holds (c .read) (d .read) (was-read c mc) (was-read d md) (sent-for k c pc ac) (sent-for k d pd ad) carry
         (and-in (eq-eqb (commandOf d .mode) exclusive x) (eq-eqb (update (commandOf d) .x) (update (commandOf c) .x) same))
 
     b-among : Among b log
@@ -160,7 +160,7 @@ module _ (n : ℕ) (sent : List Sent) (log : List Event) (whole : map (λ (e : E
     peaceful i = i .desk (one-desk (rules-b .session .mode) (rules-e .session .mode) (i .mixed))
 
   pub isolated : (k : ℕ) (later : List Event) (b : Event) (between : List Event) (a : Event) (before : List Event)
-      → premise k sent ≡ true
+      → premise k (commandsIn log) ≡ true
       → log ≡ later ++ b ∷ (between ++ a ∷ before)
       → accepted k a ≡ true
       → accepted k b ≡ true

@@ -11,7 +11,7 @@ use lib.Dec.{eqb, ltb, eqb·suc-zero, lit<}
 use lib.ListN.{length, getD, set, length-set, length-replicate}
 use lib.Seq.{getD-set-same, getD-set-other}
 use Rattle.lists.proofs.Tests.{cases, never-both, or-right, not-in, ltb-max}
-use Rattle.commands.specs.Command.{Language, original, translation, writes, language, update}
+use Rattle.commands.specs.Command.{Language, original, translation, writesTranslation, writes, update}
 use Rattle.commands.specs.Bytes.{fieldsOf, formed, payload}
 use Rattle.stamps.specs.Stamp.{noMark}
 use Rattle.guard.specs.Judge.{behind, judgeRows, raise, judged}
@@ -21,70 +21,72 @@ use Rattle.commands.specs.declared.Command.{Command}
 use Rattle.stamps.specs.declared.Pair.{Pair}
 use Rattle.guard.proofs.Judge.{Accepted, accepted as passes}
 use Rattle.commands.proofs.Rules.{CommandRules}
-use Rattle.commands.proofs.Languages.{writes-named, one-write}
+use Rattle.commands.proofs.Languages.{writes-act, one-write}
 use Rattle.lists.proofs.Table.{unapplied, none-applies}
-use Rattle.image.specs.Layout.{translations}
+use Rattle.formats.specs.declared.Format.{Format}
+use Rattle.formats.specs.Format.{translations}
+use Rattle.commands.proofs.CommandBytes.{language-within}
 use Rattle.image.specs.Image.{Translation, Card, Cards, noTranslation, translationOf, text, noCard}
 use Rattle.image_claims.proofs.Claims.{no-translation}
 use Rattle.model.specs.Serve.{cardOf, entryOf, requestRows, stepped, cardsAfter, answerBy, replyBy}
-use Rattle.model.specs.Words.{Sent, Event, commandOf, accepted, outdated, lastText}
+use Rattle.model.specs.Words.{Sent, Event, received, commandOf, accepted, outdated, lastText}
 use Rattle.lists.specs.Search.{any, last}
 use Rattle.model.proofs.Formed.{formed-well, formed-rules}
 use Rattle.model.proofs.Stepped.{count-step, text-step, from-step}
 
 -- ---- one request
 
-abbrev pub numberOn : Cards → Sent → ℕ
-numberOn cs s = first (requestRows cs (s .command) (length (s .lent)))
+abbrev pub numberOn : Format → Cards → Sent → ℕ
+numberOn f cs s = first (requestRows f cs (s .command) (length (s .lent)))
 
 -- The event and the cards, by the number.
-abbrev pub eventBy : ℕ → Cards → Sent → Event
-eventBy number cs s =
-    record { sent = s; answer = answerBy number cs (s .command); reply = replyBy number cs (s .command) (s .lent) }
+abbrev pub eventBy : Format → ℕ → Cards → Sent → Event
+eventBy f number cs s =
+    record { sent = s; read = received f s; answer = answerBy f number cs (s .command); reply = replyBy f number cs (s .command) (s .lent) }
 
-abbrev pub cardsBy : ℕ → Cards → Sent → Cards
-cardsBy number cs s = settled number (cardsAfter cs (s .command)) cs
+abbrev pub cardsBy : Format → ℕ → Cards → Sent → Cards
+cardsBy f number cs s = settled number (cardsAfter f cs (s .command)) cs
 
 -- ---- requests, latest first
 
-unfoldable pub cardsFrom : Cards → List Sent → Cards
-cardsFrom start [] = start
-cardsFrom start (s ∷ earlier) = cardsBy (numberOn (cardsFrom start earlier) s) (cardsFrom start earlier) s
+unfoldable pub cardsFrom : Format → Cards → List Sent → Cards
+cardsFrom f start [] = start
+cardsFrom f start (s ∷ earlier) = cardsBy f (numberOn f (cardsFrom f start earlier) s) (cardsFrom f start earlier) s
 
-unfoldable pub eventsFrom : Cards → List Sent → List Event
-eventsFrom start [] = []
-eventsFrom start (s ∷ earlier) =
-    eventBy (numberOn (cardsFrom start earlier) s) (cardsFrom start earlier) s ∷ eventsFrom start earlier
+unfoldable pub eventsFrom : Format → Cards → List Sent → List Event
+eventsFrom f start [] = []
+eventsFrom f start (s ∷ earlier) =
+    eventBy f (numberOn f (cardsFrom f start earlier) s) (cardsFrom f start earlier) s ∷ eventsFrom f start earlier
 
 -- ---- what is known of an accepted request
 
-pub record Passed (cs : Cards) (s : Sent) : Type 0 where
-  pub wellFormed : formed (s .command) ≡ true
-  pub exists : ltb (fieldsOf (s .command) .card) (length (cs .cards)) ≡ true
-  pub judged : Accepted (entryOf cs (fieldsOf (s .command))) (fieldsOf (s .command)) (cs .room) (length (s .lent))
+pub record Passed (f : Format) (cs : Cards) (s : Sent) : Type 0 where
+  pub wellFormed : formed f (s .command) ≡ true
+  pub exists : ltb (fieldsOf f (s .command) .card) (length (cs .cards)) ≡ true
+  pub judged : Accepted (entryOf f cs (fieldsOf f (s .command))) (fieldsOf f (s .command)) (cs .room) (length (s .lent))
 
-pub passed : (cs : Cards) (s : Sent) → numberOn cs s ≡ 0 → Passed cs s
+pub passed : (f : Format) (cs : Cards) (s : Sent) → numberOn f cs s ≡ 0 → Passed f cs s
 unfolding judged
-passed cs s e =
+passed f cs s e =
     record {
       wellFormed = is-formed;
       exists = there;
-      judged = passes (entryOf cs (fieldsOf (s .command))) (fieldsOf (s .command)) (cs .room) (length (s .lent)) (sym same ∙ e);
+      judged = passes (entryOf f cs (fieldsOf f (s .command))) (fieldsOf f (s .command)) (cs .room) (length (s .lent)) (sym same ∙ e);
     }
   where
-    unapplied-row : (n : ℕ) → applies n (requestRows cs (s .command) (length (s .lent))) ≡ false
+    unapplied-row : (n : ℕ) → applies n (requestRows f cs (s .command) (length (s .lent))) ≡ false
     unapplied-row =
-        none-applies (requestRows cs (s .command) (length (s .lent))) (unapplied (requestRows cs (s .command) (length (s .lent))) tt .0 e)
+        none-applies (requestRows f cs (s .command) (length (s .lent))) (unapplied (requestRows f cs (s .command) (length (s .lent))) tt .0 e)
 
-    is-formed : formed (s .command) ≡ true
-    is-formed = not-false (formed (s .command)) (unapplied-row 1)
+    is-formed : formed f (s .command) ≡ true
+    is-formed = not-false (formed f (s .command)) (unapplied-row 1)
 
-    there : ltb (fieldsOf (s .command) .card) (length (cs .cards)) ≡ true
-    there = not-false (ltb (fieldsOf (s .command) .card) (length (cs .cards))) (unapplied-row 2)
+    there : ltb (fieldsOf f (s .command) .card) (length (cs .cards)) ≡ true
+    there = not-false (ltb (fieldsOf f (s .command) .card) (length (cs .cards))) (unapplied-row 2)
 
     -- Past rows 1 and 2 the entry's own table decides.
-    same : numberOn cs s ≡ first (judgeRows (entryOf cs (fieldsOf (s .command))) (fieldsOf (s .command)) (cs .room) (length (s .lent)))
-    same = rw (is-formed, there, formed-well (s .command) is-formed)
+    same : numberOn f cs s ≡ first (judgeRows (entryOf f cs (fieldsOf f (s .command))) (fieldsOf f (s .command)) (cs .room) (length (s .lent)))
+    same = rw (is-formed, there, formed-well f (s .command) is-formed)
 
 -- ---- a card and the events before
 
@@ -94,34 +96,34 @@ above side k n e = accepted k e && ltb n (side (update (commandOf e)))
 
 -- A stored card k, by the events before: which stamps its own are above, its mark, its texts, and which of its translations are behind. No maximum
 -- and no count of writes is needed.
-pub record Tied (before : List Event) (k : ℕ) (card : Card) : Type 0 where
+pub record Tied (f : Format) (before : List Event) (k : ℕ) (card : Card) : Type 0 where
   pub s : (n : ℕ) → ltb n (card .pair .s) ≡ any (above (λ (p : Pair). p .s) k n) before
   pub x : (n : ℕ) → ltb n (card .pair .x) ≡ any (above (λ (p : Pair). p .x) k n) before
   pub mark : card .mark ≡ last (accepted k) (λ (e : Event). commandOf e .next) noMark before
-  pub count : length (card .translated) ≡ translations
+  pub count : length (card .translated) ≡ translations f
   pub texts : (l : Language) → text l card ≡ lastText l before k
   pub behindness : (t : ℕ) → behind (card .edition) (translationOf t card .from) ≡ outdated t before k
   pub source : (t : ℕ) → translationOf t card .from ≤ card .edition
 
-pub tied-fresh : (k : ℕ) → Tied [] k noCard
-tied-fresh k =
+pub tied-fresh : (f : Format) (k : ℕ) → Tied f [] k (noCard f)
+tied-fresh f k =
     record {
       s = λ n. le-ltb n 0 (omega arith);
       x = λ n. le-ltb n 0 (omega arith);
       mark = refl;
-      count = length-replicate translations noTranslation;
+      count = length-replicate (translations f) noTranslation;
       texts = no-text;
-      behindness = λ t. rw (no-translation t);
-      source = λ t. rw (no-translation t) (omega arith);
+      behindness = λ t. rw (no-translation f t);
+      source = λ t. rw (no-translation f t) (omega arith);
     }
   where
-    no-text : (l : Language) → text l noCard ≡ []
+    no-text : (l : Language) → text l (noCard f) ≡ []
     no-text original = refl
-    no-text (translation t) = ap (λ (u : Translation). u .text) (no-translation t)
+    no-text (translation t) = ap (λ (u : Translation). u .text) (no-translation f t)
 
 -- An event that is no accepted command for card k leaves the card tied as it was.
-pub tied-other : (k : ℕ) (e : Event) (before : List Event) (card : Card) → accepted k e ≡ false → Tied before k card → Tied (e ∷ before) k card
-tied-other k e before card h t =
+pub tied-other : (f : Format) (k : ℕ) (e : Event) (before : List Event) (card : Card) → accepted k e ≡ false → Tied f before k card → Tied f (e ∷ before) k card
+tied-other f k e before card h t =
     record {
       s = λ n. rw h (t .s n);
       x = λ n. rw h (t .x n);
@@ -133,11 +135,11 @@ tied-other k e before card h t =
     }
 
 -- An accepted command for card k: the card that it steps to is tied to the events with it.
-module _ (k : ℕ) (e : Event) (before : List Event) (card : Card) (h : accepted k e ≡ true) (r : CommandRules (commandOf e))
-    (within : language (commandOf e) < translations)
-    (named : writes (translation (language (commandOf e))) (commandOf e) ≡ true → commandOf e .edition ≡ card .edition) (t : Tied before k card) where
+module _ (f : Format) (k : ℕ) (e : Event) (before : List Event) (card : Card) (h : accepted k e ≡ true) (r : CommandRules (commandOf e))
+    (within : commandOf e .language < translations f)
+    (named : writesTranslation (commandOf e) ≡ true → commandOf e .edition ≡ card .edition) (t : Tied f before k card) where
   abbrev now : Card
-  now = stepped card (commandOf e) (payload (e .sent .command))
+  now = stepped card (commandOf e) (e .read .payload)
 
   -- The larger of an old stamp and the command's is above n exactly when one of the two is.
   raised : (side : Pair → ℕ) (old n : ℕ) → ltb n old ≡ any (above side k n) before
@@ -145,21 +147,21 @@ module _ (k : ℕ) (e : Event) (before : List Event) (card : Card) (h : accepted
   raised side old n tie =
       ltb-max n old (side (update (commandOf e))) ∙ or-comm (ltb n old) (ltb n (side (update (commandOf e)))) ∙ rw (h, tie)
 
-  known : language (commandOf e) < length (card .translated)
-  known = subst (λ (n : ℕ). language (commandOf e) < n) (sym (t .count)) within
+  known : commandOf e .language < length (card .translated)
+  known = subst (λ (n : ℕ). commandOf e .language < n) (sym (t .count)) within
 
   step-mark : now .mark ≡ last (accepted k) (λ (d : Event). commandOf d .next) noMark (e ∷ before)
   unfolding stepped raise
   step-mark = rw h
 
   step-texts : (l : Language) → text l now ≡ lastText l (e ∷ before) k
-  step-texts l = text-step card (commandOf e) (payload (e .sent .command)) known l ∙ rw (h, t .texts l)
+  step-texts l = text-step card (commandOf e) (e .read .payload) known l ∙ rw (h, t .texts l)
 
   -- The edition and the edition translated from, after a write of the original, of that translation, and of neither.
   step-editions : (l : ℕ) → (behind (now .edition) (translationOf l now .from) ≡ outdated l (e ∷ before) k) × (translationOf l now .from ≤ now .edition)
   unfolding stepped raise
   step-editions l =
-      rw (from-step card (commandOf e) (payload (e .sent .command)) known l)
+      rw (from-step card (commandOf e) (e .read .payload) known l)
       (go (cases (writes original (commandOf e))) (cases (writes (translation l) (commandOf e))))
     where
       old : ℕ
@@ -177,21 +179,20 @@ module _ (k : ℕ) (e : Event) (before : List Event) (card : Card) (h : accepted
           let newer : eqb old (card .edition + 1) ≡ false = ne-eqb old (card .edition + 1) (λ z. omega arith) in
           (rw (p, q, h) (or-right (eqb old 0) (not-in newer)), rw (p, q) (omega arith))
       go (inr p) (inl q) =
-          let writing : writes (translation (language (commandOf e))) (commandOf e) ≡ true =
-          subst (λ (j : ℕ). writes (translation j) (commandOf e) ≡ true) (sym (writes-named (commandOf e) l q)) q in
+          let writing = writes-act (commandOf e) l q in
           let same = named writing in
           let some : eqb (commandOf e .edition) 0 ≡ false = not-true (eqb (commandOf e .edition) 0) (sym (r .edition) ∙ writing) in
           (rw (p, q, h) (rw (eq-eqb (commandOf e .edition) (card .edition) same, some, h, q)), rw (p, q) (omega arith))
       go (inr p) (inr q) = (rw (p, q, h) (rw (h, q) (t .behindness l)), rw (p, q) (t .source l))
 
-  pub tied-step : Tied (e ∷ before) k now
+  pub tied-step : Tied f (e ∷ before) k now
   unfolding stepped raise
   tied-step =
       record {
         s = λ n. raised (λ (p : Pair). p .s) (card .pair .s) n (t .s n);
         x = λ n. raised (λ (p : Pair). p .x) (card .pair .x) n (t .x n);
         mark = step-mark;
-        count = count-step card (commandOf e) (payload (e .sent .command)) ∙ t .count;
+        count = count-step card (commandOf e) (e .read .payload) ∙ t .count;
         texts = step-texts;
         behindness = λ l. step-editions l .0;
         source = λ l. step-editions l .1;
@@ -199,34 +200,34 @@ module _ (k : ℕ) (e : Event) (before : List Event) (card : Card) (h : accepted
 
 -- ---- all cards and the events before
 
-abbrev pub Ties : Cards → List Event → Type 0
-Ties cs before = (k : ℕ) → k < length (cs .cards) → Tied before k (getD (cs .cards) k noCard)
+abbrev pub Ties : Format → Cards → List Event → Type 0
+Ties f cs before = (k : ℕ) → k < length (cs .cards) → Tied f before k (getD (cs .cards) k (noCard f))
 
 -- A refused request is no accepted command; an accepted one is for its own card.
-pub refused-other : (j : ℕ) (cs : Cards) (s : Sent) (k : ℕ) → accepted k (eventBy (suc j) cs s) ≡ false
+pub refused-other : (f : Format) (j : ℕ) (cs : Cards) (s : Sent) (k : ℕ) → accepted k (eventBy f (suc j) cs s) ≡ false
 unfolding replied
-refused-other j cs s k = rw (eqb·suc-zero j)
+refused-other f j cs s k = rw (eqb·suc-zero j)
 
-pub accepted-at : (cs : Cards) (s : Sent) (k : ℕ) → accepted k (eventBy 0 cs s) ≡ eqb (fieldsOf (s .command) .card) k
+pub accepted-at : (f : Format) (cs : Cards) (s : Sent) (k : ℕ) → accepted k (eventBy f 0 cs s) ≡ eqb (fieldsOf f (s .command) .card) k
 unfolding replied
-accepted-at cs s k = refl
+accepted-at f cs s k = refl
 
-pub ties-more : (cs : Cards) (s : Sent) (before : List Event) → Ties cs before → (number : ℕ) → numberOn cs s ≡ number
-    → Ties (cardsBy number cs s) (eventBy number cs s ∷ before)
-ties-more cs s before t (suc j) e k b = tied-other k (eventBy (suc j) cs s) before (getD (cs .cards) k noCard) (refused-other j cs s k) (t k b)
-ties-more cs s before t zero e k b = go (cases (eqb (fieldsOf (s .command) .card) k))
+pub ties-more : (f : Format) (cs : Cards) (s : Sent) (before : List Event) → Ties f cs before → (number : ℕ) → numberOn f cs s ≡ number
+    → Ties f (cardsBy f number cs s) (eventBy f number cs s ∷ before)
+ties-more f cs s before t (suc j) e k b = tied-other f k (eventBy f (suc j) cs s) before (getD (cs .cards) k (noCard f)) (refused-other f j cs s k) (t k b)
+ties-more f cs s before t zero e k b = go (cases (eqb (fieldsOf f (s .command) .card) k))
   where
     place : ℕ
-    place = fieldsOf (s .command) .card
+    place = fieldsOf f (s .command) .card
 
     stored : Card
-    stored = getD (cs .cards) place noCard
+    stored = getD (cs .cards) place (noCard f)
 
     after : Card
-    after = stepped stored (fieldsOf (s .command)) (payload (s .command))
+    after = stepped stored (fieldsOf f (s .command)) (payload f (s .command))
 
-    known : Passed cs s
-    known = passed cs s e
+    known : Passed f cs s
+    known = passed f cs s e
 
     within : k < length (cs .cards)
     within = subst (λ (n : ℕ). k < n) (length-set (cs .cards) place after) b
@@ -234,25 +235,25 @@ ties-more cs s before t zero e k b = go (cases (eqb (fieldsOf (s .command) .card
     there : place < length (cs .cards)
     there = ltb-true place (length (cs .cards)) (known .exists)
 
-    go : (eqb place k ≡ true) ⊎ (eqb place k ≡ false) → Tied (eventBy 0 cs s ∷ before) k (getD (set (cs .cards) place after) k noCard)
+    go : (eqb place k ≡ true) ⊎ (eqb place k ≡ false) → Tied f (eventBy f 0 cs s ∷ before) k (getD (set (cs .cards) place after) k (noCard f))
     go (inl h) =
         let here : place ≡ k = eqb-true place k h in
-        subst (λ (j : ℕ). Tied (eventBy 0 cs s ∷ before) j (getD (set (cs .cards) place after) j noCard)) here
-        (subst (Tied (eventBy 0 cs s ∷ before) place) (sym (getD-set-same (cs .cards) place after noCard there))
-        (tied-step place (eventBy 0 cs s) before stored
-        (accepted-at cs s place ∙ eq-eqb place place refl)
-        (formed-rules (s .command) (known .wellFormed))
-        (lit< tt)
+        subst (λ (j : ℕ). Tied f (eventBy f 0 cs s ∷ before) j (getD (set (cs .cards) place after) j (noCard f))) here
+        (subst (Tied f (eventBy f 0 cs s ∷ before) place) (sym (getD-set-same (cs .cards) place after (noCard f) there))
+        (tied-step f place (eventBy f 0 cs s) before stored
+        (accepted-at f cs s place ∙ eq-eqb place place refl)
+        (formed-rules f (s .command) (known .wellFormed))
+        (language-within f (s .command) (known .wellFormed))
         (known .judged .named)
         (t place there)))
     go (inr h) =
-        subst (Tied (eventBy 0 cs s ∷ before) k)
-        (sym (getD-set-other (cs .cards) place k after noCard (λ z. eqb-false place k h (sym z))))
-        (tied-other k (eventBy 0 cs s) before (getD (cs .cards) k noCard) (accepted-at cs s k ∙ h) (t k within))
+        subst (Tied f (eventBy f 0 cs s ∷ before) k)
+        (sym (getD-set-other (cs .cards) place k after (noCard f) (λ z. eqb-false place k h (sym z))))
+        (tied-other f k (eventBy f 0 cs s) before (getD (cs .cards) k (noCard f)) (accepted-at f cs s k ∙ h) (t k within))
 
 -- N stays.
-pub count-kept : (number : ℕ) (cs : Cards) (s : Sent) → length (cardsBy number cs s .cards) ≡ length (cs .cards)
-count-kept zero cs s =
-    length-set (cs .cards) (fieldsOf (s .command) .card)
-    (stepped (cardOf cs (fieldsOf (s .command))) (fieldsOf (s .command)) (payload (s .command)))
-count-kept (suc j) cs s = refl
+pub count-kept : (f : Format) (number : ℕ) (cs : Cards) (s : Sent) → length (cardsBy f number cs s .cards) ≡ length (cs .cards)
+count-kept f zero cs s =
+    length-set (cs .cards) (fieldsOf f (s .command) .card)
+    (stepped (cardOf f cs (fieldsOf f (s .command))) (fieldsOf f (s .command)) (payload f (s .command)))
+count-kept f (suc j) cs s = refl

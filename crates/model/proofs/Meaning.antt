@@ -3,17 +3,16 @@ use Prim.Native.Nat.{ℕ, _+_, _<_, _%_}
 use native.Mathlib.Omega.{arith}
 use mathlib.Core.Path.{_≡_, refl, sym, ap, _∙_}
 use mathlib.Core.Logic.{_↔_, _⊎_, inl, inr}
-use mathlib.Core.List.{List, [], _∷_, _++_, map, reverse, append-assoc, reverse-append, reverse-cons, reverse-reverse}
+use mathlib.Core.List.{List, [], _∷_, _++_, map, nil≢cons, head-eq-of-cons-eq, tail-eq-of-cons-eq, reverse, append-assoc, reverse-append, reverse-cons, reverse-reverse}
 use mathlib.Core.Bool.{Bool, true, false, not, _&&_, _||_, or-assoc}
 use borrow.Author.Tests.{not-true, not-false, ltb-true, lt-ltb, leb-false, lt-leb, eqb-true, eqb-false, eq-eqb, ne-eqb}
 use lib.Dec.{eqb, ltb, leb}
 use Rattle.lists.proofs.Tests.{never-both, cases, and-in, and-left, and-right, or-left, or-right, or-cases, or-fails, not-in}
 use Rattle.commands.specs.Command.{verifier, update}
-use Rattle.commands.specs.Bytes.{fieldsOf}
 use Rattle.stamps.specs.Stamp.{shared, exclusive, stampT, deskNumber, deskStart, deskOf, mostAhead}
 use Rattle.commands.specs.declared.Command.{Command}
 use Rattle.stamps.specs.declared.Pair.{Pair}
-use Rattle.model.specs.Words.{Sent, Event, commandOf, accepted, largerS, largerX, late, inReach, outOfReach, farAhead, sentFor, carries, under, breaks, premise, deskIn, intrudes}
+use Rattle.model.specs.Words.{Received, Event, commandOf, accepted, largerS, largerX, late, inReach, outOfReach, farAhead, formedFor, carries, under, breaks, premise, deskIn, intrudes}
 use Rattle.lists.specs.Search.{any, none, since, last}
 use Rattle.model.specs.Meaning.{Among, Nearest, Overtakes, Beyond, Carries, Ordered, Intruder}
 
@@ -138,50 +137,73 @@ module _ {A B : Type 0} (f : A → B) where
         split = ap (map f) (m .split) ∙ map-append (m .front) (a ∷ m .back);
       }
 
-module _ (k : ℕ) (sent : List Sent) where
+-- What stands in a list that a function made was made of something that stands there.
+module _ {A B : Type 0} (g : A → B) where
+  pub record Mapped (b : B) (l : List A) : Type 0 where
+    pub from : A
+    pub among : Among from l
+    pub is : b ≡ g from
+
+  pub among-mapped : {b : B} (l : List A) → Among b (map g l) → Mapped b l
+  among-mapped {b} l m = go l (m .front) (m .split)
+    where
+      go : (l : List A) (front : List B) → map g l ≡ front ++ b ∷ m .back → Mapped b l
+      go [] [] e = absurd (nil≢cons e)
+      go [] (c ∷ front) e = absurd (nil≢cons e)
+      go (a ∷ l) [] e = record { from = a; among = among-here a l; is = sym (head-eq-of-cons-eq e) }
+      go (a ∷ l) (c ∷ front) e =
+          let rest = go l front (tail-eq-of-cons-eq e) in
+          record { from = rest .from; among = among-later a (rest .among); is = rest .is }
+
+module _ (k : ℕ) (all : List Received) where
   -- The test of one command against another, and of one against the whole list.
-  abbrev against : Sent → Sent → Bool
-  against a b = sentFor k b && breaks (fieldsOf (a .command)) (fieldsOf (b .command))
+  abbrev against : Received → Received → Bool
+  against a b = formedFor k b && breaks (a .numbers) (b .numbers)
 
-  abbrev broken : Sent → Bool
-  broken a = sentFor k a && any (against a) sent
+  abbrev broken : Received → Bool
+  broken a = formedFor k a && any (against a) all
 
-  pub premise-means : (premise k sent ≡ true) ↔ Ordered k sent
+  pub premise-means : (premise k all ≡ true) ↔ Ordered k all
   premise-means = (out, back)
     where
-      out : premise k sent ≡ true → Ordered k sent
+      out : premise k all ≡ true → Ordered k all
       out e a b m n h g c u =
-          let alone : broken a ≡ false = none-means broken sent .0 e a m in
-          let kept : any (against a) sent ≡ false = sym (ap (λ (t : Bool). t && any (against a) sent) h) ∙ alone in
-          let one : against a b ≡ false = none-means (against a) sent .0 (not-in kept) b n in
-          let low : not (ltb (update (fieldsOf (b .command)) .s) (update (fieldsOf (a .command)) .s)) ≡ false =
+          let alone : broken a ≡ false = none-means broken all .0 e a m in
+          let kept : any (against a) all ≡ false = sym (ap (λ (t : Bool). t && any (against a) all) h) ∙ alone in
+          let one : against a b ≡ false = none-means (against a) all .0 (not-in kept) b n in
+          let low : not (ltb (update (b .numbers) .s) (update (a .numbers) .s)) ≡ false =
           sym
-          (ap (λ (t : Bool). t && breaks (fieldsOf (a .command)) (fieldsOf (b .command))) g
+          (ap (λ (t : Bool). t && breaks (a .numbers) (b .numbers)) g
           ∙ rw (c, u)) ∙ one in
-          ltb-true (update (fieldsOf (b .command)) .s) (update (fieldsOf (a .command)) .s) (not-false _ low)
+          ltb-true (update (b .numbers) .s) (update (a .numbers) .s) (not-false _ low)
 
-      back : Ordered k sent → premise k sent ≡ true
-      back h = none-means broken sent .1 each
+      back : Ordered k all → premise k all ≡ true
+      back h = none-means broken all .1 each
         where
-          pair : (a b : Sent) → Among a sent → Among b sent → sentFor k a ≡ true → against a b ≡ true → ⊥
+          pair : (a b : Received) → Among a all → Among b all → formedFor k a ≡ true → against a b ≡ true → ⊥
           pair a b m n g e =
-              let c : Bool = carries (fieldsOf (a .command)) in
-              let u : Bool = under (update (fieldsOf (a .command)) .x) (fieldsOf (b .command)) in
-              let over : Bool = ltb (update (fieldsOf (b .command)) .s) (update (fieldsOf (a .command)) .s) in
-              let bad : (c && u && not over) ≡ true = and-right (sentFor k b) (c && u && not over) e in
+              let c : Bool = carries (a .numbers) in
+              let u : Bool = under (update (a .numbers) .x) (b .numbers) in
+              let over : Bool = ltb (update (b .numbers) .s) (update (a .numbers) .s) in
+              let bad : (c && u && not over) ≡ true = and-right (formedFor k b) (c && u && not over) e in
               let both : (c && u) ≡ true = and-left (c && u) (not over) bad in
               never-both
-              (lt-ltb _ _ (h a b m n g (and-left (sentFor k b) (c && u && not over) e) (and-left c u both) (and-right c u both)))
+              (lt-ltb _ _ (h a b m n g (and-left (formedFor k b) (c && u && not over) e) (and-left c u both) (and-right c u both)))
               (not-true over (and-right (c && u) (not over) bad))
 
-          each : (a : Sent) → Among a sent → broken a ≡ false
+          each : (a : Received) → Among a all → broken a ≡ false
           each a m = go (cases (broken a))
             where
               go : (broken a ≡ true) ⊎ (broken a ≡ false) → broken a ≡ false
               go (inr e) = e
               go (inl e) =
-                  let found = any-means (against a) sent .0 (and-right (sentFor k a) (any (against a) sent) e) in
-                  absurd (pair a (found .0) m (found .1) (and-left (sentFor k a) (any (against a) sent) e) (found .2))
+                  let found = any-means (against a) all .0 (and-right (formedFor k a) (any (against a) all) e) in
+                  absurd (pair a (found .0) m (found .1) (and-left (formedFor k a) (any (against a) all) e) (found .2))
+
+-- Commands of which each stands in a list that keeps the premise keep it.
+pub premise-within : (k : ℕ) (all some : List Received) → ((r : Received) → Among r some → Among r all) → premise k all ≡ true → premise k some ≡ true
+premise-within k all some within h =
+    premise-means k some .1 (λ a b ma mb. premise-means k all .0 h a b (within a ma) (within b mb))
 
 -- ---- the words on events
 

@@ -17,6 +17,7 @@ use Rattle.stamps.specs.declared.Pair.{Pair}
 use Rattle.commands.specs.Bytes.{fieldsOf, payload, formed}
 use Rattle.guard.specs.Judge.{raise}
 use Rattle.guard.specs.Replies.{replied, blankReply}
+use Rattle.formats.specs.declared.Format.{Format}
 use Rattle.image.specs.Layout.{shapeOk}
 use Rattle.image.specs.Image.{Card, Cards, noCard, fresh}
 use Rattle.image.specs.Image.{freshCards}
@@ -31,93 +32,93 @@ use Rattle.model.proofs.Machine.{numberOn, eventBy, cardsBy, cardsFrom,
 use Rattle.model.proofs.Simulation.{same-events}
 
 -- The stored pair of each card is the largest that was accepted for it.
-abbrev Pairs : Cards → List Event → Type 0
-Pairs cs before = (k : ℕ) → getD (cs .cards) k noCard .pair ≡ largestPair k before
+abbrev Pairs : Format → Cards → List Event → Type 0
+Pairs f cs before = (k : ℕ) → getD (cs .cards) k (noCard f) .pair ≡ largestPair k before
 
-no-card : (n k : ℕ) → getD (replicate n noCard) k noCard ≡ noCard
-no-card n k = go (cases (ltb k n))
+no-card : (f : Format) (n k : ℕ) → getD (replicate n (noCard f)) k (noCard f) ≡ noCard f
+no-card f n k = go (cases (ltb k n))
   where
-    go : (ltb k n ≡ true) ⊎ (ltb k n ≡ false) → getD (replicate n noCard) k noCard ≡ noCard
-    go (inl h) = getD-replicate n k noCard noCard (ltb-true k n h)
-    go (inr h) = List·getD-eq-default (replicate n noCard) noCard (omega (arith, ltb-false k n h, length-replicate n noCard))
+    go : (ltb k n ≡ true) ⊎ (ltb k n ≡ false) → getD (replicate n (noCard f)) k (noCard f) ≡ noCard f
+    go (inl h) = getD-replicate n k (noCard f) (noCard f) (ltb-true k n h)
+    go (inr h) = List·getD-eq-default (replicate n (noCard f)) (noCard f) (omega (arith, ltb-false k n h, length-replicate n (noCard f)))
 
-pairs-fresh : (n c : ℕ) → Pairs (freshCards n c) []
+pairs-fresh : (f : Format) (n c : ℕ) → Pairs f (freshCards f n c) []
 unfolding freshCards
-pairs-fresh n c k = ap (λ (card : Card). card .pair) (no-card n k)
+pairs-fresh f n c k = ap (λ (card : Card). card .pair) (no-card f n k)
 
 -- An accepted command raises the pair of its card to the largest with its own.
-raised-pair : (cs : Cards) (s : Sent) (before : List Event) → Pairs cs before
-    → raise (entryOf cs (fieldsOf (s .command))) (fieldsOf (s .command)) .pair
-    ≡ largestPair (fieldsOf (s .command) .card) (eventBy 0 cs s ∷ before)
+raised-pair : (f : Format) (cs : Cards) (s : Sent) (before : List Event) → Pairs f cs before
+    → raise (entryOf f cs (fieldsOf f (s .command))) (fieldsOf f (s .command)) .pair
+    ≡ largestPair (fieldsOf f (s .command) .card) (eventBy f 0 cs s ∷ before)
 unfolding raise
-raised-pair cs s before p =
-    let place : ℕ = fieldsOf (s .command) .card in
-    rw (accepted-at cs s place ∙ eq-eqb place place refl, p place)
+raised-pair f cs s before p =
+    let place : ℕ = fieldsOf f (s .command) .card in
+    rw (accepted-at f cs s place ∙ eq-eqb place place refl, p place)
 
-pairs-more : (cs : Cards) (s : Sent) (before : List Event) → Pairs cs before → (number : ℕ) → numberOn cs s ≡ number
-    → Pairs (cardsBy number cs s) (eventBy number cs s ∷ before)
+pairs-more : (f : Format) (cs : Cards) (s : Sent) (before : List Event) → Pairs f cs before → (number : ℕ) → numberOn f cs s ≡ number
+    → Pairs f (cardsBy f number cs s) (eventBy f number cs s ∷ before)
 unfolding stepped
-pairs-more cs s before p (suc j) e k = rw (refused-other j cs s k) (p k)
-pairs-more cs s before p zero e k = go (cases (eqb (fieldsOf (s .command) .card) k))
+pairs-more f cs s before p (suc j) e k = rw (refused-other f j cs s k) (p k)
+pairs-more f cs s before p zero e k = go (cases (eqb (fieldsOf f (s .command) .card) k))
   where
     place : ℕ
-    place = fieldsOf (s .command) .card
+    place = fieldsOf f (s .command) .card
 
     after : Card
-    after = stepped (cardOf cs (fieldsOf (s .command))) (fieldsOf (s .command)) (payload (s .command))
+    after = stepped (cardOf f cs (fieldsOf f (s .command))) (fieldsOf f (s .command)) (payload f (s .command))
 
     there : place < length (cs .cards)
-    there = ltb-true place (length (cs .cards)) (passed cs s e .exists)
+    there = ltb-true place (length (cs .cards)) (passed f cs s e .exists)
 
     go : (eqb place k ≡ true) ⊎ (eqb place k ≡ false)
-        → getD (set (cs .cards) place after) k noCard .pair ≡ largestPair k (eventBy 0 cs s ∷ before)
+        → getD (set (cs .cards) place after) k (noCard f) .pair ≡ largestPair k (eventBy f 0 cs s ∷ before)
     go (inl h) =
-        subst (λ (j : ℕ). getD (set (cs .cards) place after) j noCard .pair ≡ largestPair j (eventBy 0 cs s ∷ before)) (eqb-true place k h)
-        (ap (λ (card : Card). card .pair) (getD-set-same (cs .cards) place after noCard there) ∙ raised-pair cs s before p)
+        subst (λ (j : ℕ). getD (set (cs .cards) place after) j (noCard f) .pair ≡ largestPair j (eventBy f 0 cs s ∷ before)) (eqb-true place k h)
+        (ap (λ (card : Card). card .pair) (getD-set-same (cs .cards) place after (noCard f) there) ∙ raised-pair f cs s before p)
     go (inr h) =
-        ap (λ (card : Card). card .pair) (getD-set-other (cs .cards) place k after noCard (λ z. eqb-false place k h (sym z)))
-        ∙ rw (accepted-at cs s k ∙ h) (p k)
+        ap (λ (card : Card). card .pair) (getD-set-other (cs .cards) place k after (noCard f) (λ z. eqb-false place k h (sym z)))
+        ∙ rw (accepted-at f cs s k ∙ h) (p k)
 
 -- What an event of the log shows.
 abbrev pub Shows : Event → List Event → Type 0
 Shows e before = e .answer .pair ≡ cond (blankReply (e .answer .number)) noPair (largestPair (commandOf e .card) (e ∷ before))
 
-shows-one : (cs : Cards) (s : Sent) (before : List Event) → Pairs cs before → (number : ℕ) → numberOn cs s ≡ number
-    → Shows (eventBy number cs s) before
+shows-one : (f : Format) (cs : Cards) (s : Sent) (before : List Event) → Pairs f cs before → (number : ℕ) → numberOn f cs s ≡ number
+    → Shows (eventBy f number cs s) before
 unfolding replied
-shows-one cs s before p zero e = raised-pair cs s before p
-shows-one cs s before p (suc j) e = rw (refused-other j cs s (fieldsOf (s .command) .card), p (fieldsOf (s .command) .card))
+shows-one f cs s before p zero e = raised-pair f cs s before p
+shows-one f cs s before p (suc j) e = rw (refused-other f j cs s (fieldsOf f (s .command) .card), p (fieldsOf f (s .command) .card))
 
-module _ (n c : ℕ) where
-  pairs-all : (sent : List Sent) → Pairs (cardsFrom (freshCards n c) sent) (eventsFrom (freshCards n c) sent)
+module _ (f : Format) (n c : ℕ) where
+  pairs-all : (sent : List Sent) → Pairs f (cardsFrom f (freshCards f n c) sent) (eventsFrom f (freshCards f n c) sent)
   unfolding cardsFrom eventsFrom
-  pairs-all [] = pairs-fresh n c
+  pairs-all [] = pairs-fresh f n c
   pairs-all (s ∷ earlier) =
-      pairs-more (cardsFrom (freshCards n c) earlier) s (eventsFrom (freshCards n c) earlier) (pairs-all earlier) (numberOn (cardsFrom (freshCards n c) earlier) s) refl
+      pairs-more f (cardsFrom f (freshCards f n c) earlier) s (eventsFrom f (freshCards f n c) earlier) (pairs-all earlier) (numberOn f (cardsFrom f (freshCards f n c) earlier) s) refl
 
-  shows-all : (sent : List Sent) → Along Shows (eventsFrom (freshCards n c) sent)
+  shows-all : (sent : List Sent) → Along Shows (eventsFrom f (freshCards f n c) sent)
   unfolding eventsFrom
   shows-all [] = tt
   shows-all (s ∷ earlier) = (
-    shows-one (cardsFrom (freshCards n c) earlier) s (eventsFrom (freshCards n c) earlier) (pairs-all earlier) (numberOn (cardsFrom (freshCards n c) earlier) s) refl,
+    shows-one f (cardsFrom f (freshCards f n c) earlier) s (eventsFrom f (freshCards f n c) earlier) (pairs-all earlier) (numberOn f (cardsFrom f (freshCards f n c) earlier) s) refl,
     shows-all earlier,
   )
 
 -- Of requests, latest first, from a fresh image.
-pub shows-history : (n c : ℕ) → T (shapeOk n c) → (sent : List Sent) → AllBytes sent → Along Shows (history (fresh n c) sent)
-shows-history n c shape sent b =
+pub shows-history : (f : Format) (n c : ℕ) → T (shapeOk f n c) → (sent : List Sent) → AllBytes sent → Along Shows (history f (fresh f n c) sent)
+shows-history f n c shape sent b =
     subst (Along Shows)
-    (sym (ap (λ (image : List ℕ). history image sent) (sym (freshSound n c shape .cards))
-    ∙ same-events (freshCards n c) sent (freshSound n c shape .good) b))
-    (shows-all n c sent)
+    (sym (ap (λ (image : List ℕ). history f image sent) (sym (freshSound f n c shape .cards))
+    ∙ same-events f (freshCards f n c) sent (freshSound f n c shape .good) b))
+    (shows-all f n c sent)
 
 pub pair-shown : PairShown
 unfolding logOf
-pair-shown n c shape sent b later e before split =
-    along-split Shows (logOf n c sent) later e before (shows-history n c shape (reverse sent) (bytes-reverse sent [] b tt)) split
+pair-shown f n c shape sent b later e before split =
+    along-split Shows (logOf f n c sent) later e before (shows-history f n c shape (reverse sent) (bytes-reverse sent [] b tt)) split
 
 -- An accepted command is well formed.
-pub accepted-formed : (image command reply : List ℕ) → serve image command reply .answer .number ≡ 0 → formed command ≡ true
-accepted-formed image command reply e =
-    not-false (formed command)
-    (none-applies (storeRows image command (length reply)) (exactly image command reply .accepts .0 e) 1)
+pub accepted-formed : (f : Format) (image command reply : List ℕ) → serve f image command reply .answer .number ≡ 0 → formed f command ≡ true
+accepted-formed f image command reply e =
+    not-false (formed f command)
+    (none-applies (storeRows f image command (length reply)) (exactly f image command reply .accepts .0 e) 1)

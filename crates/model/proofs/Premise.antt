@@ -10,20 +10,21 @@ use Rattle.guard.specs.Entry.{entrySound}
 use Rattle.guard.specs.Judge.{raise}
 use Rattle.guard.specs.Replies.{replied}
 use Rattle.stamps.specs.Stamp.{stamp, shared, exclusive}
+use Rattle.formats.specs.declared.Format.the-variants.{V1}
 use Rattle.image.specs.Layout.{shapeOk}
 use Rattle.image.specs.Bytes.{header, entryBytes, pad, readEntry, entryAt}
-use Rattle.image.specs.Image.{bodies, encode, cardAt, decode, tailZero, cardSound, headerSound, sound, fresh}
+use Rattle.image.specs.Image.{bodies, encode, cardAt, decode, tailZero, translationSound, cardSound, headerSound, sound, fresh}
 use Rattle.model.specs.Serve.{stepped, serveBy, serve}
-use Rattle.model.specs.Words.{Sent, Event, imageAfter, history, logOf}
+use Rattle.model.specs.Words.{Sent, Event, received, imageAfter, history, logOf}
 use Rattle.model.specs.Cases.{pair, got, verify, verifyOpening, stamp1, sentD, sentHidden}
 use Rattle.model.specs.Claims.{Intruded, PremiseTells}
 
 -- An accepted event of trial d, and of the same with update pairs.
 abbrev event : Sent → Event
-event s = record { sent = s; answer = got 0 stamp1 stamp1 0 0 0 0 0 [] .answer; reply = [] }
+event s = record { sent = s; read = received V1 s; answer = got 0 stamp1 stamp1 0 0 0 0 0 [] .answer; reply = [] }
 
-intruded : Intruded (logOf 1 16 sentD)
-unfolding logOf history imageAfter serve serveBy stepped sound headerSound cardSound tailZero decode cardAt entryAt readEntry encode bodies pad entryBytes header shapeOk fresh replied raise entrySound commandBytes formed payload fieldsOf wellFormed all allFrom le toLe part splice table spread every zeros
+intruded : Intruded (logOf V1 1 16 sentD)
+unfolding logOf history imageAfter serve serveBy stepped sound headerSound cardSound translationSound tailZero decode cardAt entryAt readEntry encode bodies pad entryBytes header shapeOk fresh replied raise entrySound commandBytes formed payload fieldsOf wellFormed all allFrom le toLe part splice table spread every zeros
 intruded =
     record {
       a = event (verify exclusive stamp1 stamp1);
@@ -36,8 +37,8 @@ intruded =
       intruder = refl;
     }
 
-hidden : Intruded (logOf 1 16 sentHidden)
-unfolding logOf history imageAfter serve serveBy stepped sound headerSound cardSound tailZero decode cardAt entryAt readEntry encode bodies pad entryBytes header shapeOk fresh replied raise entrySound commandBytes formed payload fieldsOf wellFormed all allFrom le toLe part splice table spread every zeros
+hidden : Intruded (logOf V1 1 16 sentHidden)
+unfolding logOf history imageAfter serve serveBy stepped sound headerSound cardSound translationSound tailZero decode cardAt entryAt readEntry encode bodies pad entryBytes header shapeOk fresh replied raise entrySound commandBytes formed payload fieldsOf wellFormed all allFrom le toLe part splice table spread every zeros
 hidden =
     record {
       a = event (verify exclusive stamp1 stamp1);
@@ -51,6 +52,6 @@ hidden =
     }
 
 pub premise-tells : PremiseTells
-unfolding commandBytes formed fieldsOf wellFormed all allFrom le toLe part zeros
+unfolding commandBytes formed payload fieldsOf wellFormed all allFrom le toLe part zeros
 premise-tells =
     record { holds = refl; fails = refl; without = intruded; hidden = refl; hidden-without = hidden; lifted = refl }

@@ -10,7 +10,7 @@ use lib.Dec.{T, lit<}
 use lib.ListN.{length}
 use Rattle.lists.specs.Parts.{Bytes}
 use Rattle.lists.proofs.Tests.{cases, from-T}
-use Rattle.commands.specs.Command.{Language, original, translation, writes, language}
+use Rattle.commands.specs.Command.{Language, original, translation, writes}
 use Rattle.commands.specs.Bytes.{fieldsOf, payload}
 use Rattle.lists.specs.Table.{settled}
 use Rattle.commands.specs.declared.Command.{Command}
@@ -19,7 +19,8 @@ use Rattle.guard.specs.Entry.{entrySound, FitsEntry}
 use Rattle.guard.specs.Judge.{raise}
 use Rattle.guard.specs.declared.Entry.{Entry}
 use Rattle.guard.proofs.Raise.{raise-sound, raise-fits}
-use Rattle.image.specs.Layout.{translations}
+use Rattle.formats.specs.declared.Format.{Format}
+use Rattle.formats.specs.Format.{translations}
 use Rattle.image.specs.Image.{Card, Cards, view, sideText, text, encode, decode, sound}
 use Rattle.image.specs.Image.{GoodCard, GoodCards}
 use Rattle.image.proofs.Cards.{good-with}
@@ -27,117 +28,117 @@ use Rattle.image_claims.proofs.Claims.{goodEncodes}
 use Rattle.model.specs.Serve.{cardOf, stepped, cardsAfter, serveBy, serve}
 use Rattle.model.specs.Words.{Sent, eventOf, imageAfter, history}
 use Rattle.model.specs.Claims.{SentBytes, AllBytes}
-use Rattle.commands.proofs.CommandBytes.{length-payload, fits-fields, Bytes-payload}
+use Rattle.commands.proofs.CommandBytes.{length-payload, fits-fields, language-within, Bytes-payload}
 use Rattle.model.proofs.Machine.{numberOn, eventBy, cardsBy, cardsFrom, eventsFrom, Passed, passed}
 use Rattle.model.proofs.Stepped.{count-step, text-step, seen-named, seen-other, mixed, mixed-fits, mixed-sound, edition-kept}
 
 -- ---- cards stay by the rules
 
-module _ (cs : Cards) (s : Sent) (good : GoodCards cs) (bytes : SentBytes s) where
+module _ (f : Format) (cs : Cards) (s : Sent) (good : GoodCards f cs) (bytes : SentBytes s) where
   abbrev c : Command
-  c = fieldsOf (s .command)
+  c = fieldsOf f (s .command)
 
   abbrev place : ℕ
   place = c .card
 
   abbrev stored : Card
-  stored = cardOf cs c
+  stored = cardOf f cs c
 
   abbrev after : Card
-  after = stepped stored c (payload (s .command))
+  after = stepped stored c (payload f (s .command))
 
   -- The entry that judges, raised.
   abbrev lifted : Entry
-  lifted = raise (view (language c) stored) c
+  lifted = raise (view (c .language) stored) c
 
-  module _ (known : Passed cs s) where
-    was : GoodCard (cs .room) stored
+  module _ (known : Passed f cs s) where
+    was : GoodCard f (cs .room) stored
     was = good .each place (ltb-true place (length (cs .cards)) (known .exists))
 
-    within : language c < translations
-    within = lit< tt
+    within : c .language < translations f
+    within = language-within f (s .command) (known .wellFormed)
 
-    has : language c < length (stored .translated)
-    has = subst (λ (n : ℕ). language c < n) (sym (was .count)) within
+    has : c .language < length (stored .translated)
+    has = subst (λ (n : ℕ). c .language < n) (sym (was .count)) within
 
-    long : length (payload (s .command)) ≡ c .length
-    long = length-payload (s .command) (known .wellFormed)
+    long : length (payload f (s .command)) ≡ c .length
+    long = length-payload f (s .command) (known .wellFormed)
 
     -- What holds of the raised entry, and of it with any translation as it was, holds of the card in every translation.
-    seen : (P : Entry → Type 0) → P lifted → ((t : ℕ) → t < translations → P (mixed (view t stored) lifted)) → (t : ℕ) → t < translations → P (view t after)
+    seen : (P : Entry → Type 0) → P lifted → ((t : ℕ) → t < translations f → P (mixed (view t stored) lifted)) → (t : ℕ) → t < translations f → P (view t after)
     seen P new old t h = go (cases (writes (translation t) c))
       where
         go : (writes (translation t) c ≡ true) ⊎ (writes (translation t) c ≡ false) → P (view t after)
         go (inl e) =
             subst (λ (j : ℕ). P (view j after)) (writes-named c t e)
-            (subst P (sym (seen-named stored c (payload (s .command)) has long)) new)
-        go (inr e) = subst P (sym (seen-other stored c (payload (s .command)) has long t e)) (old t h)
+            (subst P (sym (seen-named stored c (payload f (s .command)) has long)) new)
+        go (inr e) = subst P (sym (seen-other stored c (payload f (s .command)) has long t e)) (old t h)
 
-    picked : (l : Language) (b : Bool) → Bytes (text l stored) → Bytes (cond b (payload (s .command)) (text l stored))
-    picked l true h = Bytes-payload (s .command) (bytes .command)
+    picked : (l : Language) (b : Bool) → Bytes (text l stored) → Bytes (cond b (payload f (s .command)) (text l stored))
+    picked l true h = Bytes-payload f (s .command) (bytes .command)
     picked l false h = h
 
     text-bytes : (l : Language) → Bytes (text l stored) → Bytes (text l after)
-    text-bytes l h = subst Bytes (sym (text-step stored c (payload (s .command)) has l)) (picked l (writes l c) h)
+    text-bytes l h = subst Bytes (sym (text-step stored c (payload f (s .command)) has l)) (picked l (writes l c) h)
 
     side-bytes : (side : ℕ) → Bytes (sideText side after)
     side-bytes zero = text-bytes original (was .bytes 0)
     side-bytes (suc t) = text-bytes (translation t) (was .bytes (suc t))
 
     -- The card after an accepted command is by the rules.
-    good-after : GoodCard (cs .room) after
+    good-after : GoodCard f (cs .room) after
     good-after =
-        let fit = raise-fits (known .judged) (was .fits (language c) within) (fits-fields (s .command) (bytes .command)) in
-        let rule = raise-sound (known .judged) (was .rules (language c) within) in
+        let fit = raise-fits (known .judged) (was .fits (c .language) within) (fits-fields f (s .command) (bytes .command)) in
+        let rule = raise-sound (known .judged) (was .rules (c .language) within) in
         record {
-          count = count-step stored c (payload (s .command)) ∙ was .count;
+          count = count-step stored c (payload f (s .command)) ∙ was .count;
           fits = seen FitsEntry fit (λ t h. mixed-fits (was .fits t h) fit);
           rules =
               seen (λ (e : Entry). T (entrySound (cs .room) e)) rule
-              (λ t h. mixed-sound (cs .room) (view t stored) lifted (was .rules t h) rule (edition-kept (view (language c) stored) c));
+              (λ t h. mixed-sound (cs .room) (view t stored) lifted (was .rules t h) rule (edition-kept (view (c .language) stored) c));
           bytes = side-bytes;
         }
 
-  pub good-more : (number : ℕ) → numberOn cs s ≡ number → GoodCards (cardsBy number cs s)
+  pub good-more : (number : ℕ) → numberOn f cs s ≡ number → GoodCards f (cardsBy f number cs s)
   good-more (suc j) e = good
-  good-more zero e = good-with cs place after good (good-after (passed cs s e))
+  good-more zero e = good-with f cs place after good (good-after (passed f cs s e))
 
 -- ---- the same events, and the bytes of the same cards
 
-pub all-good : (start : Cards) (sent : List Sent) → GoodCards start → AllBytes sent → GoodCards (cardsFrom start sent)
+pub all-good : (f : Format) (start : Cards) (sent : List Sent) → GoodCards f start → AllBytes sent → GoodCards f (cardsFrom f start sent)
 unfolding cardsFrom
-all-good start [] g b = g
-all-good start (s ∷ earlier) g b =
-    good-more (cardsFrom start earlier) s (all-good start earlier g (b .1)) (b .0) (numberOn (cardsFrom start earlier) s) refl
+all-good f start [] g b = g
+all-good f start (s ∷ earlier) g b =
+    good-more f (cardsFrom f start earlier) s (all-good f start earlier g (b .1)) (b .0) (numberOn f (cardsFrom f start earlier) s) refl
 
-settled-encode : (number : ℕ) (new old : Cards) → settled number (encode new) (encode old) ≡ encode (settled number new old)
-settled-encode zero new old = refl
-settled-encode (suc j) new old = refl
+settled-encode : (f : Format) (number : ℕ) (new old : Cards) → settled number (encode f new) (encode f old) ≡ encode f (settled number new old)
+settled-encode f zero new old = refl
+settled-encode f (suc j) new old = refl
 
-module _ (cs : Cards) (s : Sent) (good : GoodCards cs) where
-  is-sound : sound (encode cs) ≡ true
-  is-sound = from-T (sound (encode cs)) (goodEncodes cs good .sounds)
+module _ (f : Format) (cs : Cards) (s : Sent) (good : GoodCards f cs) where
+  is-sound : sound f (encode f cs) ≡ true
+  is-sound = from-T (sound f (encode f cs)) (goodEncodes f cs good .sounds)
 
-  reads-back : decode (encode cs) ≡ cs
-  reads-back = goodEncodes cs good .same
+  reads-back : decode f (encode f cs) ≡ cs
+  reads-back = goodEncodes f cs good .same
 
-  pub same-event : eventOf s (serve (encode cs) (s .command) (s .lent)) ≡ eventBy (numberOn cs s) cs s
+  pub same-event : eventOf f s (serve f (encode f cs) (s .command) (s .lent)) ≡ eventBy f (numberOn f cs s) cs s
   unfolding serve serveBy
   same-event = rw (is-sound, reads-back)
 
-  pub same-image : serve (encode cs) (s .command) (s .lent) .image ≡ encode (cardsBy (numberOn cs s) cs s)
+  pub same-image : serve f (encode f cs) (s .command) (s .lent) .image ≡ encode f (cardsBy f (numberOn f cs s) cs s)
   unfolding serve serveBy
-  same-image = rw (is-sound, reads-back) (settled-encode (numberOn cs s) (cardsAfter cs (s .command)) cs)
+  same-image = rw (is-sound, reads-back) (settled-encode f (numberOn f cs s) (cardsAfter f cs (s .command)) cs)
 
-pub same-images : (start : Cards) (sent : List Sent) → GoodCards start → AllBytes sent → imageAfter (encode start) sent ≡ encode (cardsFrom start sent)
+pub same-images : (f : Format) (start : Cards) (sent : List Sent) → GoodCards f start → AllBytes sent → imageAfter f (encode f start) sent ≡ encode f (cardsFrom f start sent)
 unfolding imageAfter cardsFrom
-same-images start [] g b = refl
-same-images start (s ∷ earlier) g b =
-    ap (λ (image : List ℕ). serve image (s .command) (s .lent) .image) (same-images start earlier g (b .1))
-    ∙ same-image (cardsFrom start earlier) s (all-good start earlier g (b .1))
+same-images f start [] g b = refl
+same-images f start (s ∷ earlier) g b =
+    ap (λ (image : List ℕ). serve f image (s .command) (s .lent) .image) (same-images f start earlier g (b .1))
+    ∙ same-image f (cardsFrom f start earlier) s (all-good f start earlier g (b .1))
 
-pub same-events : (start : Cards) (sent : List Sent) → GoodCards start → AllBytes sent → history (encode start) sent ≡ eventsFrom start sent
+pub same-events : (f : Format) (start : Cards) (sent : List Sent) → GoodCards f start → AllBytes sent → history f (encode f start) sent ≡ eventsFrom f start sent
 unfolding history eventsFrom
-same-events start [] g b = refl
-same-events start (s ∷ earlier) g b =
-    rw (same-images start earlier g (b .1), same-event (cardsFrom start earlier) s (all-good start earlier g (b .1)), same-events start earlier g (b .1))
+same-events f start [] g b = refl
+same-events f start (s ∷ earlier) g b =
+    rw (same-images f start earlier g (b .1), same-event f (cardsFrom f start earlier) s (all-good f start earlier g (b .1)), same-events f start earlier g (b .1))

@@ -12,12 +12,12 @@ use Rattle.model.proofs.Machine.{numberOn, cardsBy}
 use Rattle.model.proofs.Simulation.{good-more, same-image}
 
 pub stays-sound : StaysSound
-stays-sound image command reply b bc br e =
-    let back = soundReadsBack image b (to-T e) in
+stays-sound f image command reply b bc br e =
+    let back = soundReadsBack f image b (to-T e) in
     let s : Sent = record { command = command; lent = reply } in
-    let cards : Cards = cardsBy (numberOn (decode image) s) (decode image) s in
-    let after : serve image command reply .image ≡ encode cards =
-    subst (λ (i : List ℕ). serve i command reply .image ≡ encode cards) (back .same) (same-image (decode image) s (back .good)) in
-    ap sound after
-    ∙ from-T (sound (encode cards))
-    (goodEncodes cards (good-more (decode image) s (back .good) (record { command = bc; lent = br }) (numberOn (decode image) s) refl) .sounds)
+    let cards : Cards = cardsBy f (numberOn f (decode f image) s) (decode f image) s in
+    let after : serve f image command reply .image ≡ encode f cards =
+    subst (λ (i : List ℕ). serve f i command reply .image ≡ encode f cards) (back .same) (same-image f (decode f image) s (back .good)) in
+    ap (sound f) after
+    ∙ from-T (sound f (encode f cards))
+    (goodEncodes f cards (good-more f (decode f image) s (back .good) (record { command = bc; lent = br }) (numberOn f (decode f image) s) refl) .sounds)

@@ -4,16 +4,16 @@ use native.Mathlib.Omega.{arith}
 use mathlib.Core.Path.{_≡_, refl, sym, ap, subst, _∙_}
 use mathlib.Core.Logic.{_⊎_, inl, inr}
 use mathlib.Core.List.{List}
-use mathlib.Core.Bool.{Bool, true, false, cond}
+use mathlib.Core.Bool.{Bool, true, false, cond, _&&_}
 use borrow.Author.Tests.{eqb-true, eqb-false, le-leb, leb-true}
 use lib.Dec.{T, eqb, leb}
 use lib.ListN.{length, getD, set, length-set}
 use lib.Seq.{getD-set-same, getD-set-other}
 use Rattle.lists.specs.Table.{all, allFrom}
 use Rattle.lists.proofs.Tests.{cases, from-T, to-T, all-out}
-use Rattle.commands.specs.Command.{Language, original, translation, writes, language}
+use Rattle.commands.specs.Command.{Language, original, translation, writesTranslation, writes}
 use Rattle.commands.specs.declared.Command.{Command}
-use Rattle.commands.proofs.Languages.{writes-other}
+use Rattle.commands.proofs.Languages.{writes-own}
 use Rattle.guard.specs.Entry.{entryChecks, entrySound, FitsEntry}
 use Rattle.guard.specs.Judge.{raise}
 use Rattle.guard.specs.declared.Entry.{Entry}
@@ -35,38 +35,29 @@ module _ (card : Card) (c : Command) (written : List ℕ) where
 
   pub count-step : length (now .translated) ≡ length (card .translated)
   unfolding stepped
-  count-step = go (writes (translation (language c)) c)
+  count-step = go (writesTranslation c)
     where
-      go : (b : Bool) → length (cond b (set (card .translated) (language c) new) (card .translated)) ≡ length (card .translated)
-      go true = length-set (card .translated) (language c) new
+      go : (b : Bool) → length (cond b (set (card .translated) (c .language) new) (card .translated)) ≡ length (card .translated)
+      go true = length-set (card .translated) (c .language) new
       go false = refl
 
   -- From here on the card has the translation that the command names.
-  module _ (known : language c < length (card .translated)) where
+  module _ (known : c .language < length (card .translated)) where
     -- Translation t: the new one where the command writes it, else as it was.
     pub translation-step : (t : ℕ) → translationOf t now ≡ cond (writes (translation t) c) new (translationOf t card)
     unfolding stepped
-    translation-step t = go (cases (writes (translation (language c)) c)) (cases (eqb (language c) t))
+    translation-step t = go (cases (writesTranslation c)) (cases (eqb (c .language) t))
       where
-        go : (writes (translation (language c)) c ≡ true) ⊎ (writes (translation (language c)) c ≡ false) → (eqb (language c) t ≡ true) ⊎ (eqb (language c) t ≡ false)
-            → getD (cond (writes (translation (language c)) c) (set (card .translated) (language c) new) (card .translated)) t noTranslation
-            ≡ cond (writes (translation t) c) new (translationOf t card)
+        go : (writesTranslation c ≡ true) ⊎ (writesTranslation c ≡ false) → (eqb (c .language) t ≡ true) ⊎ (eqb (c .language) t ≡ false)
+            → getD (cond (writesTranslation c) (set (card .translated) (c .language) new) (card .translated)) t noTranslation
+            ≡ cond (writesTranslation c && eqb (c .language) t) new (translationOf t card)
         go (inl p) (inl q) =
-            subst
-            (λ (j : ℕ). getD (cond (writes (translation (language c)) c) (set (card .translated) (language c) new) (card .translated)) j noTranslation
-            ≡ cond (writes (translation j) c) new (translationOf j card))
-            (eqb-true (language c) t q)
-            (rw p (getD-set-same (card .translated) (language c) new noTranslation known))
+            rw (p, q)
+            (subst (λ (j : ℕ). getD (set (card .translated) (c .language) new) j noTranslation ≡ new) (eqb-true (c .language) t q)
+            (getD-set-same (card .translated) (c .language) new noTranslation known))
         go (inl p) (inr q) =
-            let apart = eqb-false (language c) t q in
-            rw (p, writes-other c t apart) (getD-set-other (card .translated) (language c) t new noTranslation (λ z. apart (sym z)))
-        go (inr p) (inl q) =
-            subst
-            (λ (j : ℕ). getD (cond (writes (translation (language c)) c) (set (card .translated) (language c) new) (card .translated)) j noTranslation
-            ≡ cond (writes (translation j) c) new (translationOf j card))
-            (eqb-true (language c) t q)
-            (rw p)
-        go (inr p) (inr q) = rw (p, writes-other c t (eqb-false (language c) t q))
+            rw (p, q) (getD-set-other (card .translated) (c .language) t new noTranslation (λ z. eqb-false (c .language) t q (sym z)))
+        go (inr p) either = rw p
 
     pub text-step : (l : Language) → text l now ≡ cond (writes l c) written (text l card)
     unfolding stepped
@@ -83,18 +74,18 @@ module _ (card : Card) (c : Command) (written : List ℕ) where
     -- From here on the payload is as long as the command says.
     module _ (long : length written ≡ c .length) where
       abbrev lifted : Entry
-      lifted = raise (view (language c) card) c
+      lifted = raise (view (c .language) card) c
 
       length-step : (l : Language) → length (text l now) ≡ cond (writes l c) (c .length) (length (text l card))
       length-step l = ap length (text-step l) ∙ made-of length (writes l c) written (text l card) ∙ rw long
 
       -- As seen in the translation that the command names, the entry is the raised one.
-      pub seen-named : view (language c) now ≡ lifted
+      pub seen-named : view (c .language) now ≡ lifted
       unfolding stepped raise
       seen-named =
-          let from : translationOf (language c) now .from ≡ lifted .from = from-step (language c) in
+          let from : translationOf (c .language) now .from ≡ lifted .from = from-step (c .language) ∙ rw (writes-own c) in
           let originals : length (now .original) ≡ lifted .original = length-step original in
-          let size : length (translationOf (language c) now .text) ≡ lifted .translation = length-step (translation (language c)) in
+          let size : length (translationOf (c .language) now .text) ≡ lifted .translation = length-step (translation (c .language)) ∙ rw (writes-own c) in
           λ i. record { pair = lifted .pair; mark = lifted .mark; edition = lifted .edition; from = from i; original = originals i; translation = size i }
 
 -- An entry with the translated-from and the length of the translation of another.
@@ -103,15 +94,15 @@ mixed old new =
     record { pair = new .pair; mark = new .mark; edition = new .edition; from = old .from; original = new .original; translation = old .translation }
 
 -- As seen in a translation that the command does not write, the entry is the raised one with that translation as it was.
-pub seen-other : (card : Card) (c : Command) (written : List ℕ) → language c < length (card .translated) → length written ≡ c .length
-    → (t : ℕ) → writes (translation t) c ≡ false → view t (stepped card c written) ≡ mixed (view t card) (raise (view (language c) card) c)
+pub seen-other : (card : Card) (c : Command) (written : List ℕ) → c .language < length (card .translated) → length written ≡ c .length
+    → (t : ℕ) → writes (translation t) c ≡ false → view t (stepped card c written) ≡ mixed (view t card) (raise (view (c .language) card) c)
 unfolding stepped raise
 seen-other card c written known long t other =
     let from : translationOf t (stepped card c written) .from ≡ translationOf t card .from = from-step card c written known t ∙ rw other in
-    let originals : length (stepped card c written .original) ≡ raise (view (language c) card) c .original = length-step card c written known long original in
+    let originals : length (stepped card c written .original) ≡ raise (view (c .language) card) c .original = length-step card c written known long original in
     let size : length (translationOf t (stepped card c written) .text) ≡ length (translationOf t card .text) =
     length-step card c written known long (translation t) ∙ rw other in
-    let lifted = raise (view (language c) card) c in
+    let lifted = raise (view (c .language) card) c in
     λ i. record { pair = lifted .pair; mark = lifted .mark; edition = lifted .edition; from = from i; original = originals i; translation = size i }
 
 -- Such an entry keeps the rules, and the widths of its fields, if both do and the edition did not fall.

@@ -11,7 +11,6 @@ use Rattle.stamps.specs.Stamp.{noMark, markFits}
 use Rattle.stamps.specs.declared.Mark.{Mark}
 use Rattle.commands.specs.Command.{Language, original, translation, writes, update, Session, session}
 use Rattle.commands.proofs.Languages.{no-original}
-use Rattle.commands.specs.Bytes.{payload}
 use Rattle.commands.specs.declared.Command.{Command}
 use Rattle.model.specs.Words.{Event, commandOf, accepted, wrote, rightMark, outdated, lastText, OneSession}
 use Rattle.model.specs.Meaning.{Nearest, Overwritten, Passes, WordsMean}
@@ -121,10 +120,10 @@ module _ (before : List Event) (c : Command) where
 
 module _ (l : Language) (before : List Event) (k : ℕ) where
   pub text-none : none (wrote l k) before ≡ true → lastText l before k ≡ []
-  text-none h = last-none (wrote l k) (λ e. payload (e .sent .command)) [] before h
+  text-none h = last-none (wrote l k) (λ e. e .read .payload) [] before h
 
-  pub text-last : (e : Event) → Nearest (wrote l k) e before → lastText l before k ≡ payload (e .sent .command)
-  text-last e m = last-means (wrote l k) (λ e. payload (e .sent .command)) [] before m
+  pub text-last : (e : Event) → Nearest (wrote l k) e before → lastText l before k ≡ e .read .payload
+  text-last e m = last-means (wrote l k) (λ e. e .read .payload) [] before m
 
 -- ---- sessions
 

@@ -11,6 +11,8 @@ use Rattle.guard.specs.declared.Answer.{Answer}
 use Rattle.stamps.specs.declared.Pair.{Pair}
 use Rattle.stamps.specs.declared.Mark.{Mark}
 use Rattle.commands.specs.declared.Command.{Command}
+use Rattle.formats.specs.declared.Format.{Format}
+use Rattle.formats.specs.declared.Format.the-variants.{V1}
 use Rattle.image.specs.Image.{noTranslation, encode, fresh}
 use Rattle.model.specs.Serve.{serve}
 use Rattle.model.specs.Words.{Sent, Event, history}
@@ -21,18 +23,18 @@ pub record Got : Type 0 where
   pub reply : List ℕ
 
 -- What requests get, one for each, in the order in which they are sent, from a start image.
-unfoldable pub run : List ℕ → List Sent → List Got
-run image [] = []
-run image (s ∷ later) =
-    record { answer = serve image (s .command) (s .lent) .answer; reply = serve image (s .command) (s .lent) .reply }
-    ∷ run (serve image (s .command) (s .lent) .image) later
+unfoldable pub run : Format → List ℕ → List Sent → List Got
+run f image [] = []
+run f image (s ∷ later) =
+    record { answer = serve f image (s .command) (s .lent) .answer; reply = serve f image (s .command) (s .lent) .reply }
+    ∷ run f (serve f image (s .command) (s .lent) .image) later
 
 -- What a run gets is what the log of demand 3 shows for the same requests.
 abbrev pub shown : Event → Got
 shown e = record { answer = e .answer; reply = e .reply }
 
 abbrev pub RunLogged : Type 0
-RunLogged = (start : List ℕ) (sent : List Sent) → run start sent ≡ map shown (reverse (history start (reverse sent)))
+RunLogged = (f : Format) (start : List ℕ) (sent : List Sent) → run f start sent ≡ map shown (reverse (history f start (reverse sent)))
 
 -- One row of the table.
 pub record Trial : Type 0 where
@@ -62,14 +64,14 @@ pair s x = record { s = s; x = x }
 -- The numbers of a command with two pairs, and of one whose update pair is its verifier.
 abbrev pub withPairs : ℕ → ℕ → ℕ → Pair → Pair → Mark → Mark → ℕ → ℕ → Command
 withPairs act mode card p opened expected next edition n =
-    record { act = act; mode = mode; card = card; pair = p; opened = opened; expected = expected; next = next; edition = edition; length = n }
+    record { act = act; mode = mode; language = 0; card = card; pair = p; opened = opened; expected = expected; next = next; edition = edition; length = n }
 
 abbrev pub withNumbers : ℕ → ℕ → ℕ → Pair → Mark → Mark → ℕ → ℕ → Command
 withNumbers act mode card p expected next edition n = withPairs act mode card p noPair expected next edition n
 
 -- A command with its payload and a lent reply buffer.
 abbrev pub sends : Command → List ℕ → List ℕ → Sent
-sends c text lent = record { command = commandBytes c text; lent = lent }
+sends c text lent = record { command = commandBytes V1 c text; lent = lent }
 
 -- A command for card 0 without marks, with an update pair of its own, and with one pair.
 abbrev pub requestOpening : ℕ → ℕ → Pair → Pair → ℕ → List ℕ → List ℕ → Sent
@@ -125,12 +127,12 @@ got number s x desk transaction edition from length reply =
 
 -- N 1, C 16.
 abbrev pub empty : List ℕ
-empty = fresh 1 16
+empty = fresh V1 1 16
 
 -- One card at edition 65,534, with no text.
 abbrev pub nearlyLast : List ℕ
 nearlyLast =
-    encode
+    encode V1
     (record {
       room = 16;
       cards =
@@ -643,4 +645,4 @@ trials =
 
 -- The claim: each row gets exactly what it must, whole lists of answers, fields and reply buffers.
 abbrev pub Trials : Type 0
-Trials = map (λ (t : Trial). run (t .start) (t .sent)) trials ≡ map (λ (t : Trial). t .expected) trials
+Trials = map (λ (t : Trial). run V1 (t .start) (t .sent)) trials ≡ map (λ (t : Trial). t .expected) trials

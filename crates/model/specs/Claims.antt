@@ -10,6 +10,8 @@ use lib.Dec.{T}
 use Rattle.lists.specs.Parts.{Bytes}
 use Rattle.commands.specs.Command.{Language, translation, reads}
 use Rattle.lists.specs.Table.{applies, earlier, noRow}
+use Rattle.formats.specs.declared.Format.{Format}
+use Rattle.formats.specs.declared.Format.the-variants.{V1}
 use Rattle.image.specs.Layout.{shapeOk}
 use Rattle.image.specs.Image.{sound}
 use Rattle.model.specs.Serve.{serve, storeRows}
@@ -26,7 +28,9 @@ use Rattle.model.specs.Words.{
   outdated,
   lastText,
   commandOf,
+  received,
   premise,
+  commandsIn,
   OneSession,
   intrudes,
 }
@@ -77,16 +81,16 @@ pub record Claim (n : ℕ) (sent : List Sent) (log : List Event) : Type 0 where
   -- under the premise, between two accepted commands of one session no command of another desk is accepted for that card, unless both are shared
   pub isolation :
       (k : ℕ) (later : List Event) (b : Event) (between : List Event) (a : Event) (before : List Event)
-      → premise k sent ≡ true
+      → premise k (commandsIn log) ≡ true
       → log ≡ later ++ b ∷ (between ++ a ∷ before)
       → accepted k a ≡ true
       → accepted k b ≡ true
       → OneSession a b
       → none (intrudes k b) between ≡ true
 
--- Demand 3: from a fresh image of any N and C that the rules allow, for every list of lent bytes and reply buffers.
+-- Demand 3, of every version: from a fresh image of any N and C that the rules allow, for every list of lent bytes and reply buffers.
 abbrev pub Demand3 : Type 0
-Demand3 = (n c : ℕ) → T (shapeOk n c) → (sent : List Sent) → AllBytes sent → Claim n sent (logOf n c sent)
+Demand3 = (f : Format) (n c : ℕ) → T (shapeOk f n c) → (sent : List Sent) → AllBytes sent → Claim n sent (logOf f n c sent)
 
 -- A log in which an accepted command of another desk stands between two accepted commands of one session for card 0.
 pub record Intruded (log : List Event) : Type 0 where
@@ -103,35 +107,35 @@ pub record Intruded (log : List Event) : Type 0 where
 -- whose log sessions are not isolated. It reads update pairs: a list in which only these break it, and there too sessions are not isolated;
 -- and one in which only verifiers would.
 pub record PremiseTells : Type 0 where
-  pub holds : premise 0 sentA ≡ true
-  pub fails : premise 0 sentD ≡ false
-  pub without : Intruded (logOf 1 16 sentD)
-  pub hidden : premise 0 sentHidden ≡ false
-  pub hidden-without : Intruded (logOf 1 16 sentHidden)
-  pub lifted : premise 0 sentLifted ≡ true
+  pub holds : premise 0 (map (received V1) sentA) ≡ true
+  pub fails : premise 0 (map (received V1) sentD) ≡ false
+  pub without : Intruded (logOf V1 1 16 sentD)
+  pub hidden : premise 0 (map (received V1) sentHidden) ≡ false
+  pub hidden-without : Intruded (logOf V1 1 16 sentHidden)
+  pub lifted : premise 0 (map (received V1) sentLifted) ≡ true
 
 -- Demand 2: each number exactly when its row applies and none above it, and 0 exactly when none applies.
-pub record Given (image command reply : List ℕ) : Type 0 where
+pub record Given (f : Format) (image command reply : List ℕ) : Type 0 where
   pub refused :
-      (n : ℕ) → (serve image command reply .answer .number ≡ suc n)
-      ↔ (T (applies (suc n) (storeRows image command (length reply))) × T (noRow (earlier (suc n) (storeRows image command (length reply)))))
-  pub accepts : (serve image command reply .answer .number ≡ 0) ↔ T (noRow (storeRows image command (length reply)))
+      (n : ℕ) → (serve f image command reply .answer .number ≡ suc n)
+      ↔ (T (applies (suc n) (storeRows f image command (length reply))) × T (noRow (earlier (suc n) (storeRows f image command (length reply)))))
+  pub accepts : (serve f image command reply .answer .number ≡ 0) ↔ T (noRow (storeRows f image command (length reply)))
 
 abbrev pub Exactly : Type 0
-Exactly = (image command reply : List ℕ) → Given image command reply
+Exactly = (f : Format) (image command reply : List ℕ) → Given f image command reply
 
 -- Demand 1: every number is from the list (rule 4.1: 0 to 9, and 17), and a refusal changes nothing.
-pub record Safe (image command reply : List ℕ) : Type 0 where
-  pub listed : (serve image command reply .answer .number ≤ 9) ⊎ (serve image command reply .answer .number ≡ 17)
+pub record Safe (f : Format) (image command reply : List ℕ) : Type 0 where
+  pub listed : (serve f image command reply .answer .number ≤ 9) ⊎ (serve f image command reply .answer .number ≡ 17)
   pub kept :
-      (n : ℕ) → serve image command reply .answer .number ≡ suc n
-      → (serve image command reply .image ≡ image) × (serve image command reply .reply ≡ reply)
+      (n : ℕ) → serve f image command reply .answer .number ≡ suc n
+      → (serve f image command reply .image ≡ image) × (serve f image command reply .reply ≡ reply)
 
 abbrev pub Refusals : Type 0
-Refusals = (image command reply : List ℕ) → Safe image command reply
+Refusals = (f : Format) (image command reply : List ℕ) → Safe f image command reply
 
 -- A sound image stays sound, whatever is asked of it.
 abbrev pub StaysSound : Type 0
 StaysSound =
-    (image command reply : List ℕ) → Bytes image → Bytes command → Bytes reply → sound image ≡ true
-    → sound (serve image command reply .image) ≡ true
+    (f : Format) (image command reply : List ℕ) → Bytes image → Bytes command → Bytes reply → sound f image ≡ true
+    → sound f (serve f image command reply .image) ≡ true

@@ -10,9 +10,8 @@ use Rattle.lists.specs.Search.{any, none}
 use Rattle.stamps.specs.Stamp.{shared, exclusive, stampT, deskNumber, deskOf, mostAhead, noMark, markFits}
 use Rattle.stamps.specs.declared.Pair.{Pair}
 use Rattle.commands.specs.Command.{Language, original, translation, verifier, update}
-use Rattle.commands.specs.Bytes.{fieldsOf, payload}
 use Rattle.commands.specs.declared.Command.{Command}
-use Rattle.model.specs.Words.{Sent, Event, commandOf, accepted, wrote, late, farAhead, rightMark, outdated, lastText, sentFor, carries, under, premise, OneSession, intrudes}
+use Rattle.model.specs.Words.{Received, Event, commandOf, accepted, wrote, late, farAhead, rightMark, outdated, lastText, formedFor, carries, under, premise, OneSession, intrudes}
 
 module _ {A : Type 0} where
   -- The element stands in the list.
@@ -62,12 +61,12 @@ pub record Carries (c : Command) : Type 0 where
 
 -- Rule 9.5, the premise: of every two well-formed commands of the list for the card, in any order, where one carries another desk's exclusive stamp and
 -- the other is exclusive under that stamp, the first one's s is above the other's.
-abbrev pub Ordered : ℕ → List Sent → Type 0
-Ordered k sent =
-    (a b : Sent) → Among a sent → Among b sent → sentFor k a ≡ true → sentFor k b ≡ true
-    → carries (fieldsOf (a .command)) ≡ true
-    → under (update (fieldsOf (a .command)) .x) (fieldsOf (b .command)) ≡ true
-    → update (fieldsOf (b .command)) .s < update (fieldsOf (a .command)) .s
+abbrev pub Ordered : ℕ → List Received → Type 0
+Ordered k all =
+    (a b : Received) → Among a all → Among b all → formedFor k a ≡ true → formedFor k b ≡ true
+    → carries (a .numbers) ≡ true
+    → under (update (a .numbers) .x) (b .numbers) ≡ true
+    → update (b .numbers) .s < update (a .numbers) .s
 
 -- Rule 9.6, between two commands of one session: accepted for the card, of another desk or start than b's, and one of the two is exclusive.
 pub record Intruder (k : ℕ) (b e : Event) : Type 0 where
@@ -94,9 +93,9 @@ pub record WordsMean : Type 0 where
   -- nothing before the first accepted write, then what the last one brought along
   pub unwritten : (l : Language) (before : List Event) (k : ℕ) → none (wrote l k) before ≡ true → lastText l before k ≡ []
   pub written :
-      (l : Language) (before : List Event) (k : ℕ) (e : Event) → Nearest (wrote l k) e before → lastText l before k ≡ payload (e .sent .command)
+      (l : Language) (before : List Event) (k : ℕ) (e : Event) → Nearest (wrote l k) e before → lastText l before k ≡ e .read .payload
   pub carrying : (c : Command) → (carries c ≡ true) ↔ Carries c
-  pub order : (k : ℕ) (sent : List Sent) → (premise k sent ≡ true) ↔ Ordered k sent
+  pub order : (k : ℕ) (all : List Received) → (premise k all ≡ true) ↔ Ordered k all
   -- rule 1.6: card, mode and update pair are the same, and so is the desk, which they name
   pub session :
       (a b : Event)

@@ -9,6 +9,7 @@ use Rattle.stamps.specs.Stamp.{largerOfEach, noPair}
 use Rattle.stamps.specs.declared.Pair.{Pair}
 use Rattle.commands.specs.Command.{update}
 use Rattle.guard.specs.Replies.{blankReply}
+use Rattle.formats.specs.declared.Format.{Format}
 use Rattle.image.specs.Layout.{shapeOk}
 use Rattle.model.specs.Words.{Sent, Event, commandOf, accepted, logOf}
 use Rattle.model.specs.Claims.{AllBytes}
@@ -23,6 +24,6 @@ largestPair k (e ∷ before) =
 -- learns nothing but what accepted commands carried.
 abbrev pub PairShown : Type 0
 PairShown =
-    (n c : ℕ) → T (shapeOk n c) → (sent : List Sent) → AllBytes sent →
-    (later : List Event) (e : Event) (before : List Event) → logOf n c sent ≡ later ++ e ∷ before →
+    (f : Format) (n c : ℕ) → T (shapeOk f n c) → (sent : List Sent) → AllBytes sent →
+    (later : List Event) (e : Event) (before : List Event) → logOf f n c sent ≡ later ++ e ∷ before →
     e .answer .pair ≡ cond (blankReply (e .answer .number)) noPair (largestPair (commandOf e .card) (e ∷ before))

@@ -2,7 +2,7 @@
 -- Assumes nothing.
 use Prim.Native.Nat.{ℕ, _+_}
 use mathlib.Core.Path.{_≡_}
-use mathlib.Core.List.{List, [], _∷_, reverse}
+use mathlib.Core.List.{List, [], _∷_, map, reverse}
 use mathlib.Core.Bool.{Bool, true, false, cond, not, _&&_, _||_}
 use lib.Dec.{ltb, leb, eqb}
 use Rattle.lists.specs.Search.{any, none, since, last}
@@ -12,6 +12,7 @@ use Rattle.commands.specs.Bytes.{fieldsOf, payload, formed}
 use Rattle.guard.specs.declared.Answer.{Answer}
 use Rattle.commands.specs.declared.Command.{Command}
 use Rattle.stamps.specs.declared.Pair.{Pair}
+use Rattle.formats.specs.declared.Format.{Format}
 use Rattle.image.specs.Image.{fresh}
 use Rattle.model.specs.Serve.{Outcome, serve}
 
@@ -20,33 +21,45 @@ pub record Sent : Type 0 where
   pub command : List ℕ
   pub lent : List ℕ
 
--- What its sender sees of it: what was sent, the answer, and the reply buffer afterwards.
+-- A command as its version reads it: whether the lent bytes are one, its numbers, and its payload.
+pub record Received : Type 0 where
+  pub formed : Bool
+  pub numbers : Command
+  pub payload : List ℕ
+
+abbrev pub received : Format → Sent → Received
+received f s = record { formed = formed f (s .command); numbers = fieldsOf f (s .command); payload = payload f (s .command) }
+
+-- What its sender sees of it: what was sent, how it is read, the answer, and the reply buffer afterwards.
 pub record Event : Type 0 where
   pub sent : Sent
+  pub read : Received
   pub answer : Answer
   pub reply : List ℕ
 
-abbrev pub eventOf : Sent → Outcome → Event
-eventOf s o = record { sent = s; answer = o .answer; reply = o .reply }
+abbrev pub eventOf : Format → Sent → Outcome → Event
+eventOf f s o = record { sent = s; read = received f s; answer = o .answer; reply = o .reply }
 
 -- The image after requests, latest first: each meets the image as the one before left it (rule 9.1).
-unfoldable pub imageAfter : List ℕ → List Sent → List ℕ
-imageAfter start [] = start
-imageAfter start (s ∷ earlier) = serve (imageAfter start earlier) (s .command) (s .lent) .image
+unfoldable pub imageAfter : Format → List ℕ → List Sent → List ℕ
+imageAfter f start [] = start
+imageAfter f start (s ∷ earlier) = serve f (imageAfter f start earlier) (s .command) (s .lent) .image
 
 -- Their events, latest first.
-unfoldable pub history : List ℕ → List Sent → List Event
-history start [] = []
-history start (s ∷ earlier) =
-    eventOf s (serve (imageAfter start earlier) (s .command) (s .lent)) ∷ history start earlier
+unfoldable pub history : Format → List ℕ → List Sent → List Event
+history f start [] = []
+history f start (s ∷ earlier) =
+    eventOf f s (serve f (imageAfter f start earlier) (s .command) (s .lent)) ∷ history f start earlier
 
--- The log of requests in the order in which they are sent, from a fresh image (rule 9.1).
-unfoldable pub logOf : ℕ → ℕ → List Sent → List Event
-logOf n c sent = history (fresh n c) (reverse sent)
+-- The log of requests in the order in which they are sent, from a fresh image of their version (rule 9.1).
+unfoldable pub logOf : Format → ℕ → ℕ → List Sent → List Event
+logOf f n c sent = history f (fresh f n c) (reverse sent)
+
+-- ---- From here on no version is named: the words speak of commands as they were read.
 
 -- The numbers of an event's command.
 abbrev pub commandOf : Event → Command
-commandOf e = fieldsOf (e .sent .command)
+commandOf e = e .read .numbers
 
 -- An accepted command, answered with 0, for card k.
 abbrev pub accepted : ℕ → Event → Bool
@@ -58,7 +71,7 @@ wrote l k e = accepted k e && writes l (commandOf e)
 
 -- Rule 9.2: well formed, and for a card that exists.
 pub record Proper (n : ℕ) (e : Event) : Type 0 where
-  pub wellFormed : formed (e .sent .command) ≡ true
+  pub wellFormed : e .read .formed ≡ true
   pub exists : ltb (commandOf e .card) n ≡ true
 
 -- An accepted command for card k whose update pair has a larger s, or a larger x, than a command's verifier (rule 9.2).
@@ -96,7 +109,7 @@ outdated t before k = none (wrote (translation t) k) (since (wrote original k) b
 
 -- Rule 9.4: what the last earlier accepted write of a card and language brought along; empty where there is none.
 abbrev pub lastText : Language → List Event → ℕ → List ℕ
-lastText l before k = last (wrote l k) (λ e. payload (e .sent .command)) [] before
+lastText l before k = last (wrote l k) (λ e. e .read .payload) [] before
 
 -- Rule 9.5: a shared command carries another desk's exclusive stamp, in its update pair.
 abbrev pub carries : Command → Bool
@@ -109,20 +122,23 @@ carries c =
 abbrev pub under : ℕ → Command → Bool
 under stamp c = eqb (c .mode) exclusive && eqb (update c .x) stamp
 
--- A well-formed command for card k, of the list of what was sent.
-abbrev pub sentFor : ℕ → Sent → Bool
-sentFor k s = formed (s .command) && eqb (fieldsOf (s .command) .card) k
+-- A well-formed command for card k.
+abbrev pub formedFor : ℕ → Received → Bool
+formedFor k r = r .formed && eqb (r .numbers .card) k
 
 -- One command breaks the premise with another: it carries another desk's exclusive stamp, the other is exclusive under that stamp, and its s is
 -- not above the other's.
 abbrev pub breaks : Command → Command → Bool
 breaks c d = carries c && under (update c .x) d && not (ltb (update d .s) (update c .s))
 
--- The premise for card k: a shared command that carries another desk's exclusive stamp has its s above that of every exclusive command under that
+-- The premise for card k, on commands in any order: a shared command that carries another desk's exclusive stamp has its s above that of every exclusive command under that
 -- stamp. Refused commands count as well, wherever they stand.
-abbrev pub premise : ℕ → List Sent → Bool
-premise k sent =
-    none (λ a. sentFor k a && any (λ b. sentFor k b && breaks (fieldsOf (a .command)) (fieldsOf (b .command))) sent) sent
+abbrev pub premise : ℕ → List Received → Bool
+premise k all = none (λ a. formedFor k a && any (λ b. formedFor k b && breaks (a .numbers) (b .numbers)) all) all
+
+-- The commands of a log.
+abbrev pub commandsIn : List Event → List Received
+commandsIn log = map (λ e. e .read) log
 
 -- Rule 1.6: card, desk, mode and pair are the same.
 abbrev pub OneSession : Event → Event → Type 0

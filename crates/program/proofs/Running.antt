@@ -4,11 +4,12 @@ use mathlib.Core.Path.{_≡_, refl, sym, ap, _∙_}
 use mathlib.Core.List.{List, []}
 use lib.ListN.{length, take, drop}
 use native.Mathlib.Omega.{arith}
+use Rattle.formats.specs.declared.Format.the-variants.{V1}
 use Rattle.lists.specs.Parts.{part}
 use Rattle.program.specs.Text.{Put}
 use Rattle.program.proofs.Puts.{put-put, put-wide, Putting, putting-none, putting-more, putting-done}
 use Rattle.guard.specs.declared.Answer.{Answer}
-use Rattle.commands.specs.Bytes.{fixed}
+use Rattle.formats.specs.Format.{fixed}
 use Rattle.program.specs.Program.{lineOf, linesFrom, lastLine, mostLine, runs, printed, mostPrinted}
 use Rattle.model.specs.Serve.{serve}
 use Rattle.stream.specs.Stream.{commands, nextAt, endOf}
@@ -20,7 +21,7 @@ use Rattle.stream.proofs.Walks as walk
 pub record Running (start : ℕ) (image₀ reply₀ stream out₀ image reply out : List ℕ) (from place to : ℕ) : Type 0 where
   pub room : start + mostPrinted stream ≤ length out₀
   pub walked : Walked stream from
-  pub few : place * fixed ≤ from + fixed
+  pub few : place * fixed V1 ≤ from + fixed V1
   pub far : to + mostLine ≤ start + place * mostLine
   pub wide : length image ≡ length image₀
   pub deep : length reply ≡ length reply₀
@@ -45,9 +46,9 @@ module _ {start : ℕ} {image₀ reply₀ stream out₀ image reply out : List �
       (omega (arith, s .0), s .1, omega (arith, s .0, r .few), omega (arith, s .0, s .1, r .few, r .far, r .room, r .lines .long))
 
   pub running-more : (end : ℕ) (a : Answer) (image′ reply′ out′ : List ℕ) (to′ : ℕ) → nextAt stream from ≡ Whole end →
-      a ≡ serve image (take (end - from) (drop from stream)) reply .answer →
-      image′ ≡ serve image (take (end - from) (drop from stream)) reply .image →
-      reply′ ≡ serve image (take (end - from) (drop from stream)) reply .reply →
+      a ≡ serve V1 image (take (end - from) (drop from stream)) reply .answer →
+      image′ ≡ serve V1 image (take (end - from) (drop from stream)) reply .image →
+      reply′ ≡ serve V1 image (take (end - from) (drop from stream)) reply .reply →
       Put to mostLine (lineOf place a) out out′ to′ →
       length image′ ≡ length image →
       length reply′ ≡ length reply →

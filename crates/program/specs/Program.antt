@@ -5,6 +5,7 @@ use mathlib.Core.List.{List, [], _∷_, _++_}
 use mathlib.Core.Bool.{cond}
 use lib.Dec.{ltb, eqb}
 use lib.ListN.{length, take, drop, replicate}
+use Rattle.formats.specs.declared.Format.the-variants.{V1}
 use Rattle.image.specs.Layout.{mostBytes, mostRoom}
 use Rattle.image.specs.Bytes.{countOf, roomOf}
 use Rattle.image.specs.Image.{goodFront, frontSize}
@@ -12,7 +13,7 @@ use Rattle.guard.specs.Replies.{replyFields}
 use Rattle.guard.specs.declared.Answer.{Answer}
 use Rattle.lists.specs.Parts.{spread}
 use Rattle.model.specs.Serve.{serve}
-use Rattle.commands.specs.Bytes.{fixed}
+use Rattle.formats.specs.Format.{fixed}
 use Rattle.stream.specs.Stream.{commands, endOf}
 use Rattle.program.specs.Text.{quoted, decimal, spaced, mostDigits}
 
@@ -29,9 +30,9 @@ unfoldable pub runs : List ℕ → List ℕ → List (List ℕ) → Run
 runs image reply [] = record { answers = []; image = image; reply = reply }
 runs image reply (c ∷ cs) =
     record {
-      answers = serve image c reply .answer ∷ runs (serve image c reply .image) (serve image c reply .reply) cs .answers;
-      image = runs (serve image c reply .image) (serve image c reply .reply) cs .image;
-      reply = runs (serve image c reply .image) (serve image c reply .reply) cs .reply;
+      answers = serve V1 image c reply .answer ∷ runs (serve V1 image c reply .image) (serve V1 image c reply .reply) cs .answers;
+      image = runs (serve V1 image c reply .image) (serve V1 image c reply .reply) cs .image;
+      reply = runs (serve V1 image c reply .image) (serve V1 image c reply .reply) cs .reply;
     }
 
 -- ---- The lines (rule 8.4).
@@ -103,11 +104,11 @@ mostLine = (perLine + 1) * (1 + mostDigits)
 
 -- A command has at least its fixed part; and there is the last line.
 abbrev pub mostPrinted : List ℕ → ℕ
-mostPrinted stream = (length stream / fixed + 1) * mostLine
+mostPrinted stream = (length stream / (fixed V1) + 1) * mostLine
 
 -- 1,260 commands of 52 bytes, the first line and the last.
 abbrev pub mostOutput : ℕ
-mostOutput = (mostInput / fixed + 2) * mostLine
+mostOutput = (mostInput / (fixed V1) + 2) * mostLine
 
 -- What is written where so many bytes are lent: nothing where they are too few for the longest output (rule 8.6).
 unfoldable pub outputWithin : ℕ → List ℕ → List ℕ

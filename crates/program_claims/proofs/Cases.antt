@@ -15,7 +15,7 @@ use Rattle.guard.specs.Judge.{raise}
 use Rattle.guard.specs.Replies.{replied}
 use Rattle.image.specs.Layout.{shapeOk}
 use Rattle.image.specs.Bytes.{header, entryBytes, pad, readEntry, entryAt}
-use Rattle.image.specs.Image.{bodies, encode, cardAt, decode, tailZero, cardSound, headerSound, sound, fresh}
+use Rattle.image.specs.Image.{bodies, encode, cardAt, decode, tailZero, translationSound, cardSound, headerSound, sound, fresh}
 use Rattle.model.specs.Serve.{stepped, serveBy, serve}
 use Rattle.stream.specs.Stream.{extent, whole, commandsWithin, commands, endWithin, endOf}
 use Rattle.image.specs.Image.{goodFront}
@@ -24,7 +24,7 @@ use Rattle.program.specs.Text.{quoted, decimalWithin, decimal}
 use Rattle.program_claims.specs.Cases.{CaseP, ShortCases, Decimals}
 
 pub case-p : CaseP
-unfolding outputOf quoted decimalWithin decimal firstLine lineOf linesFrom lastLine runs numbersOf goodFront commands commandsWithin endOf endWithin whole extent serve serveBy stepped sound headerSound cardSound tailZero decode cardAt entryAt readEntry encode bodies pad entryBytes header shapeOk fresh replied raise entrySound commandBytes formed payload fieldsOf wellFormed all allFrom le toLe part splice table spread every zeros
+unfolding outputOf quoted decimalWithin decimal firstLine lineOf linesFrom lastLine runs numbersOf goodFront commands commandsWithin endOf endWithin whole extent serve serveBy stepped sound headerSound cardSound translationSound tailZero decode cardAt entryAt readEntry encode bodies pad entryBytes header shapeOk fresh replied raise entrySound commandBytes formed payload fieldsOf wellFormed all allFrom le toLe part splice table spread every zeros
 case-p = refl
 
 longest : outputOf (replicate 65536 0) ≡ quoted "bad store\n"
@@ -37,7 +37,7 @@ longer : outputOf (replicate 65537 0) ≡ quoted "too long\n"
 longer = let n : length (replicate {A = ℕ} 65537 0) ≡ 65537 = length-replicate {A = ℕ} 65537 0 in long-output _ (omega (arith, n))
 
 pub short-cases : ShortCases
-unfolding outputOf quoted decimalWithin decimal firstLine lineOf linesFrom lastLine runs numbersOf goodFront commands commandsWithin endOf endWithin whole extent serve serveBy stepped sound headerSound cardSound tailZero decode cardAt entryAt readEntry encode bodies pad entryBytes header shapeOk fresh replied raise entrySound commandBytes formed payload fieldsOf wellFormed all allFrom le toLe part splice table spread every zeros
+unfolding outputOf quoted decimalWithin decimal firstLine lineOf linesFrom lastLine runs numbersOf goodFront commands commandsWithin endOf endWithin whole extent serve serveBy stepped sound headerSound cardSound translationSound tailZero decode cardAt entryAt readEntry encode bodies pad entryBytes header shapeOk fresh replied raise entrySound commandBytes formed payload fieldsOf wellFormed all allFrom le toLe part splice table spread every zeros
 short-cases = record { empty = refl; alone = refl; lacking = refl; longest = longest; longer = longer }
 
 pub decimals : Decimals

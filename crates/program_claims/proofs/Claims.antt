@@ -7,6 +7,7 @@ use mathlib.Core.List.{List, [], _∷_, _++_, append-assoc}
 use mathlib.Core.Bool.{Bool, true, false, cond}
 use lib.Dec.{ltb, lit<}
 use lib.ListN.{length, take, drop, getD}
+use Rattle.formats.specs.declared.Format.the-variants.{V1}
 use Rattle.guard.specs.declared.Answer.{Answer}
 use Rattle.model.specs.Serve.{serve}
 use Rattle.image.specs.Bytes.{countOf}
@@ -22,14 +23,14 @@ use Rattle.program_claims.proofs.Numerals.{numerals}
 one-each : (image reply : List ℕ) (cs : List (List ℕ)) → length (runs image reply cs .answers) ≡ length cs
 unfolding runs
 one-each image reply [] = refl
-one-each image reply (c ∷ cs) = ap suc (one-each (serve image c reply .image) (serve image c reply .reply) cs)
+one-each image reply (c ∷ cs) = ap suc (one-each (serve V1 image c reply .image) (serve V1 image c reply .reply) cs)
 
 each : (image reply : List ℕ) (cs : List (List ℕ)) (i : ℕ) (none : Answer) → i < length cs →
-    getD (runs image reply cs .answers) i none ≡ serve (runs image reply (take i cs) .image) (getD cs i []) (runs image reply (take i cs) .reply) .answer
+    getD (runs image reply cs .answers) i none ≡ serve V1 (runs image reply (take i cs) .image) (getD cs i []) (runs image reply (take i cs) .reply) .answer
 unfolding runs
 each image reply [] i none h = absurd (not-suc-le-zero h)
 each image reply (c ∷ cs) zero none h = refl
-each image reply (c ∷ cs) (suc i) none h = each (serve image c reply .image) (serve image c reply .reply) cs i none (le-of-suc-le-suc h)
+each image reply (c ∷ cs) (suc i) none h = each (serve V1 image c reply .image) (serve V1 image c reply .reply) cs i none (le-of-suc-le-suc h)
 
 -- Of the first commands, the first answers.
 first-answers : (image reply : List ℕ) (cs : List (List ℕ)) (i : ℕ) → runs image reply (take i cs) .answers ≡ take i (runs image reply cs .answers)
@@ -38,7 +39,7 @@ first-answers image reply [] zero = refl
 first-answers image reply [] (suc i) = refl
 first-answers image reply (c ∷ cs) zero = refl
 first-answers image reply (c ∷ cs) (suc i) =
-    ap (λ (l : List Answer). serve image c reply .answer ∷ l) (first-answers (serve image c reply .image) (serve image c reply .reply) cs i)
+    ap (λ (l : List Answer). serve V1 image c reply .answer ∷ l) (first-answers (serve V1 image c reply .image) (serve V1 image c reply .reply) cs i)
 
 lines-apart : (p i : ℕ) (l : List Answer) (none : Answer) → i < length l →
     linesFrom p l ≡ linesFrom p (take i l) ++ (lineOf (p + i) (getD l i none) ++ linesFrom (p + i + 1) (drop (suc i) l))

@@ -2,6 +2,7 @@
 use Prim.Native.Nat.{ℕ}
 use mathlib.Core.Path.{_≡_, refl, ap, _∙_}
 use mathlib.Core.List.{List, [], _∷_, _++_, map, reverse, reverse-cons}
+use Rattle.formats.specs.declared.Format.the-variants.{V1}
 use Rattle.guard.specs.declared.Answer.{Answer}
 use Rattle.model.specs.Serve.{serve}
 use Rattle.model.specs.Words.{Sent, Event, imageAfter}
@@ -18,36 +19,36 @@ of-shown f (e ∷ l) = ap (λ (m : List _). f (shown e) ∷ m) (of-shown f l)
 sends : (image reply : List ℕ) (cs : List (List ℕ)) → map (λ (s : Sent). s .command) (requests image reply cs) ≡ cs
 unfolding requests
 sends image reply [] = refl
-sends image reply (c ∷ cs) = ap (λ (l : List (List ℕ)). c ∷ l) (sends (serve image c reply .image) (serve image c reply .reply) cs)
+sends image reply (c ∷ cs) = ap (λ (l : List (List ℕ)). c ∷ l) (sends (serve V1 image c reply .image) (serve V1 image c reply .reply) cs)
 
 -- ---- a run is the table's run of its requests
 
 lends-run : (image reply : List ℕ) (cs : List (List ℕ)) →
     map (λ (s : Sent). s .lent) (requests image reply cs) ++ (runs image reply cs .reply ∷ [])
-    ≡ reply ∷ map (λ (g : Got). g .reply) (run image (requests image reply cs))
+    ≡ reply ∷ map (λ (g : Got). g .reply) (run V1 image (requests image reply cs))
 unfolding requests runs run
 lends-run image reply [] = refl
 lends-run image reply (c ∷ cs) =
-    ap (λ (l : List (List ℕ)). reply ∷ l) (lends-run (serve image c reply .image) (serve image c reply .reply) cs)
+    ap (λ (l : List (List ℕ)). reply ∷ l) (lends-run (serve V1 image c reply .image) (serve V1 image c reply .reply) cs)
 
 answers-run : (image reply : List ℕ) (cs : List (List ℕ)) →
-    runs image reply cs .answers ≡ map (λ (g : Got). g .answer) (run image (requests image reply cs))
+    runs image reply cs .answers ≡ map (λ (g : Got). g .answer) (run V1 image (requests image reply cs))
 unfolding requests runs run
 answers-run image reply [] = refl
 answers-run image reply (c ∷ cs) =
-    ap (λ (l : List Answer). serve image c reply .answer ∷ l) (answers-run (serve image c reply .image) (serve image c reply .reply) cs)
+    ap (λ (l : List Answer). serve V1 image c reply .answer ∷ l) (answers-run (serve V1 image c reply .image) (serve V1 image c reply .reply) cs)
 
-leaves : (image reply : List ℕ) (cs : List (List ℕ)) → runs image reply cs .image ≡ imageAfter image (reverse (requests image reply cs))
+leaves : (image reply : List ℕ) (cs : List (List ℕ)) → runs image reply cs .image ≡ imageAfter V1 image (reverse (requests image reply cs))
 unfolding requests runs imageAfter
 leaves image reply [] = refl
 leaves image reply (c ∷ cs) =
     let s : Sent = record { command = c; lent = reply } in
-    let later : List Sent = requests (serve image c reply .image) (serve image c reply .reply) cs in
-    rw (reverse-cons s later, image-first image s (reverse later)) (leaves (serve image c reply .image) (serve image c reply .reply) cs)
+    let later : List Sent = requests (serve V1 image c reply .image) (serve V1 image c reply .reply) cs in
+    rw (reverse-cons s later, image-first V1 image s (reverse later)) (leaves (serve V1 image c reply .image) (serve V1 image c reply .reply) cs)
 
 pub logs : (image reply : List ℕ) (cs : List (List ℕ)) → Logged image reply cs
 logs image reply cs =
-    let same = run-logged image (requests image reply cs) in
+    let same = run-logged V1 image (requests image reply cs) in
     record {
       sends = sends image reply cs;
       lends =

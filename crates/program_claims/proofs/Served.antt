@@ -1,23 +1,24 @@
 -- The program on a good store: the image stays sound and the reply buffer keeps its C bytes, so that no command is answered 9 or 8.
 -- Assumes nothing.
-use Prim.Native.Nat.{ℕ, zero, suc, _+_, _≤_}
+use Prim.Native.Nat.{ℕ, zero, suc, _+_, _≤_, _<_}
 use native.Mathlib.Omega.{arith}
 use mathlib.Core.Path.{_≡_, refl, sym, subst, ap, _∙_}
 use mathlib.Core.Logic.{_⊎_, inl, inr}
 use mathlib.Core.List.{List, [], _∷_}
-use mathlib.Core.Bool.{Bool, true, false, cond, not, _||_}
+use mathlib.Core.Bool.{Bool, true, false, cond, not, _&&_, _||_}
 use borrow.Author.Tests.{ne-eqb, ltb-true, not-true}
 use lib.Dec.{T, eqb, ltb, lit<}
 use lib.ListN.{length, take, drop, replicate, length-replicate}
+use Rattle.formats.specs.declared.Format.the-variants.{V1}
 use Rattle.lists.specs.Parts.{Bytes}
 use Rattle.lists.proofs.Bytes.{Bytes-nil, Bytes-take, Bytes-drop, Bytes-replicate, Bytes-splice}
 use Rattle.lists.proofs.Parts.{length-splice}
 use Rattle.lists.proofs.Table.{given, first-all}
 use Rattle.lists.proofs.Tests.{to-T, from-T, cases, or-none, or-cases, and-right, not-in}
-use Rattle.commands.specs.Command.{Language, original, translation, reads, language}
+use Rattle.commands.specs.Command.{original, translation, readsTranslation, reads}
 use Rattle.commands.specs.Bytes.{fieldsOf, formed}
 use Rattle.commands.specs.declared.Command.{Command}
-use Rattle.guard.specs.Judge.{overruns}
+use Rattle.formats.specs.Format.{translations}
 use Rattle.guard.specs.Replies.{replied}
 use Rattle.guard.specs.declared.Answer.{Answer}
 use Rattle.image.specs.Bytes.{roomOf}
@@ -43,7 +44,7 @@ use Rattle.program_claims.specs.Claims.{requests, Guarded, Serves}
 
 -- Cards by the rules, and a reply buffer of bytes, as many as a text may have.
 record Fit (cs : Cards) (reply : List ℕ) : Type 0 where
-  good : GoodCards cs
+  good : GoodCards V1 cs
   bytes : Bytes reply
   long : length reply ≡ cs .room
 
@@ -52,91 +53,94 @@ module _ (cs : Cards) (command reply : List ℕ) (fit : Fit cs reply) where
   sent = record { command = command; lent = reply }
 
   abbrev asked : Command
-  asked = fieldsOf command
+  asked = fieldsOf V1 command
 
   abbrev number : ℕ
-  number = numberOn cs sent
+  number = numberOn V1 cs sent
 
   not-9 : number ≡ 9 → ⊥
-  not-9 e = subst (λ (n : ℕ). T (not (eqb n 9))) e (first-all (λ n. not (eqb n 9)) (requestRows cs command (length reply)) tt tt)
+  not-9 e = subst (λ (n : ℕ). T (not (eqb n 9))) e (first-all (λ n. not (eqb n 9)) (requestRows V1 cs command (length reply)) tt tt)
+
+  named : asked .language < translations V1
+  unfolding fieldsOf
+  named = lit< tt
 
   module _ (there : ltb (asked .card) (length (cs .cards)) ≡ true) where
-    stored : GoodCard (cs .room) (cardOf cs asked)
+    stored : GoodCard V1 (cs .room) (cardOf V1 cs asked)
     stored = fit .good .each (asked .card) (ltb-true (asked .card) (length (cs .cards)) there)
 
-    within : Lengths (cs .room) (entryOf cs asked)
-    within = lengths (cs .room) (entryOf cs asked) (from-T _ (stored .rules (language asked) (lit< tt)))
+    within : Lengths (cs .room) (entryOf V1 cs asked)
+    within = lengths (cs .room) (entryOf V1 cs asked) (from-T _ (stored .rules (asked .language) named))
 
-    never-over : (l : Language) → overruns l (entryOf cs asked) asked (length reply) ≡ true → ⊥
-    never-over original o =
-        let h = ltb-true (length reply) (entryOf cs asked .original) (and-right (reads original asked) (ltb (length reply) (entryOf cs asked .original)) o) in
+    never-original : (reads original asked && ltb (length reply) (entryOf V1 cs asked .original)) ≡ true → ⊥
+    never-original o =
+        let h = ltb-true (length reply) (entryOf V1 cs asked .original) (and-right (reads original asked) (ltb (length reply) (entryOf V1 cs asked .original)) o) in
         omega (arith, h, within .original, fit .long)
-    never-over (translation zero) o =
-        let h = ltb-true (length reply) (entryOf cs asked .translation) (and-right (reads (translation zero) asked) (ltb (length reply) (entryOf cs asked .translation)) o) in
+
+    never-translation : (readsTranslation asked && ltb (length reply) (entryOf V1 cs asked .translation)) ≡ true → ⊥
+    never-translation o =
+        let h = ltb-true (length reply) (entryOf V1 cs asked .translation) (and-right (readsTranslation asked) (ltb (length reply) (entryOf V1 cs asked .translation)) o) in
         omega (arith, h, within .translation, fit .long)
-    never-over (translation (suc t)) o =
-        let h = ltb-true (length reply) 0 (and-right (reads (translation (suc t)) asked) (ltb (length reply) 0) o) in
-        omega (arith, h)
 
   -- A command for no card is answered 1 or 2.
-  away : (b : Bool) → formed command ≡ b → ltb (asked .card) (length (cs .cards)) ≡ false → number ≡ 8 → ⊥
+  away : (b : Bool) → formed V1 command ≡ b → ltb (asked .card) (length (cs .cards)) ≡ false → number ≡ 8 → ⊥
   away false f h e = let wrong : _≡_ {A = ℕ} 1 8 = rw f at e in omega (arith, wrong)
   away true f h e = let wrong : _≡_ {A = ℕ} 2 8 = rw (f, h) at e in omega (arith, wrong)
 
   not-8 : number ≡ 8 → ⊥
   not-8 e = go (cases (ltb (asked .card) (length (cs .cards))))
     where
-      short : (overruns original (entryOf cs asked) asked (length reply) || overruns (translation 0) (entryOf cs asked) asked (length reply)) ≡ true
-      short = from-T _ (given (requestRows cs command (length reply)) tt 7 .0 e .0)
+      short : ((reads original asked && ltb (length reply) (entryOf V1 cs asked .original)) || (readsTranslation asked && ltb (length reply) (entryOf V1 cs asked .translation))) ≡ true
+      short = from-T _ (given (requestRows V1 cs command (length reply)) tt 7 .0 e .0)
 
       over : ltb (asked .card) (length (cs .cards)) ≡ true
-          → (overruns original (entryOf cs asked) asked (length reply) ≡ true) ⊎ (overruns (translation 0) (entryOf cs asked) asked (length reply) ≡ true) → ⊥
-      over there (inl o) = never-over there original o
-      over there (inr o) = never-over there (translation 0) o
+          → ((reads original asked && ltb (length reply) (entryOf V1 cs asked .original)) ≡ true) ⊎ ((readsTranslation asked && ltb (length reply) (entryOf V1 cs asked .translation)) ≡ true) → ⊥
+      over there (inl o) = never-original there o
+      over there (inr o) = never-translation there o
 
       go : (ltb (asked .card) (length (cs .cards)) ≡ true) ⊎ (ltb (asked .card) (length (cs .cards)) ≡ false) → ⊥
       go (inl there) =
           over there
-          (or-cases (overruns original (entryOf cs asked) asked (length reply)) (overruns (translation 0) (entryOf cs asked) asked (length reply)) short)
-      go (inr h) = away (formed command) refl h e
+          (or-cases (reads original asked && ltb (length reply) (entryOf V1 cs asked .original)) (readsTranslation asked && ltb (length reply) (entryOf V1 cs asked .translation)) short)
+      go (inr h) = away (formed V1 command) refl h e
 
   -- What holds of both texts of the card and of no text holds of the text read.
-  of-text : (P : List ℕ → Type 0) → P (text original (cardOf cs asked)) → P (text (translation (language asked)) (cardOf cs asked)) → P [] → P (textRead (cardOf cs asked) asked)
-  of-text P o t n = go (reads original asked) (reads (translation (language asked)) asked)
+  of-text : (P : List ℕ → Type 0) → P (text original (cardOf V1 cs asked)) → P (text (translation (asked .language)) (cardOf V1 cs asked)) → P [] → P (textRead (cardOf V1 cs asked) asked)
+  of-text P o t n = go (reads original asked) (readsTranslation asked)
     where
-      go : (a b : Bool) → P (cond a (text original (cardOf cs asked)) (cond b (text (translation (language asked)) (cardOf cs asked)) []))
+      go : (a b : Bool) → P (cond a (text original (cardOf V1 cs asked)) (cond b (text (translation (asked .language)) (cardOf V1 cs asked)) []))
       go true b = o
       go false true = t
       go false false = n
 
   module _ (bytes : Bytes command) where
-    fit-by : (n : ℕ) → number ≡ n → Fit (cardsBy n cs sent) (replyBy n cs command reply)
+    fit-by : (n : ℕ) → number ≡ n → Fit (cardsBy V1 n cs sent) (replyBy V1 n cs command reply)
     fit-by zero e =
-        let there = passed cs sent e .exists in
+        let there = passed V1 cs sent e .exists in
         let card = stored there in
-        let text-bytes = of-text Bytes (card .bytes 0) (card .bytes (suc (language asked))) Bytes-nil in
-        let short : 0 + length (textRead (cardOf cs asked) asked) ≤ length reply =
+        let text-bytes = of-text Bytes (card .bytes 0) (card .bytes (suc (asked .language))) Bytes-nil in
+        let short : 0 + length (textRead (cardOf V1 cs asked) asked) ≤ length reply =
         of-text (λ (t : List ℕ). 0 + length t ≤ length reply)
         (omega (arith, within there .original, fit .long))
         (omega (arith, within there .translation, fit .long))
         (omega arith) in
         record {
-          good = good-more cs sent (fit .good) (record { command = bytes; lent = fit .bytes }) zero e;
-          bytes = Bytes-splice 0 (textRead (cardOf cs asked) asked) reply text-bytes (fit .bytes);
-          long = length-splice 0 (textRead (cardOf cs asked) asked) reply short ∙ fit .long;
+          good = good-more V1 cs sent (fit .good) (record { command = bytes; lent = fit .bytes }) zero e;
+          bytes = Bytes-splice 0 (textRead (cardOf V1 cs asked) asked) reply text-bytes (fit .bytes);
+          long = length-splice 0 (textRead (cardOf V1 cs asked) asked) reply short ∙ fit .long;
         }
     fit-by (suc j) e = record { good = fit .good; bytes = fit .bytes; long = fit .long }
 
   -- The store on bytes does the same.
-  answers-by : serve (encode cs) command reply .answer .number ≡ number
+  answers-by : serve V1 (encode V1 cs) command reply .answer .number ≡ number
   unfolding replied
-  answers-by = ap (λ (e : Event). e .answer .number) (same-event cs sent (fit .good))
+  answers-by = ap (λ (e : Event). e .answer .number) (same-event V1 cs sent (fit .good))
 
-  replies-by : serve (encode cs) command reply .reply ≡ replyBy number cs command reply
-  replies-by = ap (λ (e : Event). e .reply) (same-event cs sent (fit .good))
+  replies-by : serve V1 (encode V1 cs) command reply .reply ≡ replyBy V1 number cs command reply
+  replies-by = ap (λ (e : Event). e .reply) (same-event V1 cs sent (fit .good))
 
-  leaves-by : serve (encode cs) command reply .image ≡ encode (cardsBy number cs sent)
-  leaves-by = same-image cs sent (fit .good)
+  leaves-by : serve V1 (encode V1 cs) command reply .image ≡ encode V1 (cardsBy V1 number cs sent)
+  leaves-by = same-image V1 cs sent (fit .good)
 
 -- ---- a run
 
@@ -149,24 +153,24 @@ EachBytes (c ∷ cs) = Bytes c × EachBytes cs
 record Kept (image reply : List ℕ) (cs : List (List ℕ)) : Type 0 where
   no-9 : none (λ (a : Answer). eqb (a .number) 9) (runs image reply cs .answers) ≡ true
   no-8 : none (λ (a : Answer). eqb (a .number) 8) (runs image reply cs .answers) ≡ true
-  stays : sound (runs image reply cs .image) ≡ true
+  stays : sound V1 (runs image reply cs .image) ≡ true
   bytes : AllBytes (requests image reply cs)
 
 none-more : {A : Type 0} (p : A → Bool) (a : A) (l : List A) → p a ≡ false → none p l ≡ true → none p (a ∷ l) ≡ true
 none-more p a l h n = not-in (or-none h (not-true (any p l) n))
 
-kept : (cards : Cards) (reply : List ℕ) (cs : List (List ℕ)) → Fit cards reply → EachBytes cs → Kept (encode cards) reply cs
+kept : (cards : Cards) (reply : List ℕ) (cs : List (List ℕ)) → Fit cards reply → EachBytes cs → Kept (encode V1 cards) reply cs
 unfolding runs requests
 kept cards reply [] fit b =
-    record { no-9 = refl; no-8 = refl; stays = from-T (sound (encode cards)) (goodEncodes cards (fit .good) .sounds); bytes = tt }
+    record { no-9 = refl; no-8 = refl; stays = from-T (sound V1 (encode V1 cards)) (goodEncodes V1 cards (fit .good) .sounds); bytes = tt }
 kept cards reply (c ∷ cs) fit b =
     let s : Sent = record { command = c; lent = reply } in
-    let n : ℕ = numberOn cards s in
-    let later : Kept (serve (encode cards) c reply .image) (serve (encode cards) c reply .reply) cs =
+    let n : ℕ = numberOn V1 cards s in
+    let later : Kept (serve V1 (encode V1 cards) c reply .image) (serve V1 (encode V1 cards) c reply .reply) cs =
     rw (leaves-by cards c reply fit, replies-by cards c reply fit)
-    (kept (cardsBy n cards s) (replyBy n cards c reply) cs (fit-by cards c reply fit (b .0) n refl) (b .1)) in
-    let answer = serve (encode cards) c reply .answer in
-    let rest = runs (serve (encode cards) c reply .image) (serve (encode cards) c reply .reply) cs .answers in
+    (kept (cardsBy V1 n cards s) (replyBy V1 n cards c reply) cs (fit-by cards c reply fit (b .0) n refl) (b .1)) in
+    let answer = serve V1 (encode V1 cards) c reply .answer in
+    let rest = runs (serve V1 (encode V1 cards) c reply .image) (serve V1 (encode V1 cards) c reply .reply) cs .answers in
     record {
       no-9 =
           none-more (λ (a : Answer). eqb (a .number) 9) answer rest
@@ -201,27 +205,27 @@ each-bytes stream b = each-within (length stream) stream b
 pub guarded : Guarded
 unfolding logOf freshCards
 guarded n c stream shape b =
-    let f = freshSound n c shape in
-    let fit : Fit (freshCards n c) (replicate c 0) =
+    let f = freshSound V1 n c shape in
+    let fit : Fit (freshCards V1 n c) (replicate c 0) =
     record { good = f .good; bytes = Bytes-replicate c (omega arith); long = length-replicate c 0 } in
-    let k : Kept (fresh n c) (replicate c 0) (commands stream) =
+    let k : Kept (fresh V1 n c) (replicate c 0) (commands stream) =
     subst (λ (image : List ℕ). Kept image (replicate c 0) (commands stream)) (f .cards)
-    (kept (freshCards n c) (replicate c 0) (commands stream) fit (each-bytes stream b)) in
-    demand3 n c shape (requests (fresh n c) (replicate c 0) (commands stream)) (k .bytes)
+    (kept (freshCards V1 n c) (replicate c 0) (commands stream) fit (each-bytes stream b)) in
+    demand3 V1 n c shape (requests (fresh V1 n c) (replicate c 0) (commands stream)) (k .bytes)
 
 pub serves : Serves
 serves input b g =
     let f = good-front input g in
     let image : List ℕ = take (claimed input) input in
-    let back = soundReadsBack image (Bytes-take (claimed input) input b) (to-T (f .sounds)) in
-    let fit : Fit (decode image) (replicate (roomOf input) 0) =
+    let back = soundReadsBack V1 image (Bytes-take (claimed input) input b) (to-T (f .sounds)) in
+    let fit : Fit (decode V1 image) (replicate (roomOf input) 0) =
     record {
       good = back .good;
       bytes = Bytes-replicate (roomOf input) (omega arith);
-      long = length-replicate (roomOf input) 0 ∙ sym (room-decode image ∙ f .same);
+      long = length-replicate (roomOf input) 0 ∙ sym (room-decode V1 image ∙ f .same);
     } in
     let k : Kept image (replicate (roomOf input) 0) (commands (drop (claimed input) input)) =
     subst (λ (i : List ℕ). Kept i (replicate (roomOf input) 0) (commands (drop (claimed input) input))) (back .same)
-    (kept (decode image) (replicate (roomOf input) 0) (commands (drop (claimed input) input)) fit
+    (kept (decode V1 image) (replicate (roomOf input) 0) (commands (drop (claimed input) input)) fit
     (each-bytes (drop (claimed input) input) (Bytes-drop (claimed input) input b))) in
     record { never-9 = rw (f .size) (k .no-9); never-8 = rw (f .size) (k .no-8); stays = rw (f .size) (k .stays) }

@@ -6,6 +6,7 @@ use mathlib.Core.List.{List, [], _∷_, _++_, map, reverse}
 use mathlib.Core.Bool.{true}
 use lib.Dec.{T, eqb}
 use lib.ListN.{length, take, drop, getD, replicate}
+use Rattle.formats.specs.declared.Format.the-variants.{V1}
 use Rattle.lists.specs.Parts.{Bytes}
 use Rattle.guard.specs.declared.Answer.{Answer}
 use Rattle.image.specs.Layout.{shapeOk}
@@ -25,7 +26,7 @@ use Rattle.program.specs.Program.{firstLine, lineOf, linesFrom, lastLine, leftO
 pub record Stepwise (image reply : List ℕ) (cs : List (List ℕ)) : Type 0 where
   pub whole : length (runs image reply cs .answers) ≡ length cs
   pub each : (i : ℕ) (none : Answer) → i < length cs →
-      getD (runs image reply cs .answers) i none ≡ serve (runs image reply (take i cs) .image) (getD cs i []) (runs image reply (take i cs) .reply) .answer
+      getD (runs image reply cs .answers) i none ≡ serve V1 (runs image reply (take i cs) .image) (getD cs i []) (runs image reply (take i cs) .reply) .answer
   -- Line i, counted from 0, stands behind the lines of the first i commands, and shows its place, counted from 1, and answer i.
   pub lines : (i : ℕ) (none : Answer) → i < length cs →
       linesFrom 1 (runs image reply cs .answers)
@@ -38,11 +39,11 @@ pub record Stepwise (image reply : List ℕ) (cs : List (List ℕ)) : Type 0 whe
 unfoldable pub requests : List ℕ → List ℕ → List (List ℕ) → List Sent
 requests image reply [] = []
 requests image reply (c ∷ cs) =
-    record { command = c; lent = reply } ∷ requests (serve image c reply .image) (serve image c reply .reply) cs
+    record { command = c; lent = reply } ∷ requests (serve V1 image c reply .image) (serve V1 image c reply .reply) cs
 
 -- Their log from the same image, latest first.
 abbrev pub logged : List ℕ → List ℕ → List (List ℕ) → List Event
-logged image reply cs = history image (reverse (requests image reply cs))
+logged image reply cs = history V1 image (reverse (requests image reply cs))
 
 -- A run is the log of its requests.
 pub record Logged (image reply : List ℕ) (cs : List (List ℕ)) : Type 0 where
@@ -55,14 +56,14 @@ pub record Logged (image reply : List ℕ) (cs : List (List ℕ)) : Type 0 where
       ≡ reply ∷ map (λ (e : Event). e .reply) (reverse (logged image reply cs))
   -- the answers are those of the log, in order, and the image is left as the requests leave it
   pub answers : runs image reply cs .answers ≡ map (λ (e : Event). e .answer) (reverse (logged image reply cs))
-  pub leaves : runs image reply cs .image ≡ imageAfter image (reverse (requests image reply cs))
+  pub leaves : runs image reply cs .image ≡ imageAfter V1 image (reverse (requests image reply cs))
 
 -- So demand 3 speaks of the program: every sentence of it holds of the log of a stream's commands behind a fresh image, with a reply buffer of C
 -- zeros.
 abbrev pub Guarded : Type 0
 Guarded =
-    (n c : ℕ) (stream : List ℕ) → T (shapeOk n c) → Bytes stream
-    → Claim n (requests (fresh n c) (replicate c 0) (commands stream)) (logged (fresh n c) (replicate c 0) (commands stream))
+    (n c : ℕ) (stream : List ℕ) → T (shapeOk V1 n c) → Bytes stream
+    → Claim n (requests (fresh V1 n c) (replicate c 0) (commands stream)) (logged (fresh V1 n c) (replicate c 0) (commands stream))
 
 -- ---- the program on a good store
 
@@ -71,7 +72,7 @@ Guarded =
 pub record Served (input : List ℕ) : Type 0 where
   pub never-9 : none (λ (a : Answer). eqb (a .number) 9) (runOf input .answers) ≡ true
   pub never-8 : none (λ (a : Answer). eqb (a .number) 8) (runOf input .answers) ≡ true
-  pub stays : sound (runOf input .image) ≡ true
+  pub stays : sound V1 (runOf input .image) ≡ true
 
 abbrev pub Serves : Type 0
 Serves = (input : List ℕ) → Bytes input → goodFront input ≡ true → Served input

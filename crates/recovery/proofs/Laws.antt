@@ -8,13 +8,15 @@ use mathlib.Core.Bool.{Bool, true, false, not, _&&_, _||_}
 use borrow.Author.Tests.{eq-eqb, ne-eqb, le-ltb}
 use lib.ListN.{length, List·getD-eq-default}
 use lib.Dec.{leb, eqb, lit<}
-use Rattle.lists.specs.Parts.{Bytes, part, table}
+use Rattle.formats.specs.declared.Format.the-variants.{V1}
+use Rattle.lists.specs.Parts.{Bytes, part, table, zeros}
 use Rattle.lists.specs.Le.{le, field}
 use Rattle.lists.proofs.Tests.{to-T, or-left, or-right}
 use Rattle.lists.proofs.Bytes.{Bytes-nil}
 use Rattle.commands.specs.Command.{wellFormed, FitsCommand}
 use Rattle.commands.specs.declared.Command.{Command}
-use Rattle.commands.specs.Bytes.{fixed, formed, commandBytes}
+use Rattle.commands.specs.Bytes.{blanks, formed, commandBytes}
+use Rattle.formats.specs.Format.{translations, entrySize, fixed}
 use Rattle.commands.proofs.CommandBytes.{fields-command, payload-command, formed-command, Bytes-command}
 use Rattle.guard.specs.Replies.{refused}
 use Rattle.guard.specs.Entry.{noEntry}
@@ -102,33 +104,33 @@ module _ (log : List ℕ) (j : ℕ) (g : goodLog log ≡ true) (h : j < recordCo
 -- ---- entries
 
 pub entry-none : (image : List ℕ) (k : ℕ) → cardsOf image ≤ k → noEntry ≡ entryFor image k
-entry-none image k h = sym (ap (view 0) (List·getD-eq-default (decode image .cards) noCard {n = k} (rw count-decode h)))
+entry-none image k h = sym (ap (view 0) (List·getD-eq-default (decode V1 image .cards) (noCard V1) {n = k} (rw (count-decode V1) h)))
 
-pub entry-some : (image : List ℕ) (k : ℕ) → sound image ≡ true → k < cardsOf image → entryAt image k ≡ entryFor image k
-entry-some image k e h = sym (ap (view 0) (card-decode image k h) ∙ view-at image (to-T e) k h 0 (lit< tt))
+pub entry-some : (image : List ℕ) (k : ℕ) → sound V1 image ≡ true → k < cardsOf image → entryAt V1 image k 0 ≡ entryFor image k
+entry-some image k e h = sym (ap (view 0) (card-decode V1 image k h) ∙ view-at V1 image (to-T e) k h 0 (lit< tt))
 
-pub entry-inside : (image : List ℕ) (k : ℕ) → sound image ≡ true → k < cardsOf image → entryPlace k + 32 ≤ length image
-entry-inside image k e h = places image k (to-T e) h .entry
+pub entry-inside : (image : List ℕ) (k : ℕ) → sound V1 image ≡ true → k < cardsOf image → entryPlace V1 k + entrySize V1 ≤ length image
+entry-inside image k e h = places V1 image k (to-T e) h .entry
 
 -- ---- a write
 
-module _ (image : List ℕ) (c : Command) (text : List ℕ) (e : sound image ≡ true) (f : FitsCommand c) (l : length text ≡ c .length) where
-  pub serve-bad : wellFormed c ≡ false → serve image (commandBytes c text) [] ≡ refusal (refused 1) image []
+module _ (image : List ℕ) (c : Command) (text : List ℕ) (e : sound V1 image ≡ true) (f : FitsCommand c) (known : c .language < translations V1) (l : length text ≡ c .length) where
+  pub serve-bad : wellFormed c ≡ false → serve V1 image (commandBytes V1 c text) [] ≡ refusal (refused 1) image []
   unfolding formed
   serve-bad w =
-      serve-malformed image (commandBytes c text) [] e
-      (and-out (eqb (length (commandBytes c text)) (fixed + field 50 2 (commandBytes c text))) (ap wellFormed (fields-command c text f) ∙ w))
+      serve-malformed V1 image (commandBytes V1 c text) [] e
+      (and-out (eqb (length (commandBytes V1 c text)) (fixed V1 + field 50 2 (commandBytes V1 c text)) && zeros (blanks V1 (commandBytes V1 c text))) (ap wellFormed (fields-command c text V1 f known) ∙ w))
     where
       and-out : (a : Bool) {b : Bool} → b ≡ false → (a && b) ≡ false
       and-out true h = h
       and-out false h = refl
 
   module _ (w : wellFormed c ≡ true) where
-    pub serve-none : cardsOf image ≤ c .card → serve image (commandBytes c text) [] ≡ refusal (refused 2) image []
-    serve-none h = serve-no-card image (commandBytes c text) [] e (formed-command c text f w l) (rw (fields-command c text f) (le-ltb (c .card) (cardsOf image) h))
+    pub serve-none : cardsOf image ≤ c .card → serve V1 image (commandBytes V1 c text) [] ≡ refusal (refused 2) image []
+    serve-none h = serve-no-card V1 image (commandBytes V1 c text) [] e (formed-command c text V1 f known w l) (rw (fields-command c text V1 f known) (le-ltb (c .card) (cardsOf image) h))
 
-    pub serve-runs : c .card < cardsOf image → serve image (commandBytes c text) [] ≡ carried image c text []
-    serve-runs h = serve-found image (commandBytes c text) [] e (formed-command c text f w l) (sym (fields-command c text f)) (sym (payload-command c text)) h
+    pub serve-runs : c .card < cardsOf image → serve V1 image (commandBytes V1 c text) [] ≡ carried V1 image c text []
+    serve-runs h = serve-found V1 image (commandBytes V1 c text) [] e (formed-command c text V1 f known w l) (sym (fields-command c text V1 f known)) (sym (payload-command c text V1)) h
 
-  pub kept-sound : Bytes image → Bytes text → sound (serve image (commandBytes c text) [] .image) ≡ true
-  kept-sound b t = stays-sound image (commandBytes c text) [] b (Bytes-command c text f t) Bytes-nil e
+  pub kept-sound : Bytes image → Bytes text → sound V1 (serve V1 image (commandBytes V1 c text) [] .image) ≡ true
+  kept-sound b t = stays-sound V1 image (commandBytes V1 c text) [] b (Bytes-command c text V1 f t) Bytes-nil e

@@ -6,6 +6,7 @@ use mathlib.Core.Logic.{_⊎_, inl, inr}
 use mathlib.Core.List.{List}
 use mathlib.Core.Bool.{Bool, true, false, cond}
 use lib.ListN.{length}
+use Rattle.formats.specs.declared.Format.the-variants.{V1}
 use Rattle.lists.proofs.Table.{settled-old}
 use Rattle.image.specs.Image.{sound}
 use Rattle.redo_log.specs.Log.{LogRecord, goodLog, recordCount, lastBegun, recordAt, records}
@@ -67,10 +68,10 @@ module _ (pairs : Pairs) (log image : List ℕ) where
     pub lasts : last ≡ lastBegun (recordAt log) i
     pub none : R pairs rs image i .number ≡ 0
     pub image' : now ≡ R pairs rs image i .image
-    pub sounds : ok ≡ sound now
+    pub sounds : ok ≡ sound V1 now
     pub long : length now ≡ length image
 
-  pub going-none : (ok : Bool) → ok ≡ sound image → Going image ok 0 0
+  pub going-none : (ok : Bool) → ok ≡ sound V1 image → Going image ok 0 0
   unfolding lastBegun recovering
   going-none ok o = record { within = omega arith; lasts = refl; none = refl; image' = refl; sounds = o; long = refl }
 
@@ -82,7 +83,7 @@ module _ (pairs : Pairs) (log image : List ℕ) where
     after-is : after ≡ R pairs rs image (suc i) .image
     after-is = ea ∙ ap (λ (im : List ℕ). stepImage pairs rs im i) (w .image') ∙ sym (stepped i (w .none) .image')
 
-    pub going-more : number ≡ 0 → {last' : ℕ} → last' ≡ lastBegun (recordAt log) (i + 1) → ok ≡ sound after → length after ≡ length now → Going after ok last' (i + 1)
+    pub going-more : number ≡ 0 → {last' : ℕ} → last' ≡ lastBegun (recordAt log) (i + 1) → ok ≡ sound V1 after → length after ≡ length now → Going after ok last' (i + 1)
     going-more z el o n =
         let one : suc i ≡ i + 1 = omega arith in
         record {

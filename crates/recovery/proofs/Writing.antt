@@ -7,13 +7,15 @@ use mathlib.Core.Bool.{Bool, true, false, _&&_}
 use borrow.Author.Tests.{eqb-true}
 use lib.ListN.{length, take, drop, getD, length-drop}
 use lib.Seq.{take-all}
-use lib.Dec.{eqb}
+use lib.Dec.{eqb, lit<}
+use Rattle.formats.specs.declared.Format.the-variants.{V1}
 use Rattle.lists.specs.Parts.{Bytes}
 use Rattle.lists.specs.Le.{field}
 use Rattle.lists.proofs.Tests.{and-left, to-T}
 use Rattle.commands.specs.Command.{FitsCommand}
 use Rattle.commands.specs.declared.Command.{Command}
 use Rattle.commands.specs.Bytes.{commandBytes}
+use Rattle.formats.specs.Format.{translations}
 use Rattle.guard.specs.declared.Entry.{Entry}
 use Rattle.image.specs.Image.{sound, decode}
 use Rattle.image_claims.proofs.Claims.{soundReadsBack}
@@ -30,10 +32,10 @@ use Rattle.recovery.specs.Step.{pairsOf, writeOutcome, stepNumber, stepI
 abbrev pub updated : List ℕ → LogRecord
 updated body = record { kind = 2; body = body }
 
-module _ (image ss xs body : List ℕ) (ok : Bool) (o : ok ≡ sound image) where
-  pub write-unsound : ok ≡ false → (9 ≡ writeOutcome (pairsOf ss xs) image (updated body) .answer .number) × ((image ≡ writeOutcome (pairsOf ss xs) image (updated body) .image) × (ok ≡ sound image))
+module _ (image ss xs body : List ℕ) (ok : Bool) (o : ok ≡ sound V1 image) where
+  pub write-unsound : ok ≡ false → (9 ≡ writeOutcome (pairsOf ss xs) image (updated body) .answer .number) × ((image ≡ writeOutcome (pairsOf ss xs) image (updated body) .image) × (ok ≡ sound V1 image))
   write-unsound f =
-      let u = serve-unsound image (recoverySent (pairsOf ss xs) image (updated body) .command) [] (sym o ∙ f) in
+      let u = serve-unsound V1 image (recoverySent (pairsOf ss xs) image (updated body) .command) [] (sym o ∙ f) in
       (ap (λ (v : Outcome). v .answer .number) (sym u), (ap (λ (v : Outcome). v .image) (sym u), o))
 
   module _ {card p q : ℕ} {e : Entry} {w : Command} (ec : card ≡ field 0 2 body) (ep : p ≡ getD ss card 0) (eq : q ≡ getD xs card 0) (ee : e ≡ entryFor image card)
@@ -41,10 +43,13 @@ module _ (image ss xs body : List ℕ) (ok : Bool) (o : ok ≡ sound image) wher
     pub write-is : w ≡ writeOf (pairsOf ss xs) image (updated body)
     write-is = ew ∙ rw (ep, eq, ee, ec)
 
-    pub write-fits : sound image ≡ true → Bytes image → Bytes body → ((k : ℕ) → getD ss k 0 < 18446744073709551616) → ((k : ℕ) → getD xs k 0 < 18446744073709551616) → length body < 65536 → FitsCommand w
+    pub write-fits : sound V1 image ≡ true → Bytes image → Bytes body → ((k : ℕ) → getD ss k 0 < 18446744073709551616) → ((k : ℕ) → getD xs k 0 < 18446744073709551616) → length body < 65536 → FitsCommand w
     write-fits t ib bb fs fx h =
         subst FitsCommand (sym write-is)
-        (fits-write (pairsOf ss xs) image (updated body) (record { s = fs; x = fx }) (entry-fits (decode image) (soundReadsBack image ib (to-T t) .good) (field 0 2 body)) bb h)
+        (fits-write (pairsOf ss xs) image (updated body) (record { s = fs; x = fx }) (entry-fits (decode V1 image) (soundReadsBack V1 image ib (to-T t) .good) (field 0 2 body)) bb h)
+
+    pub write-names : w .language < translations V1
+    write-names = subst (λ (c : Command). c .language < translations V1) (sym write-is) (lit< tt)
 
     pub write-bytes : take (length body - 3) (drop 3 body) ≡ recordText (updated body)
     write-bytes = take-all (length body - 3) (drop 3 body) (rw length-drop (omega arith))
@@ -52,9 +57,9 @@ module _ (image ss xs body : List ℕ) (ok : Bool) (o : ok ≡ sound image) wher
     pub write-length : length (take (length body - 3) (drop 3 body)) ≡ w .length
     write-length = ap length write-bytes ∙ sym (ap (λ (c : Command). c .length) write-is)
 
-    pub write-serves : serve image (commandBytes w (take (length body - 3) (drop 3 body))) [] ≡ writeOutcome (pairsOf ss xs) image (updated body)
+    pub write-serves : serve V1 image (commandBytes V1 w (take (length body - 3) (drop 3 body))) [] ≡ writeOutcome (pairsOf ss xs) image (updated body)
     unfolding recoverySent
-    write-serves = ap (λ (c : Command). serve image (commandBytes c (take (length body - 3) (drop 3 body))) []) write-is ∙ ap (λ (t : List ℕ). serve image (commandBytes (writeOf (pairsOf ss xs) image (updated body)) t) []) write-bytes
+    write-serves = ap (λ (c : Command). serve V1 image (commandBytes V1 c (take (length body - 3) (drop 3 body))) []) write-is ∙ ap (λ (t : List ℕ). serve V1 image (commandBytes V1 (writeOf (pairsOf ss xs) image (updated body)) t) []) write-bytes
 
 -- ---- record i
 

@@ -3,6 +3,7 @@
 use Prim.Native.Nat.{ℕ}
 use mathlib.Core.List.{List, []}
 use mathlib.Core.Bool.{cond}
+use Rattle.formats.specs.declared.Format.the-variants.{V1}
 use Rattle.redo_log.specs.Log.{LogRecord}
 use Rattle.model.specs.Serve.{Outcome, serve}
 use Rattle.recovery_model.specs.Recovery.{Pairs, recordIn, due, recoverySent, recovered}
@@ -14,7 +15,7 @@ pairsOf s x = record { s = s; x = x }
 
 -- What the write of an update leaves.
 abbrev pub writeOutcome : Pairs → List ℕ → LogRecord → Outcome
-writeOutcome pairs image r = serve image (recoverySent pairs image r .command) []
+writeOutcome pairs image r = serve V1 image (recoverySent pairs image r .command) []
 
 -- The number and the image after record i.
 abbrev pub stepNumber : Pairs → List LogRecord → List ℕ → ℕ → ℕ

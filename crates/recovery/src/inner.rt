@@ -4,6 +4,8 @@ ghost use mathlib.Core.List.{[]};
 ghost use Prim.Native.Nat.{_+_, _≤_, _<_};
 ghost use lib.ListN.{length, getD};
 ghost use lib.Dec.{eqb};
+ghost use Rattle.formats.specs.declared.Format.the-variants.{V1};
+ghost use Rattle.formats.specs.Format.{translations};
 ghost use Rattle.image.specs.Image.{sound};
 ghost use Rattle.commands.specs.Bytes.{commandBytes};
 ghost use Rattle.commands.specs.Command.{FitsCommand};
@@ -13,6 +15,7 @@ ghost use Rattle.lists.specs.Search.{any};
 ghost use Rattle.recovery_model.specs.Recovery.{commitsTo, syncsFrom, due, entryFor, writeBy};
 ghost use Rattle.recovery.specs.Step.{pairsOf, writeOutcome, stepNumber, stepImage};
 use commands::Command;
+use formats::Format;
 use guard::Entry;
 use slices::inner::fixed_width as le;
 use stamps::Mark;
@@ -106,7 +109,7 @@ fn at_or_zero(l: &[u64], k: u16) -> u64
 
 // The entry of card k as stored; zeros where there is no such card.
 fn entry_for(image: &[u8], k: u16) -> Entry
-    requires { ⌜ sound (now image) ≡ true ⌝ }
+    requires { ⌜ sound V1 (now image) ≡ true ⌝ }
     ensures { λ r. ⌜ r ≡ entryFor (now (image .entry)) k ⌝ }
 {
     if image::inner::read::count(image) <= k {
@@ -122,7 +125,7 @@ fn entry_for(image: &[u8], k: u16) -> Entry
             translation: 0,
         };
     }
-    image::inner::read::entry_at(image, k)
+    image::inner::read::entry_at(Format::V1, image, k, 0)
 }
 
 // Writing an original, or a translation.
@@ -156,6 +159,7 @@ fn write_of(pair: Pair, e: Entry, body: &[u8]) -> Command
     Command {
         act: act_of(body[2]),
         mode: 2,
+        language: 0,
         card: le::read_u16(body, 0),
         pair: pair,
         opened: none,
@@ -168,10 +172,10 @@ fn write_of(pair: Pair, e: Entry, body: &[u8]) -> Command
 
 // A command by its numbers and its text, on a sound image: what its bytes and an empty reply buffer would get.
 fn carry_out(image: &mut [u8], c: Command, text: &[u8]) -> u8
-    requires { ⌜ (sound (now image) ≡ true) × (length (now text) ≡ c .length) × FitsCommand c ⌝ }
-    ensures number { λ r. ⌜ r ≡ serve (now (image .entry)) (commandBytes c (now (text .entry))) [] .answer .number ⌝ }
-    ensures image { λ _. ⌜ now (image .exit) ≡ serve (now (image .entry)) (commandBytes c (now (text .entry))) [] .image ⌝ }
-    ensures kept { λ _. ⌜ sound (now (image .exit)) ≡ true ⌝ }
+    requires { ⌜ (sound V1 (now image) ≡ true) × (length (now text) ≡ c .length) × FitsCommand c × (c .language < translations V1) ⌝ }
+    ensures number { λ r. ⌜ r ≡ serve V1 (now (image .entry)) (commandBytes V1 c (now (text .entry))) [] .answer .number ⌝ }
+    ensures image { λ _. ⌜ now (image .exit) ≡ serve V1 (now (image .entry)) (commandBytes V1 c (now (text .entry))) [] .image ⌝ }
+    ensures kept { λ _. ⌜ sound V1 (now (image .exit)) ≡ true ⌝ }
 {
     if !c.well_formed() {
         return 1;
@@ -180,16 +184,16 @@ fn carry_out(image: &mut [u8], c: Command, text: &[u8]) -> u8
         return 2;
     }
     let mut none = [0u8; 0];
-    let a = store::inner::step::carry(image, c, text, &mut none);
+    let a = store::inner::step::carry(Format::V1, image, c, text, &mut none);
     a.number
 }
 
 // The write of an update, through the guard; `ok` says whether the image is sound, which is found once for all writes.
 fn apply<'a>(image: &mut [u8], ok: bool, body: &[u8], s: &'a [u64], x: &'a [u64]) -> u8
-    requires { ⌜ (ok ≡ sound (now image)) × (3 ≤ length (now body)) × (length (now body) < 65536) ⌝ }
+    requires { ⌜ (ok ≡ sound V1 (now image)) × (3 ≤ length (now body)) × (length (now body) < 65536) ⌝ }
     ensures number { λ r. ⌜ r ≡ writeOutcome (pairsOf (now (s .entry)) (now (x .entry))) (now (image .entry)) (record { kind = 2; body = now (body .entry) }) .answer .number ⌝ }
     ensures image { λ _. ⌜ now (image .exit) ≡ writeOutcome (pairsOf (now (s .entry)) (now (x .entry))) (now (image .entry)) (record { kind = 2; body = now (body .entry) }) .image ⌝ }
-    ensures kept { λ _. ⌜ ok ≡ sound (now (image .exit)) ⌝ }
+    ensures kept { λ _. ⌜ ok ≡ sound V1 (now (image .exit)) ⌝ }
 {
     if !ok {
         return 9;
@@ -213,10 +217,10 @@ pub fn step<'a>(
     s: &'a [u64],
     x: &'a [u64],
 ) -> u8
-    requires { ⌜ (ok ≡ sound (now image)) × (goodLog (now log) ≡ true) × (i < recordCount (now log)) × (last ≡ lastBegun (recordAt (now log)) i) ⌝ }
+    requires { ⌜ (ok ≡ sound V1 (now image)) × (goodLog (now log) ≡ true) × (i < recordCount (now log)) × (last ≡ lastBegun (recordAt (now log)) i) ⌝ }
     ensures number { λ r. ⌜ r ≡ stepNumber (pairsOf (now (s .entry)) (now (x .entry))) (records (now (log .entry))) (now (image .entry)) i ⌝ }
     ensures image { λ _. ⌜ now (image .exit) ≡ stepImage (pairsOf (now (s .entry)) (now (x .entry))) (records (now (log .entry))) (now (image .entry)) i ⌝ }
-    ensures kept { λ _. ⌜ ok ≡ sound (now (image .exit)) ⌝ }
+    ensures kept { λ _. ⌜ ok ≡ sound V1 (now (image .exit)) ⌝ }
 {
     if !is_due(log, i, last) {
         return 0;

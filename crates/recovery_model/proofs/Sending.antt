@@ -8,6 +8,7 @@ use mathlib.Core.Bool.{Bool, true, false, cond}
 use borrow.Author.Tests.{ltb-true, ltb-false}
 use lib.ListN.{length, getD, length-drop, List·getD-eq-default}
 use lib.Dec.{ltb, eqb, lit<}
+use Rattle.formats.specs.declared.Format.the-variants.{V1}
 use Rattle.lists.specs.Parts.{Bytes}
 use Rattle.lists.proofs.Bytes.{Bytes-nil, Bytes-drop, Bytes-part}
 use Rattle.lists.proofs.Le.{le-part-bound}
@@ -15,7 +16,7 @@ use Rattle.lists.proofs.Tests.{cases}
 use Rattle.guard.specs.Entry.{FitsEntry}
 use Rattle.commands.specs.Command.{FitsCommand}
 use Rattle.commands.proofs.CommandBytes.{Bytes-command}
-use Rattle.image.specs.Layout.{translations}
+use Rattle.formats.specs.Format.{translations}
 use Rattle.image.specs.Image.{fresh, Card, Cards, view, noCard, encode, decode}
 use Rattle.image.specs.Image.{GoodCard, GoodCards, freshCards}
 use Rattle.image_claims.proofs.Claims.{goodEncodes, freshSound, fits-none}
@@ -35,27 +36,27 @@ use Rattle.recovery_model.proofs.Steps.{R, S, Idle, Sends, next, stands
 -- ---- a write fits its fields
 
 -- Where there is no such card, an empty one stands for it: it has as many translations, and an entry that fits.
-module _ (cs : Cards) (g : GoodCards cs) (k : ℕ) where
+module _ (cs : Cards) (g : GoodCards V1 cs) (k : ℕ) where
   abbrev found : Card
-  found = getD (cs .cards) k noCard
+  found = getD (cs .cards) k (noCard V1)
 
-  there : (ltb k (length (cs .cards)) ≡ true) ⊎ (ltb k (length (cs .cards)) ≡ false) → GoodCard (cs .room) found ⊎ (found ≡ noCard)
+  there : (ltb k (length (cs .cards)) ≡ true) ⊎ (ltb k (length (cs .cards)) ≡ false) → GoodCard V1 (cs .room) found ⊎ (found ≡ noCard V1)
   there (inl e) = inl (g .each k (ltb-true k (length (cs .cards)) e))
-  there (inr e) = inr (List·getD-eq-default (cs .cards) noCard {n = k} (ltb-false k (length (cs .cards)) e))
+  there (inr e) = inr (List·getD-eq-default (cs .cards) (noCard V1) {n = k} (ltb-false k (length (cs .cards)) e))
 
   pub entry-fits : FitsEntry (view 0 found)
   entry-fits = go (there (cases (ltb k (length (cs .cards)))))
     where
-      go : GoodCard (cs .room) found ⊎ (found ≡ noCard) → FitsEntry (view 0 found)
+      go : GoodCard V1 (cs .room) found ⊎ (found ≡ noCard V1) → FitsEntry (view 0 found)
       go (inl good) = good .fits 0 (lit< tt)
       go (inr none) = subst (λ (card : Card). FitsEntry (view 0 card)) (sym none) fits-none
 
-  pub counted : length (found .translated) ≡ translations
+  pub counted : length (found .translated) ≡ translations V1
   counted = go (there (cases (ltb k (length (cs .cards)))))
     where
-      go : GoodCard (cs .room) found ⊎ (found ≡ noCard) → length (found .translated) ≡ translations
+      go : GoodCard V1 (cs .room) found ⊎ (found ≡ noCard V1) → length (found .translated) ≡ translations V1
       go (inl good) = good .count
-      go (inr none) = subst (λ (card : Card). length (card .translated) ≡ translations) (sym none) refl
+      go (inr none) = subst (λ (card : Card). length (card .translated) ≡ translations V1) (sym none) refl
 
 pub fits-write : (pairs : Pairs) (image : List ℕ) (r : LogRecord) → FitsPairs pairs → FitsEntry (entryFor image (recordCard r)) → Bytes (r .body) → length (r .body) < 65536
     → FitsCommand (writeOf pairs image r)
@@ -63,6 +64,7 @@ fits-write pairs image r p e b h =
     record {
       act = small (eqb (recordSide r) 1);
       mode = lit< tt;
+      language = lit< tt;
       card = le-part-bound 0 2 (r .body) b;
       pair = record { s = p .s (recordCard r); x = p .x (recordCard r) };
       opened = record { s = lit< tt; x = lit< tt };
@@ -83,7 +85,7 @@ fits-write pairs image r p e b h =
 pub sent-bytes : (pairs : Pairs) (image : List ℕ) (r : LogRecord) → FitsCommand (writeOf pairs image r) → Bytes (r .body) → SentBytes (recoverySent pairs image r)
 unfolding recoverySent
 sent-bytes pairs image r f b =
-    record { command = Bytes-command (writeOf pairs image r) (recordText r) f (Bytes-drop 3 (r .body) b); lent = Bytes-nil }
+    record { command = Bytes-command (writeOf pairs image r) (recordText r) V1 f (Bytes-drop 3 (r .body) b); lent = Bytes-nil }
 
 applied-bytes : (i : ℕ) (s : Sent) (r : Recovery) → SentBytes s → AllBytes (r .sent) → AllBytes (recoveryStep i s r .sent)
 unfolding recoveryStep
@@ -95,38 +97,38 @@ applied-bytes i s r sb ab = (sb, ab)
 abbrev pub FitsRecords : List LogRecord → Type 0
 FitsRecords rs = (i : ℕ) → i < length rs → Bytes (recordIn rs i .body) × (length (recordIn rs i .body) < 65536)
 
-module _ (pairs : Pairs) (rs : List LogRecord) (cs : Cards) (gc : GoodCards cs) (fp : FitsPairs pairs) (fit : FitsRecords rs) where
+module _ (pairs : Pairs) (rs : List LogRecord) (cs : Cards) (gc : GoodCards V1 cs) (fp : FitsPairs pairs) (fit : FitsRecords rs) where
   -- The cards before record i.
   abbrev pub C : ℕ → Cards
-  C i = cardsFrom cs (R pairs rs (encode cs) i .sent)
+  C i = cardsFrom V1 cs (R pairs rs (encode V1 cs) i .sent)
 
-  module _ (i : ℕ) (ab : AllBytes (R pairs rs (encode cs) i .sent)) where
-    pub cards-good : GoodCards (C i)
-    cards-good = all-good cs (R pairs rs (encode cs) i .sent) gc ab
+  module _ (i : ℕ) (ab : AllBytes (R pairs rs (encode V1 cs) i .sent)) where
+    pub cards-good : GoodCards V1 (C i)
+    cards-good = all-good V1 cs (R pairs rs (encode V1 cs) i .sent) gc ab
 
-    pub image-is : R pairs rs (encode cs) i .image ≡ encode (C i)
-    image-is = stands pairs rs (encode cs) i ∙ same-images cs (R pairs rs (encode cs) i .sent) gc ab
+    pub image-is : R pairs rs (encode V1 cs) i .image ≡ encode V1 (C i)
+    image-is = stands pairs rs (encode V1 cs) i ∙ same-images V1 cs (R pairs rs (encode V1 cs) i .sent) gc ab
 
-    pub decode-is : decode (R pairs rs (encode cs) i .image) ≡ C i
-    decode-is = ap decode image-is ∙ goodEncodes (C i) cards-good .same
+    pub decode-is : decode V1 (R pairs rs (encode V1 cs) i .image) ≡ C i
+    decode-is = ap (decode V1) image-is ∙ goodEncodes V1 (C i) cards-good .same
 
-    pub fits-here : i < length rs → FitsCommand (writeOf pairs (R pairs rs (encode cs) i .image) (recordIn rs i))
+    pub fits-here : i < length rs → FitsCommand (writeOf pairs (R pairs rs (encode V1 cs) i .image) (recordIn rs i))
     fits-here h =
-        fits-write pairs (R pairs rs (encode cs) i .image) (recordIn rs i) fp
-        (subst (λ (d : Cards). FitsEntry (view 0 (getD (d .cards) (recordCard (recordIn rs i)) noCard))) (sym decode-is) (entry-fits (C i) cards-good (recordCard (recordIn rs i))))
+        fits-write pairs (R pairs rs (encode V1 cs) i .image) (recordIn rs i) fp
+        (subst (λ (d : Cards). FitsEntry (view 0 (getD (d .cards) (recordCard (recordIn rs i)) (noCard V1)))) (sym decode-is) (entry-fits (C i) cards-good (recordCard (recordIn rs i))))
         (fit i h .0)
         (fit i h .1)
 
-  pub all-bytes : (i : ℕ) → i ≤ length rs → AllBytes (R pairs rs (encode cs) i .sent)
+  pub all-bytes : (i : ℕ) → i ≤ length rs → AllBytes (R pairs rs (encode V1 cs) i .sent)
   unfolding recovering
   all-bytes zero h = tt
-  all-bytes (suc i) h = go (next pairs rs (encode cs) i) (all-bytes i (omega arith))
+  all-bytes (suc i) h = go (next pairs rs (encode V1 cs) i) (all-bytes i (omega arith))
     where
-      go : Idle pairs rs (encode cs) i ⊎ Sends pairs rs (encode cs) i → AllBytes (R pairs rs (encode cs) i .sent) → AllBytes (R pairs rs (encode cs) (suc i) .sent)
+      go : Idle pairs rs (encode V1 cs) i ⊎ Sends pairs rs (encode V1 cs) i → AllBytes (R pairs rs (encode V1 cs) i .sent) → AllBytes (R pairs rs (encode V1 cs) (suc i) .sent)
       go (inl idle) b = subst (λ (r : Recovery). AllBytes (r .sent)) (sym (idle .same)) b
       go (inr s) b =
           subst (λ (r : Recovery). AllBytes (r .sent)) (sym (s .now))
-          (applied-bytes i (S pairs rs (encode cs) i) (R pairs rs (encode cs) i) (sent-bytes pairs (R pairs rs (encode cs) i .image) (recordIn rs i) (fits-here i b h) (fit i h .0)) b)
+          (applied-bytes i (S pairs rs (encode V1 cs) i) (R pairs rs (encode V1 cs) i) (sent-bytes pairs (R pairs rs (encode V1 cs) i .image) (recordIn rs i) (fits-here i b h) (fit i h .0)) b)
 
 -- A run from a good log of bytes.
 pub fits-log : (log : List ℕ) → Bytes log → goodLog log ≡ true → FitsRecords (records log)
@@ -138,28 +140,28 @@ fits-log log lb g i h =
       subst (λ (r : LogRecord). length (r .body) < 65536) same (short-record log g i k),
     )
 
-pub recovered-bytes : (pairs : Pairs) (log : List ℕ) (cs : Cards) → GoodCards cs → FitsPairs pairs → Bytes log → AllBytes (recovered pairs log (encode cs) .sent)
+pub recovered-bytes : (pairs : Pairs) (log : List ℕ) (cs : Cards) → GoodCards V1 cs → FitsPairs pairs → Bytes log → AllBytes (recovered pairs log (encode V1 cs) .sent)
 unfolding recovered
 recovered-bytes pairs log cs gc fp lb = go (goodLog log) refl
   where
-    go : (g : Bool) → goodLog log ≡ g → AllBytes (recovered pairs log (encode cs) .sent)
+    go : (g : Bool) → goodLog log ≡ g → AllBytes (recovered pairs log (encode V1 cs) .sent)
     go true e = rw e (all-bytes pairs (records log) cs gc fp (fits-log log lb e) (length (records log)) (omega arith))
     go false e = rw e tt
 
 -- ---- mixed lists
 
-after-append : (start : List ℕ) (a b : List Sent) → imageAfter start (a ++ b) ≡ imageAfter (imageAfter start b) a
+after-append : (start : List ℕ) (a b : List Sent) → imageAfter V1 start (a ++ b) ≡ imageAfter V1 (imageAfter V1 start b) a
 unfolding imageAfter
 after-append start [] b = refl
-after-append start (s ∷ a) b = ap (λ (im : List ℕ). serve im (s .command) (s .lent) .image) (after-append start a b)
+after-append start (s ∷ a) b = ap (λ (im : List ℕ). serve V1 im (s .command) (s .lent) .image) (after-append start a b)
 
-pub same-mixed : (start : List ℕ) (deeds : List Deed) → imageAfterDeeds start deeds ≡ imageAfter start (requestsOfDeeds start deeds)
+pub same-mixed : (start : List ℕ) (deeds : List Deed) → imageAfterDeeds start deeds ≡ imageAfter V1 start (requestsOfDeeds start deeds)
 unfolding imageAfterDeeds requestsOfDeeds imageAfter
 same-mixed start [] = refl
-same-mixed start (oneRequest s ∷ before) = ap (λ (im : List ℕ). serve im (s .command) (s .lent) .image) (same-mixed start before)
+same-mixed start (oneRequest s ∷ before) = ap (λ (im : List ℕ). serve V1 im (s .command) (s .lent) .image) (same-mixed start before)
 same-mixed start (oneRecovery pairs log ∷ before) =
     recovers pairs log (imageAfterDeeds start before) .sends
-    ∙ ap (λ (im : List ℕ). imageAfter im (recovered pairs log (imageAfterDeeds start before) .sent)) (same-mixed start before)
+    ∙ ap (λ (im : List ℕ). imageAfter V1 im (recovered pairs log (imageAfterDeeds start before) .sent)) (same-mixed start before)
     ∙ sym (after-append start (recovered pairs log (imageAfterDeeds start before) .sent) (requestsOfDeeds start before))
 
 bytes-append : (a b : List Sent) → AllBytes a → AllBytes b → AllBytes (a ++ b)
@@ -170,25 +172,25 @@ bytes-reverse : (sent more : List Sent) → AllBytes sent → AllBytes more → 
 bytes-reverse [] more b m = m
 bytes-reverse (s ∷ sent) more b m = bytes-reverse sent (s ∷ more) (b .1) (b .0, m)
 
-pub bytes-mixed : (cs : Cards) → GoodCards cs → (deeds : List Deed) → FitsDeeds deeds → AllBytes (requestsOfDeeds (encode cs) deeds)
+pub bytes-mixed : (cs : Cards) → GoodCards V1 cs → (deeds : List Deed) → FitsDeeds deeds → AllBytes (requestsOfDeeds (encode V1 cs) deeds)
 unfolding requestsOfDeeds
 bytes-mixed cs g [] f = tt
 bytes-mixed cs g (oneRequest s ∷ before) f = (f .0, bytes-mixed cs g before (f .1))
 bytes-mixed cs g (oneRecovery pairs log ∷ before) f =
     let old = bytes-mixed cs g before (f .1) in
-    let here : imageAfterDeeds (encode cs) before ≡ encode (cardsFrom cs (requestsOfDeeds (encode cs) before)) =
-    same-mixed (encode cs) before ∙ same-images cs (requestsOfDeeds (encode cs) before) g old in
-    bytes-append (recovered pairs log (imageAfterDeeds (encode cs) before) .sent) (requestsOfDeeds (encode cs) before)
+    let here : imageAfterDeeds (encode V1 cs) before ≡ encode V1 (cardsFrom V1 cs (requestsOfDeeds (encode V1 cs) before)) =
+    same-mixed (encode V1 cs) before ∙ same-images V1 cs (requestsOfDeeds (encode V1 cs) before) g old in
+    bytes-append (recovered pairs log (imageAfterDeeds (encode V1 cs) before) .sent) (requestsOfDeeds (encode V1 cs) before)
     (subst (λ (im : List ℕ). AllBytes (recovered pairs log im .sent)) (sym here)
-    (recovered-bytes pairs log (cardsFrom cs (requestsOfDeeds (encode cs) before)) (all-good cs (requestsOfDeeds (encode cs) before) g old) (f .0 .0) (f .0 .1)))
+    (recovered-bytes pairs log (cardsFrom V1 cs (requestsOfDeeds (encode V1 cs) before)) (all-good V1 cs (requestsOfDeeds (encode V1 cs) before) g old) (f .0 .0) (f .0 .1)))
     old
 
 pub demand3-mixed : Demand3Mixed
 demand3-mixed n c shape deeds f =
-    let fr = freshSound n c shape in
-    let bytes : AllBytes (requestsOfDeeds (fresh n c) deeds) =
-    subst (λ (im : List ℕ). AllBytes (requestsOfDeeds im deeds)) (fr .cards) (bytes-mixed (freshCards n c) (fr .good) deeds f) in
+    let fr = freshSound V1 n c shape in
+    let bytes : AllBytes (requestsOfDeeds (fresh V1 n c) deeds) =
+    subst (λ (im : List ℕ). AllBytes (requestsOfDeeds im deeds)) (fr .cards) (bytes-mixed (freshCards V1 n c) (fr .good) deeds f) in
     record {
-      same = same-mixed (fresh n c) deeds;
-      demand3 = demand3 n c shape (reverse (requestsOfDeeds (fresh n c) deeds)) (bytes-reverse (requestsOfDeeds (fresh n c) deeds) [] bytes tt);
+      same = same-mixed (fresh V1 n c) deeds;
+      demand3 = demand3 V1 n c shape (reverse (requestsOfDeeds (fresh V1 n c) deeds)) (bytes-reverse (requestsOfDeeds (fresh V1 n c) deeds) [] bytes tt);
     }

@@ -8,6 +8,7 @@ use mathlib.Core.Bool.{Bool, true, false, cond}
 use borrow.Author.Tests.{ltb-true, ltb-false}
 use lib.ListN.{length, List·getD-eq-default}
 use lib.Dec.{ltb, eqb}
+use Rattle.formats.specs.declared.Format.the-variants.{V1}
 use Rattle.lists.specs.Table.{settled}
 use Rattle.lists.proofs.Table.{settled-old}
 use Rattle.lists.proofs.Tests.{cases, never-both, and-right}
@@ -57,19 +58,19 @@ module _ (pairs : Pairs) (rs : List LogRecord) (image : List ℕ) where
       go zero false e f = inl (record { same = by-number 0 e ∙ by-due false f; why = λ z. f })
       go zero true e f = inr (record { so-far = e; is-due = f; now = by-number 0 e ∙ by-due true f })
 
-  pub stands : (i : ℕ) → R i .image ≡ imageAfter image (R i .sent)
+  pub stands : (i : ℕ) → R i .image ≡ imageAfter V1 image (R i .sent)
   unfolding recovering imageAfter recoveryStep
   stands zero = refl
   stands (suc i) = go (next i) (stands i)
     where
-      go : Idle i ⊎ Sends i → R i .image ≡ imageAfter image (R i .sent) → R (suc i) .image ≡ imageAfter image (R (suc i) .sent)
+      go : Idle i ⊎ Sends i → R i .image ≡ imageAfter V1 image (R i .sent) → R (suc i) .image ≡ imageAfter V1 image (R (suc i) .sent)
       go (inl idle) h = rw (idle .same) h
-      go (inr s) h = rw (s .now) (ap (λ (im : List ℕ). serve im (S i .command) (S i .lent) .image) h)
+      go (inr s) h = rw (s .now) (ap (λ (im : List ℕ). serve V1 im (S i .command) (S i .lent) .image) h)
 
   -- The events of what was sent.
   pub record Told (i : ℕ) : Type 0 where
-    pub accepted : R i .number ≡ 0 → AllTaken (history image (R i .sent))
-    pub stopped : StopsWith (R i .number) (history image (R i .sent))
+    pub accepted : R i .number ≡ 0 → AllTaken (history V1 image (R i .sent))
+    pub stopped : StopsWith (R i .number) (history V1 image (R i .sent))
     pub line : R i .number ≡ 0 → R i .line ≡ 0
     pub listed : (R i .number ≤ 9) ⊎ (R i .number ≡ 17)
     pub later : due rs 0 ≡ false → (R i .number ≡ 0 → ⊥) → 1 ≤ R i .line
@@ -77,8 +78,8 @@ module _ (pairs : Pairs) (rs : List LogRecord) (image : List ℕ) where
   told-same : (i : ℕ) → R (suc i) ≡ R i → Told i → Told (suc i)
   told-same i e t =
       record {
-        accepted = λ z. subst (λ (r : Recovery). AllTaken (history image (r .sent))) (sym e) (t .accepted (sym (ap (λ (r : Recovery). r .number) e) ∙ z));
-        stopped = subst (λ (r : Recovery). StopsWith (r .number) (history image (r .sent))) (sym e) (t .stopped);
+        accepted = λ z. subst (λ (r : Recovery). AllTaken (history V1 image (r .sent))) (sym e) (t .accepted (sym (ap (λ (r : Recovery). r .number) e) ∙ z));
+        stopped = subst (λ (r : Recovery). StopsWith (r .number) (history V1 image (r .sent))) (sym e) (t .stopped);
         line = λ z. ap (λ (r : Recovery). r .line) e ∙ t .line (sym (ap (λ (r : Recovery). r .number) e) ∙ z);
         listed = subst (λ (r : Recovery). (r .number ≤ 9) ⊎ (r .number ≡ 17)) (sym e) (t .listed);
         later = λ f n. subst (λ (r : Recovery). 1 ≤ r .line) (sym e) (t .later f (λ z. n (ap (λ (r : Recovery). r .number) e ∙ z)));
@@ -88,18 +89,18 @@ module _ (pairs : Pairs) (rs : List LogRecord) (image : List ℕ) where
   above : (i : ℕ) → Sends i → due rs 0 ≡ false → (recoveryStep i (S i) (R i) .number ≡ 0 → ⊥) → 1 ≤ recoveryStep i (S i) (R i) .line
   unfolding recoveryStep
   above zero s f n = absurd (never-both (s .is-due) f)
-  above (suc i) s f n = rw (settled-old {n = serve (R (suc i) .image) (S (suc i) .command) (S (suc i) .lent) .answer .number} 0 (suc i) n) (omega arith)
+  above (suc i) s f n = rw (settled-old {n = serve V1 (R (suc i) .image) (S (suc i) .command) (S (suc i) .lent) .answer .number} 0 (suc i) n) (omega arith)
 
   told-more : (i : ℕ) → Sends i → Told i → Told (suc i)
   unfolding recoveryStep history
   told-more i s t =
-      let number : serve (imageAfter image (R i .sent)) (S i .command) (S i .lent) .answer .number ≡ recoveryStep i (S i) (R i) .number =
-      ap (λ (im : List ℕ). serve im (S i .command) (S i .lent) .answer .number) (sym (stands i)) in
+      let number : serve V1 (imageAfter V1 image (R i .sent)) (S i .command) (S i .lent) .answer .number ≡ recoveryStep i (S i) (R i) .number =
+      ap (λ (im : List ℕ). serve V1 im (S i .command) (S i .lent) .answer .number) (sym (stands i)) in
       record {
-        accepted = λ z. subst (λ (r : Recovery). AllTaken (history image (r .sent))) (sym (s .now)) (number ∙ sym (ap (λ (r : Recovery). r .number) (s .now)) ∙ z, t .accepted (s .so-far));
-        stopped = subst (λ (r : Recovery). StopsWith (r .number) (history image (r .sent))) (sym (s .now)) (number, t .accepted (s .so-far));
+        accepted = λ z. subst (λ (r : Recovery). AllTaken (history V1 image (r .sent))) (sym (s .now)) (number ∙ sym (ap (λ (r : Recovery). r .number) (s .now)) ∙ z, t .accepted (s .so-far));
+        stopped = subst (λ (r : Recovery). StopsWith (r .number) (history V1 image (r .sent))) (sym (s .now)) (number, t .accepted (s .so-far));
         line = λ z. ap (λ (r : Recovery). r .line) (s .now) ∙ ap (λ (n : ℕ). settled n 0 i) (sym (ap (λ (r : Recovery). r .number) (s .now)) ∙ z);
-        listed = subst (λ (r : Recovery). (r .number ≤ 9) ⊎ (r .number ≡ 17)) (sym (s .now)) (refusals (R i .image) (S i .command) (S i .lent) .listed);
+        listed = subst (λ (r : Recovery). (r .number ≤ 9) ⊎ (r .number ≡ 17)) (sym (s .now)) (refusals V1 (R i .image) (S i .command) (S i .lent) .listed);
         later = λ f n. subst (λ (r : Recovery). 1 ≤ r .line) (sym (s .now)) (above i s f (λ z. n (ap (λ (r : Recovery). r .number) (s .now) ∙ z)));
       }
 

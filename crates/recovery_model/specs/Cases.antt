@@ -4,6 +4,7 @@ use Prim.Native.Nat.{ℕ}
 use mathlib.Core.Path.{_≡_}
 use mathlib.Core.List.{List, [], _∷_}
 use lib.ListN.{length, take, replicate}
+use Rattle.formats.specs.declared.Format.the-variants.{V1}
 use Rattle.commands.specs.Command.{original, translation}
 use Rattle.commands.specs.Bytes.{commandBytes}
 use Rattle.stamps.specs.Stamp.{noPair}
@@ -38,15 +39,16 @@ noPairs = record { s = []; x = [] }
 
 -- A fresh image, and one whose card 0 was verified by (2.2.0, 2.2.0), which left the mark (5, 7).
 abbrev pub blankImage : List ℕ
-blankImage = fresh 2 16
+blankImage = fresh V1 2 16
 
 abbrev pub markedImage : List ℕ
 markedImage =
-    serve blankImage
-    (commandBytes
+    serve V1 blankImage
+    (commandBytes V1
     (record {
       act = 5;
       mode = 2;
+      language = 0;
       card = 0;
       pair = record { s = 8590065664; x = 8590065664 };
       opened = noPair;

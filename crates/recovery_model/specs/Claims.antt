@@ -7,6 +7,7 @@ use mathlib.Core.List.{List, [], _∷_, _++_, reverse}
 use mathlib.Core.Bool.{Bool, true, false, cond, not, _&&_}
 use lib.ListN.{length, getD}
 use lib.Dec.{T, eqb}
+use Rattle.formats.specs.declared.Format.the-variants.{V1}
 use Rattle.lists.specs.Parts.{Bytes}
 use Rattle.image.specs.Layout.{shapeOk}
 use Rattle.commands.specs.Command.{Language, original, translation}
@@ -37,9 +38,9 @@ StopsWith number (e ∷ log) = (e .answer .number ≡ number) × AllTaken log
 -- Rules 11.18 and 11.19, of any pairs, any bytes as a log and any as an image.
 pub record Recovers (pairs : Pairs) (log image : List ℕ) : Type 0 where
   -- the image is the one after its requests, each a request by itself, and nothing else
-  pub sends : recovered pairs log image .image ≡ imageAfter image (recovered pairs log image .sent)
+  pub sends : recovered pairs log image .image ≡ imageAfter V1 image (recovered pairs log image .sent)
   -- it stops at the first request that is refused, and answers its number
-  pub stops : StopsWith (recovered pairs log image .number) (history image (recovered pairs log image .sent))
+  pub stops : StopsWith (recovered pairs log image .number) (history V1 image (recovered pairs log image .sent))
   -- 23 comes exactly for a bad log, and then nothing is sent
   pub bad : (recovered pairs log image .number ≡ 23) ↔ (goodLog log ≡ false)
   pub silent : goodLog log ≡ false → recovered pairs log image .sent ≡ []
@@ -65,7 +66,7 @@ pub data Deed : Type 0 where
 -- The image after deeds, latest first, and all the requests that were sent, latest first.
 unfoldable pub imageAfterDeeds : List ℕ → List Deed → List ℕ
 imageAfterDeeds start [] = start
-imageAfterDeeds start (oneRequest s ∷ before) = serve (imageAfterDeeds start before) (s .command) (s .lent) .image
+imageAfterDeeds start (oneRequest s ∷ before) = serve V1 (imageAfterDeeds start before) (s .command) (s .lent) .image
 imageAfterDeeds start (oneRecovery pairs log ∷ before) = recovered pairs log (imageAfterDeeds start before) .image
 
 unfoldable pub requestsOfDeeds : List ℕ → List Deed → List Sent
@@ -81,30 +82,30 @@ FitsDeeds (oneRecovery pairs log ∷ before) = (FitsPairs pairs × Bytes log) ×
 
 -- Rule 11.20: requests and recoveries in any mixture, begun on a fresh image, make one list of requests, and demand 3 holds of it.
 pub record Mixed (n c : ℕ) (deeds : List Deed) : Type 0 where
-  pub same : imageAfterDeeds (fresh n c) deeds ≡ imageAfter (fresh n c) (requestsOfDeeds (fresh n c) deeds)
-  pub demand3 : Claim n (reverse (requestsOfDeeds (fresh n c) deeds)) (logOf n c (reverse (requestsOfDeeds (fresh n c) deeds)))
+  pub same : imageAfterDeeds (fresh V1 n c) deeds ≡ imageAfter V1 (fresh V1 n c) (requestsOfDeeds (fresh V1 n c) deeds)
+  pub demand3 : Claim n (reverse (requestsOfDeeds (fresh V1 n c) deeds)) (logOf V1 n c (reverse (requestsOfDeeds (fresh V1 n c) deeds)))
 
 abbrev pub Demand3Mixed : Type 0
-Demand3Mixed = (n c : ℕ) → T (shapeOk n c) → (deeds : List Deed) → FitsDeeds deeds → Mixed n c deeds
+Demand3Mixed = (n c : ℕ) → T (shapeOk V1 n c) → (deeds : List Deed) → FitsDeeds deeds → Mixed n c deeds
 
 -- Rules 11.16 and 11.17: every request is exclusive and under the pair given for its card, as verifier and as update pair.
 abbrev pub AllUnder : Pairs → List Sent → Type 0
 AllUnder pairs [] = Unit {0}
 AllUnder pairs (s ∷ sent) =
-    ((fieldsOf (s .command) .mode ≡ exclusive)
-    × (verifier (fieldsOf (s .command)) ≡ recoveryPair pairs (fieldsOf (s .command) .card))
-    × (update (fieldsOf (s .command)) ≡ recoveryPair pairs (fieldsOf (s .command) .card)))
+    ((fieldsOf V1 (s .command) .mode ≡ exclusive)
+    × (verifier (fieldsOf V1 (s .command)) ≡ recoveryPair pairs (fieldsOf V1 (s .command) .card))
+    × (update (fieldsOf V1 (s .command)) ≡ recoveryPair pairs (fieldsOf V1 (s .command) .card)))
     × AllUnder pairs sent
 
 abbrev pub Under : Type 0
 Under =
-    (pairs : Pairs) (log image : List ℕ) → FitsPairs pairs → Bytes log → Bytes image → sound image ≡ true
+    (pairs : Pairs) (log image : List ℕ) → FitsPairs pairs → Bytes log → Bytes image → sound V1 image ≡ true
     → AllUnder pairs (recovered pairs log image .sent)
 
 -- ---- the texts that recovery leaves (rule 11.21)
 
 abbrev pub textIn : List ℕ → Language → ℕ → List ℕ
-textIn image l k = text l (getD (decode image .cards) k noCard)
+textIn image l k = text l (getD (decode V1 image .cards) k (noCard V1))
 
 -- The side of an update that is of a language.
 abbrev pub sideIs : Language → ℕ → Bool
@@ -130,7 +131,7 @@ textOf rs l k start = rewritten rs l k (length rs) start
 abbrev pub CutAnywhere : Type 0
 CutAnywhere =
     (stores : ℕ) (log : List ℕ) (rs : List LogRecord) → goodLog log ≡ true
-    → (pairs : Pairs) (image : List ℕ) → FitsPairs pairs → Bytes log → BytesOfRecords rs → Bytes image → sound image ≡ true
+    → (pairs : Pairs) (image : List ℕ) → FitsPairs pairs → Bytes log → BytesOfRecords rs → Bytes image → sound V1 image ≡ true
     → recovered pairs (cutAfter stores log rs) image .number ≡ 0
     → (l : Language) (k : ℕ)
     → textIn (recovered pairs (cutAfter stores log rs) image .image) l k ≡ textOf (records log ++ wholly stores (admittedOf log rs)) l k (textIn image l k)
@@ -144,7 +145,7 @@ CutRecovers =
 -- Rule 11.21: a second run, under other pairs if need be, leaves the texts as the first did, where neither has a write refused.
 abbrev pub Twice : Type 0
 Twice =
-    (pairs again : Pairs) (log image : List ℕ) → FitsPairs pairs → FitsPairs again → Bytes log → Bytes image → sound image ≡ true
+    (pairs again : Pairs) (log image : List ℕ) → FitsPairs pairs → FitsPairs again → Bytes log → Bytes image → sound V1 image ≡ true
     → recovered pairs log image .number ≡ 0
     → recovered again log (recovered pairs log image .image) .number ≡ 0
     → (l : Language) (k : ℕ)

@@ -5,6 +5,7 @@ use mathlib.Core.List.{List, [], _∷_}
 use mathlib.Core.Bool.{Bool, cond, not, _&&_}
 use lib.ListN.{length, getD}
 use lib.Dec.{leb, eqb}
+use Rattle.formats.specs.declared.Format.the-variants.{V1}
 use Rattle.lists.specs.Table.{settled}
 use Rattle.stamps.specs.Stamp.{exclusive, noPair}
 use Rattle.stamps.specs.declared.Pair.{Pair}
@@ -53,7 +54,7 @@ recoveryPair pairs k = record { s = getD (pairs .s) k 0; x = getD (pairs .x) k 0
 
 -- The entry of a card as stored, as seen in translation 0; zeros for a card that is not there.
 abbrev pub entryFor : List ℕ → ℕ → Entry
-entryFor image k = view 0 (getD (decode image .cards) k noCard)
+entryFor image k = view 0 (getD (decode V1 image .cards) k (noCard V1))
 
 -- Rule 11.17: an exclusive write under the pair, which is its verifier and its update pair: it expects the stored mark and leaves it, and a translation names the
 -- stored edition.
@@ -62,6 +63,7 @@ writeBy pair e r =
     record {
       act = cond (eqb (recordSide r) 1) 3 4;
       mode = exclusive;
+      language = 0;
       card = recordCard r;
       pair = pair;
       opened = noPair;
@@ -76,7 +78,7 @@ writeOf pairs image r = writeBy (recoveryPair pairs (recordCard r)) (entryFor im
 
 -- The request: the command's bytes and an empty reply buffer.
 unfoldable pub recoverySent : Pairs → List ℕ → LogRecord → Sent
-recoverySent pairs image r = record { command = commandBytes (writeOf pairs image r) (recordText r); lent = [] }
+recoverySent pairs image r = record { command = commandBytes V1 (writeOf pairs image r) (recordText r); lent = [] }
 
 -- ---- recovery (rules 11.18 to 11.20)
 
@@ -91,9 +93,9 @@ pub record Recovery : Type 0 where
 unfoldable pub recoveryStep : ℕ → Sent → Recovery → Recovery
 recoveryStep i s r =
     record {
-      number = serve (r .image) (s .command) (s .lent) .answer .number;
-      line = settled (serve (r .image) (s .command) (s .lent) .answer .number) 0 i;
-      image = serve (r .image) (s .command) (s .lent) .image;
+      number = serve V1 (r .image) (s .command) (s .lent) .answer .number;
+      line = settled (serve V1 (r .image) (s .command) (s .lent) .answer .number) 0 i;
+      image = serve V1 (r .image) (s .command) (s .lent) .image;
       sent = s ∷ r .sent;
     }
 

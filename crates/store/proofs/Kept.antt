@@ -1,101 +1,204 @@
 -- What the writes of an accepted command make of the bytes of cards. Assumes nothing.
-use Prim.Native.Nat.{ℕ, zero, suc, _*_, _<_}
-use lib.Dec.{T, lit<}
-use mathlib.Core.Path.{_≡_, refl, sym, ap, _∙_}
+use Prim.Native.Nat.{ℕ, zero, suc, _+_, _*_, _≤_, _<_}
+use native.Mathlib.Omega.{arith}
+use native.Mathlib.Nat.{mul-le-mul-right}
+use native.Mathlib.Numerals.{add-one}
+use mathlib.Core.Path.{_≡_, refl, sym, ap, subst, _∙_}
+use mathlib.Core.Logic.{_⊎_, inl, inr}
 use mathlib.Core.List.{List}
-use mathlib.Core.Bool.{Bool, true, false}
-use lib.ListN.{length}
-use Rattle.lists.specs.Parts.{splice, spread, Bytes}
-use Rattle.lists.proofs.Spread.{table-ext}
-use Rattle.commands.specs.Command.{Language, original, translation, writes, language}
+use mathlib.Core.Bool.{Bool, true, false, cond, _&&_, and-false}
+use borrow.Author.Tests.{eqb-true, eqb-false, eq-eqb, ne-eqb}
+use lib.Dec.{T, eqb}
+use lib.ListN.{length, getD, set, length-set}
+use Rattle.lists.specs.Parts.{part, splice, spread, table, Bytes}
+use Rattle.lists.proofs.Spread.{table-ext, length-table}
+use Rattle.lists.proofs.Parts.{splice-before, length-splice}
+use Rattle.lists.proofs.Tests.{cases, to-T, never-both}
+use Rattle.commands.specs.Command.{translation, original, writesTranslation, writes}
 use Rattle.commands.specs.declared.Command.{Command}
-use Rattle.commands.proofs.Languages.{writes-named, writes-other, one-write, no-original, none-written}
 use Rattle.guard.specs.Judge.{raise}
 use Rattle.guard.specs.declared.Entry.{Entry}
-use Rattle.image.specs.Image.{Card, sideText, sideOf, withCard, cardEntry, bodies, cardAt, encode, decode, sound}
-use Rattle.image.specs.Layout.{sides, entryPlace}
+use Rattle.formats.specs.declared.Format.{Format}
+use Rattle.formats.specs.Format.{translations, entrySize}
+use Rattle.image.specs.Layout.{headerSize, sides, entryPlace, bodyPlace}
 use Rattle.image.specs.Bytes.{entryBytes, pad, countOf, roomOf, entryAt}
-use Rattle.image.proofs.Encode.{side-written, put-entry, put-text-entry}
-use Rattle.image.proofs.Decode.{count-decode, room-decode, card-decode, view-at, encode-decode}
+use Rattle.image.specs.Image.{Card, Translation, translationOf, view, sideText, noCard, withCard, cardEntry, bodies, translationAt, cardAt, encode, decode, sound}
+use Rattle.image.proofs.Encode.{length-pad}
+use Rattle.image.proofs.Entry.{entryBytes-ext}
+use Rattle.image.proofs.Decode.{count-decode, room-decode, card-decode, view-at, entry-lies, body-lies, entry-back, long, encode-decode}
+use Rattle.image.proofs.Put.{side-written, put-entry, put-text-entry}
+use Rattle.image.specs.Write.{entryWith}
+use Rattle.image.proofs.EntryWritten.{seenAfter, entry-written}
 use Rattle.model.specs.Serve.{stepped}
-use Rattle.model.proofs.Stepped.{text-step, seen-named}
+use Rattle.model.proofs.Stepped.{text-step, seen-named, seen-other}
 use Rattle.store.specs.Carried.{bodyWritten, textWritten}
 
--- A command for a card of a sound image, with a payload as long as it says.
-module _ (image : List ℕ) (b : Bytes image) (holds : T (sound image)) (c : Command) (below : c .card < countOf image)
-    (t : List ℕ) (long : length t ≡ c .length) where
+-- ---- the card after an accepted command
+
+module _ (f : Format) (card : Card) (c : Command) (t : List ℕ) (size : length t ≡ c .length) (known : c .language < length (card .translated)) where
+  abbrev now : Card
+  now = stepped card c t
+
+  abbrev lifted : Entry
+  lifted = raise (view (c .language) card) c
+
+  -- In each language the card is seen as the raised entry says, or as it was.
+  seen-own : seenAfter (c .language) lifted (λ (i : ℕ). view i card) (c .language) ≡ view (c .language) now
+  seen-own = rw (eq-eqb (c .language) (c .language) refl) (sym (seen-named card c t known size))
+
+  pub seen-now : (j : ℕ) → seenAfter (c .language) lifted (λ (i : ℕ). view i card) j ≡ view j now
+  seen-now j = go (cases (eqb j (c .language)))
+    where
+      go : (eqb j (c .language) ≡ true) ⊎ (eqb j (c .language) ≡ false) → seenAfter (c .language) lifted (λ (i : ℕ). view i card) j ≡ view j now
+      go (inl e) = subst (λ (m : ℕ). seenAfter (c .language) lifted (λ (i : ℕ). view i card) m ≡ view m now) (sym (eqb-true j (c .language) e)) seen-own
+      go (inr e) =
+          let apart : eqb (c .language) j ≡ false = ne-eqb (c .language) j (λ z. eqb-false j (c .language) e (sym z)) in
+          let other : writes (translation j) c ≡ false = rw apart (and-false (writesTranslation c)) in
+          rw e (sym (seen-other card c t known size j other))
+
+  -- The text of each side: the payload where the command writes that side, else as it was.
+  abbrev writesSide : ℕ → Bool
+  writesSide zero = writes original c
+  writesSide (suc j) = writes (translation j) c
+
+  text-of : (side : ℕ) → sideText side now ≡ cond (writesSide side) t (sideText side card)
+  unfolding stepped
+  text-of zero = refl
+  text-of (suc j) = text-step card c t known (translation j)
+
+  text-new : (side : ℕ) → writesSide side ≡ true → sideText side now ≡ t
+  text-new side h = text-of side ∙ rw h
+
+  text-kept : (side : ℕ) → writesSide side ≡ false → sideText side now ≡ sideText side card
+  text-kept side h = text-of side ∙ rw h
+
+  -- One side is written, or none.
+  pub bodies-new : (room side : ℕ) → side < sides f → writesSide side ≡ true → ((j : ℕ) → (j ≡ side → ⊥) → writesSide j ≡ false)
+      → bodies f room now ≡ splice (side * room) (pad room t) (bodies f room card)
+  bodies-new room side h one others = side-written f room side t card now h (text-new side one) (λ j apart. text-kept j (others j apart))
+
+  pub bodies-kept : (room : ℕ) → ((j : ℕ) → writesSide j ≡ false) → bodies f room now ≡ bodies f room card
+  unfolding bodies
+  bodies-kept room none = ap (spread (pad room)) (table-ext (λ (s : ℕ). sideText s now) (λ (s : ℕ). sideText s card) (sides f) (λ j h. text-kept j (none j)))
+
+-- ---- on a sound image
+
+module _ (f : Format) (image : List ℕ) (b : Bytes image) (holds : T (sound f image)) (c : Command) (below : c .card < countOf image)
+    (known : c .language < translations f) (t : List ℕ) (size : length t ≡ c .length) where
   abbrev k : ℕ
   k = c .card
 
   abbrev card : Card
-  card = cardAt image k
+  card = cardAt f image k
 
   abbrev after : Card
   after = stepped card c t
 
-  known : language c < length (card .translated)
+  count : length (card .translated) ≡ translations f
   unfolding cardAt
-  known = lit< tt
+  count = length-table (translationAt f image k) (translations f)
 
-  exists : k < length (decode image .cards)
-  exists = rw (count-decode image) below
+  listed : c .language < length (card .translated)
+  listed = subst (λ (n : ℕ). c .language < n) (sym count) known
 
-  -- ---- the bodies of the card after it
+  exists : k < length (decode f image .cards)
+  exists = rw (count-decode f image) below
 
-  -- The text that it writes, and every other one.
-  text-new : (l : Language) → writes l c ≡ true → sideText (sideOf l) after ≡ t
-  text-new l w = text-step card c t known l ∙ rw w
+  module _ {e : Entry} (raised : e ≡ raise (entryAt f image k (c .language)) c) where
+    raised-view : e ≡ raise (view (c .language) card) c
+    raised-view = raised ∙ ap (λ (x : Entry). raise x c) (sym (view-at f image holds k below (c .language) known))
 
-  text-kept : (l : Language) → writes l c ≡ false → sideText (sideOf l) after ≡ sideText (sideOf l) card
-  text-kept l w = text-step card c t known l ∙ rw w
+    -- The entry written into bytes that still have the old one.
+    entry-now : (l : List ℕ) → length l ≡ length image → part (entryPlace f k) (entrySize f) l ≡ part (entryPlace f k) (entrySize f) image
+        → entryWith f (c .language) e (entryPlace f k) l ≡ splice (entryPlace f k) (cardEntry f after) l
+    entry-now l same here =
+        entry-written f (c .language) e (λ (i : ℕ). view i card) (entryPlace f k) l known (rw same (entry-lies f image holds k below))
+        (here ∙ sym (entry-back f image b holds k below))
+        ∙ ap (λ (u : List ℕ). splice (entryPlace f k) u l)
+        (ap (λ (x : Entry). entryBytes f (seenAfter (c .language) x (λ (i : ℕ). view i card))) raised-view
+        ∙ entryBytes-ext f (seenAfter (c .language) (raise (view (c .language) card) c) (λ (i : ℕ). view i card)) (λ (i : ℕ). view i after) (λ j h. seen-now f card c t size listed j))
 
-  others : (l : Language) → writes l c ≡ true → (j : ℕ) → (j ≡ sideOf l → ⊥) → sideText j after ≡ sideText j card
-  others original w zero apart = absurd (apart refl)
-  others original w (suc j) apart = text-kept (translation j) (one-write c w j)
-  others (translation i) w zero apart = text-kept original (no-original c i w)
-  others (translation i) w (suc j) apart = text-kept (translation j) (writes-other c j (λ z. apart (ap suc (sym z ∙ writes-named c i w))))
+    module _ (side : ℕ) (within : side < sides f) where
+      abbrev place : ℕ
+      place = bodyPlace f (countOf image) (roomOf image) k side
 
-  bodies-new : (l : Language) → sideOf l < sides → writes l c ≡ true →
-      bodies (roomOf image) after ≡ splice (sideOf l * roomOf image) (pad (roomOf image) t) (bodies (roomOf image) card)
-  bodies-new l h w = side-written (roomOf image) (sideOf l) t card after h (text-new l w) (others l w)
+      behind-entries : entryPlace f k + entrySize f ≤ place
+      behind-entries =
+          let more : (k + 1) * entrySize f ≤ countOf image * entrySize f = mul-le-mul-right (entrySize f) (omega arith) in
+          omega arith
 
-  bodies-kept : writes original c ≡ false → writes (translation (language c)) c ≡ false → bodies (roomOf image) after ≡ bodies (roomOf image) card
-  unfolding bodies
-  bodies-kept p q =
-      ap (spread (pad (roomOf image))) (table-ext (λ (j : ℕ). sideText j after) (λ (j : ℕ). sideText j card) sides (λ j h. same j))
-    where
-      same : (j : ℕ) → sideText j after ≡ sideText j card
-      same zero = text-kept original p
-      same (suc j) = text-kept (translation j) (none-written c q j)
+      inside : place + length (pad (roomOf image) t) ≤ length image
+      inside = rw (length-pad (roomOf image) t) (body-lies f image holds k below side within)
 
-  -- ---- on the image
+      -- A text written, and then the entry.
+      text-kept-entry : bodies f (roomOf image) after ≡ splice (side * roomOf image) (pad (roomOf image) t) (bodies f (roomOf image) card)
+          → entryWith f (c .language) e (entryPlace f k) (bodyWritten f image k side t) ≡ encode f (withCard k after (decode f image))
+      unfolding decode
+      text-kept-entry changed =
+          entry-now (bodyWritten f image k side t) (length-splice place (pad (roomOf image) t) image inside)
+          (splice-before place (entryPlace f k) (entrySize f) (pad (roomOf image) t) image (omega (arith, inside)) behind-entries)
+          ∙ (rw (encode-decode f image b holds, count-decode f image) at
+          (put-text-entry f (decode f image) k exists after side t within (rw (card-decode f image k below) changed)))
 
-  module _ {e : Entry} (raised : e ≡ raise (entryAt image k) c) where
-    entry-is : entryBytes e ≡ cardEntry after
-    entry-is =
-        ap entryBytes
-        (raised ∙ ap (λ (x : Entry). raise x c) (sym (view-at image holds k below (language c) (lit< tt))) ∙ sym (seen-named card c t known long))
-
-    text-entry : (l : Language) → sideOf l < sides → writes l c ≡ true →
-        splice (entryPlace k) (entryBytes e) (bodyWritten image k (sideOf l) t) ≡ encode (withCard k after (decode image))
-    unfolding decode
-    text-entry l h w =
-        rw entry-is
-        (rw (encode-decode image b holds, count-decode image) at
-        (put-text-entry (decode image) k exists after (sideOf l) t h (rw (card-decode image k below) (bodies-new l h w))))
-
-    entry-alone : bodies (roomOf image) after ≡ bodies (roomOf image) card → splice (entryPlace k) (entryBytes e) image ≡ encode (withCard k after (decode image))
+    entry-alone : bodies f (roomOf image) after ≡ bodies f (roomOf image) card
+        → entryWith f (c .language) e (entryPlace f k) image ≡ encode f (withCard k after (decode f image))
     entry-alone same =
-        rw entry-is
-        (rw (encode-decode image b holds) at (put-entry (decode image) k exists after (rw (room-decode image, card-decode image k below) same)))
+        entry-now image refl refl
+        ∙ (rw (encode-decode f image b holds) at
+        (put-entry f (decode f image) k exists after (rw (room-decode f image, card-decode f image k below) same)))
 
-    -- The text that a command writes, then the raised entry: the image of the cards after it.
-    pub keeps : splice (entryPlace k) (entryBytes e) (textWritten image c t) ≡ encode (withCard k after (decode image))
+    pub keeps : entryWith f (c .language) e (entryPlace f k) (textWritten f image c t) ≡ encode f (withCard k after (decode f image))
     unfolding textWritten
-    keeps = go (writes original c) (writes (translation (language c)) c) refl refl
+    keeps = go (writes original c) (writesTranslation c) refl refl
       where
-        go : (x y : Bool) → writes original c ≡ x → writes (translation (language c)) c ≡ y →
-            splice (entryPlace k) (entryBytes e) (textWritten image c t) ≡ encode (withCard k after (decode image))
-        go true y p q = rw p (text-entry original (lit< tt) p)
-        go false true p q = rw (p, q) (text-entry (translation (language c)) (lit< tt) q)
-        go false false p q = rw (p, q) (entry-alone (bodies-kept p q))
+        none-else : writesTranslation c ≡ false → (j : ℕ) → writes (translation j) c ≡ false
+        none-else q j = rw q
+
+        only-original : writes original c ≡ true → (j : ℕ) → (j ≡ 0 → ⊥) → writesSide f card c t size listed j ≡ false
+        only-original p zero apart = absurd (apart refl)
+        only-original p (suc j) apart = let act = eqb-true (c .act) 3 p in rw act
+
+        only-language : writes original c ≡ false → (j : ℕ) → (j ≡ suc (c .language) → ⊥) → writesSide f card c t size listed j ≡ false
+        only-language p zero apart = p
+        only-language p (suc j) apart =
+            let other : eqb (c .language) j ≡ false = ne-eqb (c .language) j (λ z. apart (ap suc (sym z))) in
+            rw other (and-false (writesTranslation c))
+
+        none : writes original c ≡ false → writesTranslation c ≡ false → (j : ℕ) → writesSide f card c t size listed j ≡ false
+        none p q zero = p
+        none p q (suc j) = rw q
+
+        go : (x y : Bool) → writes original c ≡ x → writesTranslation c ≡ y →
+            entryWith f (c .language) e (entryPlace f k) (textWritten f image c t) ≡ encode f (withCard k after (decode f image))
+        go true y p q = rw p (text-kept-entry 0 (omega arith) (bodies-new f card c t size listed (roomOf image) 0 (omega arith) p (only-original p)))
+        go false true p q =
+            let own : writes (translation (c .language)) c ≡ true = rw (q, eq-eqb (c .language) (c .language) refl) in
+            rw (p, q) (text-kept-entry (suc (c .language)) (omega arith) (bodies-new f card c t size listed (roomOf image) (suc (c .language)) (omega arith) own (only-language p)))
+        go false false p q = rw (p, q) (entry-alone (bodies-kept f card c t size listed (roomOf image) (none p q)))
+
+-- A sound image has a whole header.
+pub header-in : (f : Format) (image : List ℕ) → sound f image ≡ true → headerSize ≤ length image
+header-in f image s = omega (arith, long f image (to-T s))
+
+-- ---- the bytes with a command's payload written
+
+module _ (f : Format) (image : List ℕ) (c : Command) (t : List ℕ) {at room : ℕ} {after : List ℕ} (same : room ≡ roomOf image) (done : after ≡ splice at (pad room t) image) where
+  pub written-original : writes original c ≡ true → at ≡ bodyPlace f (countOf image) (roomOf image) (c .card) 0 → after ≡ textWritten f image c t
+  unfolding textWritten
+  written-original h place = rw (h, ← place, ← same) done
+
+  pub written-translation : writes original c ≡ false → writesTranslation c ≡ true
+      → at ≡ bodyPlace f (countOf image) (roomOf image) (c .card) (c .language + 1) → after ≡ textWritten f image c t
+  unfolding textWritten
+  written-translation g h place =
+      let here : at ≡ bodyPlace f (countOf image) (roomOf image) (c .card) (suc (c .language)) = place ∙ ap (bodyPlace f (countOf image) (roomOf image) (c .card)) (add-one (c .language)) in
+      rw (g, h, ← here, ← same) done
+
+pub written-none : (f : Format) (image : List ℕ) (c : Command) (t : List ℕ) → writes original c ≡ false → writesTranslation c ≡ false → image ≡ textWritten f image c t
+unfolding textWritten
+written-none f image c t h g = rw (h, g)
+
+-- A body lies within a sound image.
+pub body-in : (f : Format) (image : List ℕ) (k side : ℕ) {at : ℕ} → sound f image ≡ true → k < countOf image → side < sides f
+    → at ≡ bodyPlace f (countOf image) (roomOf image) k side → at + roomOf image ≤ length image
+body-in f image k side s below within place = rw place (body-lies f image (to-T s) k below side within)

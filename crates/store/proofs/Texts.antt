@@ -1,96 +1,61 @@
--- The text that a command reads or writes, by its language, on a sound image. Assumes nothing.
+-- The text that a command reads on a sound image. Assumes nothing.
 use Prim.Native.Nat.{ℕ, zero, suc, _+_, _≤_, _<_}
 use native.Mathlib.Omega.{arith}
-use mathlib.Core.Path.{_≡_, refl, sym, subst}
+use native.Mathlib.Numerals.{add-one}
+use mathlib.Core.Path.{_≡_, refl, sym, ap, subst, _∙_}
 use mathlib.Core.List.{List}
 use mathlib.Core.Bool.{true, false}
-use borrow.Author.Tests.{eqb-true}
 use lib.ListN.{length}
 use Rattle.lists.specs.Parts.{part, splice}
 use Rattle.lists.proofs.Parts.{splice-nil}
-use Rattle.lists.proofs.Tests.{to-T, never-both}
-use Rattle.commands.specs.Command.{Language, original, translation, reads, writes}
-use Rattle.guard.specs.Judge.{textLength}
-use Rattle.guard.specs.Replies.{readLength}
+use Rattle.lists.proofs.Tests.{to-T}
+use Rattle.commands.specs.Command.{original, reads, readsTranslation}
 use Rattle.commands.specs.declared.Command.{Command}
 use Rattle.guard.specs.declared.Entry.{Entry}
-use Rattle.image.specs.Image.{Card, text, sideOf, sound, cardAt}
-use Rattle.image.specs.Layout.{headerSize, sides, bodyPlace}
-use Rattle.image.specs.Bytes.{countOf, roomOf, entryAt, pad}
-use Rattle.image.proofs.Bytes.{Lengths}
-use Rattle.image.proofs.Decode.{places, long}
-use Rattle.store.specs.Carried.{bodyWritten, textWritten}
+use Rattle.guard.specs.Replies.{readLength}
+use Rattle.formats.specs.declared.Format.{Format}
+use Rattle.formats.specs.Format.{translations}
+use Rattle.image.specs.Layout.{sides, bodyPlace}
+use Rattle.image.specs.Bytes.{countOf, roomOf, readEntry, entryAt}
+use Rattle.image.specs.Image.{Card, Translation, cardAt, sound}
+use Rattle.image.proofs.Decode.{side-fits, body-lies, translation-at}
 use Rattle.model.specs.Serve.{textRead}
 
-module _ (c : Command) where
-  -- A command of a language reads the text of that language, and its length is that text's.
-  reads-length : (l : Language) (e : Entry) → reads l c ≡ true → readLength e c ≡ textLength l e
-  reads-length original e h = rw h
-  reads-length (translation zero) e h = rw (eqb-true (c .act) 2 h)
-  reads-length (translation (suc t)) e h = absurd (never-both h refl)
+module _ (f : Format) (image : List ℕ) (s : sound f image ≡ true) (c : Command) (below : c .card < countOf image) (known : c .language < translations f)
+    {e : Entry} (p : e ≡ entryAt f image (c .card) (c .language)) where
+  -- The original's length is the same in whatever language the entry is seen.
+  one-original : e .original ≡ entryAt f image (c .card) 0 .original
+  unfolding entryAt readEntry
+  one-original = ap (λ (x : Entry). x .original) p
 
-  reads-text : (l : Language) (card : Card) → reads l c ≡ true → textRead card c ≡ text l card
-  reads-text original card h = rw h
-  reads-text (translation zero) card h = rw (eqb-true (c .act) 2 h)
-  reads-text (translation (suc t)) card h = absurd (never-both h refl)
+  one-translation : e .translation ≡ entryAt f image (c .card) (c .language) .translation
+  one-translation = ap (λ (x : Entry). x .translation) p
 
--- A language's text in an image.
-text-at : (image : List ℕ) (k : ℕ) (l : Language) (c : Command) → reads l c ≡ true →
-    text l (cardAt image k) ≡ part (bodyPlace (countOf image) (roomOf image) k (sideOf l)) (textLength l (entryAt image k)) image
-unfolding cardAt
-text-at image k original c h = refl
-text-at image k (translation zero) c h = refl
-text-at image k (translation (suc t)) c h = absurd (never-both h refl)
+  module _ {at : ℕ} (r : reads original c ≡ true) (place : at ≡ bodyPlace f (countOf image) (roomOf image) (c .card) 0) where
+    pub original-fits : {lent : ℕ} → readLength e c ≤ lent → (at + e .original ≤ length image) × (e .original ≤ lent)
+    original-fits fits =
+        let most = side-fits f image (to-T s) (c .card) below 0 (omega arith) in
+        let lies = body-lies f image (to-T s) (c .card) below 0 (omega arith) in
+        (omega (arith, most, lies, one-original, place), rw r at fits)
 
-length-most : (l : Language) (room : ℕ) (e : Entry) → Lengths room e → textLength l e ≤ room
-length-most original room e h = h .original
-length-most (translation zero) room e h = h .translation
-length-most (translation (suc t)) room e h = omega arith
+    pub shows-original : (reply : List ℕ) {after : List ℕ} → after ≡ splice 0 (part at (e .original) image) reply → after ≡ splice 0 (textRead (cardAt f image (c .card)) c) reply
+    unfolding cardAt
+    shows-original reply copied = rw (r, ← place, ← one-original) copied
 
--- A sound image has a whole header.
-pub header-in : (image : List ℕ) → sound image ≡ true → headerSize ≤ length image
-header-in image s = omega (arith, long image (to-T s))
+  module _ {at : ℕ} (o : reads original c ≡ false) (r : readsTranslation c ≡ true) (place : at ≡ bodyPlace f (countOf image) (roomOf image) (c .card) (c .language + 1)) where
+    here : at ≡ bodyPlace f (countOf image) (roomOf image) (c .card) (suc (c .language))
+    here = place ∙ ap (bodyPlace f (countOf image) (roomOf image) (c .card)) (add-one (c .language))
 
-module _ (image : List ℕ) (s : sound image ≡ true) (c : Command) (h : c .card < countOf image) (l : Language) (g : sideOf l < sides) {at : ℕ}
-    (place : at ≡ bodyPlace (countOf image) (roomOf image) (c .card) (sideOf l)) where
-  -- So many bytes of a language's body lie within the image.
-  pub body-within : {count : ℕ} → count ≤ roomOf image → at + count ≤ length image
-  body-within most = omega (arith, places image (c .card) (to-T s) h .bodies (sideOf l) g)
+    pub translation-fits : {lent : ℕ} → readLength e c ≤ lent → (at + e .translation ≤ length image) × (e .translation ≤ lent)
+    translation-fits fits =
+        let most = side-fits f image (to-T s) (c .card) below (suc (c .language)) (omega arith) in
+        let lies = body-lies f image (to-T s) (c .card) below (suc (c .language)) (omega arith) in
+        (omega (arith, most, lies, one-translation, here), rw (o, r) at fits)
 
-  module _ {e : Entry} (p : e ≡ entryAt image (c .card)) (r : reads l c ≡ true) where
-    -- The text that a command reads lies within the image, and fits into a reply buffer as long as it.
-    pub text-fits : {lent : ℕ} → readLength e c ≤ lent → (at + textLength l e ≤ length image) × (textLength l e ≤ lent)
-    text-fits {lent} fits = (
-      body-within (length-most l (roomOf image) e (subst (Lengths (roomOf image)) (sym p) (places image (c .card) (to-T s) h .lengths))),
-      rw (reads-length c l e r) at fits,
-    )
-
-    -- Copied into a reply buffer, it is the text that the sheet's rule shows.
-    pub shows : (reply : List ℕ) {after : List ℕ} → after ≡ splice 0 (part at (textLength l e) image) reply →
-        after ≡ splice 0 (textRead (cardAt image (c .card)) c) reply
-    shows reply copied = rw (reads-text c l (cardAt image (c .card)) r, text-at image (c .card) l c r, ← p, ← place) copied
+    pub shows-translation : (reply : List ℕ) {after : List ℕ} → after ≡ splice 0 (part at (e .translation) image) reply → after ≡ splice 0 (textRead (cardAt f image (c .card)) c) reply
+    shows-translation reply copied =
+        rw (o, r, ap (λ (u : Translation). u .text) (translation-at f image (c .card) (c .language) known), ← here, ← one-translation) copied
 
 -- A command that reads no text shows none.
-pub shows-none : (card : Card) (c : Command) (reply : List ℕ) → reads original c ≡ false → reads (translation 0) c ≡ false →
-    reply ≡ splice 0 (textRead card c) reply
+pub shows-none : (card : Card) (c : Command) (reply : List ℕ) → reads original c ≡ false → readsTranslation c ≡ false → reply ≡ splice 0 (textRead card c) reply
 shows-none card c reply h g = rw (h, g) (sym (splice-nil 0 reply))
-
--- ---- the bytes with a command's payload written
-
-module _ (image : List ℕ) (c : Command) (t : List ℕ) where
-  writes-text : (l : Language) → writes l c ≡ true → textWritten image c t ≡ bodyWritten image (c .card) (sideOf l) t
-  unfolding textWritten
-  writes-text original h = rw h
-  writes-text (translation zero) h = rw (eqb-true (c .act) 4 h)
-  writes-text (translation (suc n)) h = absurd (never-both h refl)
-
-  pub written : (l : Language) {at room : ℕ} {after : List ℕ} → writes l c ≡ true →
-      at ≡ bodyPlace (countOf image) (roomOf image) (c .card) (sideOf l)
-      → room ≡ roomOf image
-      → after ≡ splice at (pad room t) image
-      → after ≡ textWritten image c t
-  written l h place same done = rw (writes-text l h, ← place, ← same) done
-
-  pub written-none : writes original c ≡ false → writes (translation 0) c ≡ false → image ≡ textWritten image c t
-  unfolding textWritten
-  written-none h g = rw (h, g)

@@ -8,41 +8,42 @@ use mathlib.Core.Bool.{Bool, true, false}
 use borrow.Author.Tests.{leb-true, le-leb}
 use lib.Dec.{leb}
 use lib.ListN.{length, take, drop, length-drop}
+use Rattle.formats.specs.declared.Format.the-variants.{V1}
 use Rattle.lists.specs.Parts.{part}
 use Rattle.lists.specs.Le.{le}
 use Rattle.lists.proofs.Parts.{part-drop, part-take, part-append-left}
 use Rattle.lists.proofs.Tests.{and-in, and-right}
-use Rattle.commands.specs.Bytes.{fixed}
+use Rattle.formats.specs.Format.{fixed}
 use Rattle.stream.specs.Stream.{extent, whole, nextAt, onward}
 use Rattle.stream.specs.declared.Next.{Next}
 use Rattle.stream.specs.declared.Next.the-variants.{Whole, Cut}
 
 -- ---- the command that begins some bytes
 
-pub extent-fixed : (s : List ℕ) → fixed ≤ extent s
+pub extent-fixed : (s : List ℕ) → fixed V1 ≤ extent s
 unfolding extent
 extent-fixed s = omega arith
 
 -- Its length stands in its fixed part.
-pub extent-take : (n : ℕ) (s : List ℕ) → fixed ≤ n → extent (take n s) ≡ extent s
+pub extent-take : (n : ℕ) (s : List ℕ) → fixed V1 ≤ n → extent (take n s) ≡ extent s
 unfolding extent
-extent-take n s h = ap (λ (l : List ℕ). fixed + le l) (part-take _ 2 n s (omega arith))
+extent-take n s h = ap (λ (l : List ℕ). fixed V1 + le l) (part-take _ 2 n s (omega arith))
 
-pub extent-append : (c s : List ℕ) → fixed ≤ length c → extent (c ++ s) ≡ extent c
+pub extent-append : (c s : List ℕ) → fixed V1 ≤ length c → extent (c ++ s) ≡ extent c
 unfolding extent
-extent-append c s h = ap (λ (l : List ℕ). fixed + le l) (part-append-left _ 2 c s (omega arith))
+extent-append c s h = ap (λ (l : List ℕ). fixed V1 + le l) (part-append-left _ 2 c s (omega arith))
 
-pub extent-at : (at : ℕ) (s : List ℕ) → extent (drop at s) ≡ fixed + le (part (at + 50) 2 s)
+pub extent-at : (at : ℕ) (s : List ℕ) → extent (drop at s) ≡ fixed V1 + le (part (at + 50) 2 s)
 unfolding extent
-extent-at at s = ap (λ (l : List ℕ). fixed + le l) (part-drop _ 2 at s)
+extent-at at s = ap (λ (l : List ℕ). fixed V1 + le l) (part-drop _ 2 at s)
 
 pub whole-in : (s : List ℕ) → extent s ≤ length s → whole s ≡ true
 unfolding whole
-whole-in s h = and-in (le-leb fixed (length s) (omega (arith, extent-fixed s))) (le-leb (extent s) (length s) h)
+whole-in s h = and-in (le-leb (fixed V1) (length s) (omega (arith, extent-fixed s))) (le-leb (extent s) (length s) h)
 
 pub whole-out : (s : List ℕ) → whole s ≡ true → extent s ≤ length s
 unfolding whole
-whole-out s e = leb-true (extent s) (length s) (and-right (leb fixed (length s)) (leb (extent s) (length s)) e)
+whole-out s e = leb-true (extent s) (length s) (and-right (leb (fixed V1) (length s)) (leb (extent s) (length s)) e)
 
 pub cut-in : (s : List ℕ) → length s < extent s → whole s ≡ false
 cut-in s h = go (whole s) refl
@@ -51,7 +52,7 @@ cut-in s h = go (whole s) refl
     go true e = absurd (omega (arith, whole-out s e))
     go false e = refl
 
-pub cut-short : (s : List ℕ) → length s < fixed → whole s ≡ false
+pub cut-short : (s : List ℕ) → length s < fixed V1 → whole s ≡ false
 cut-short s h = cut-in s (omega (arith, extent-fixed s))
 
 -- ---- what stands at a place
@@ -66,16 +67,16 @@ module _ (stream : List ℕ) (at : ℕ) where
   next-cut e = rw e
 
   -- From the tests of the code, with the payload's length p.
-  pub shows-short : length stream < at + fixed → Cut ≡ nextAt stream at
+  pub shows-short : length stream < at + fixed V1 → Cut ≡ nextAt stream at
   shows-short h = sym (next-cut (cut-short (drop at stream) (simp length-drop (omega arith))))
 
-  pub shows-cut : (p : ℕ) → p ≡ le (part (at + 50) 2 stream) → length stream < at + fixed + p → Cut ≡ nextAt stream at
+  pub shows-cut : (p : ℕ) → p ≡ le (part (at + 50) 2 stream) → length stream < at + fixed V1 + p → Cut ≡ nextAt stream at
   shows-cut p e h = sym (next-cut (cut-in (drop at stream) (rw (extent-at at stream, ← e) (simp length-drop (omega arith)))))
 
-  pub shows-whole : (p : ℕ) → p ≡ le (part (at + 50) 2 stream) → at + fixed + p ≤ length stream → Whole (at + fixed + p) ≡ nextAt stream at
+  pub shows-whole : (p : ℕ) → p ≡ le (part (at + 50) 2 stream) → at + fixed V1 + p ≤ length stream → Whole (at + fixed V1 + p) ≡ nextAt stream at
   shows-whole p e h =
-      let long : extent (drop at stream) ≡ fixed + p = extent-at at stream ∙ ap (λ (n : ℕ). fixed + n) (sym e) in
-      let place : at + extent (drop at stream) ≡ at + fixed + p = rw long (sym (add-assoc at fixed p)) in
+      let long : extent (drop at stream) ≡ fixed V1 + p = extent-at at stream ∙ ap (λ (n : ℕ). fixed V1 + n) (sym e) in
+      let place : at + extent (drop at stream) ≡ at + fixed V1 + p = rw long (sym (add-assoc at (fixed V1) p)) in
       sym (next-whole (whole-in (drop at stream) (rw long (simp length-drop (omega arith)))) ∙ ap Whole place)
 
   -- What an answer says.

@@ -7,9 +7,10 @@ use mathlib.Core.List.{List, [], _∷_, _++_, append-assoc}
 use mathlib.Core.Bool.{Bool, true, false}
 use lib.ListN.{length, take, drop, getD, length-drop, length-append, take-append-drop}
 use lib.Seq.{length-take-le, drop-drop, take-at, drop-at, take-suc, take-length, drop-cons}
+use Rattle.formats.specs.declared.Format.the-variants.{V1}
 use Rattle.lists.specs.Parts.{part, spread}
 use Rattle.lists.proofs.Spread.{spread-append}
-use Rattle.commands.specs.Bytes.{fixed}
+use Rattle.formats.specs.Format.{fixed}
 use Rattle.stream.specs.Stream.{extent, whole, OneCommand, nextAt, commands, endOf, endToEnd, placeOf}
 use Rattle.stream.specs.declared.Next.the-variants.{Whole, Cut}
 use Rattle.stream.proofs.Place.{extent-fixed, extent-take, extent-append, whole-in, whole-out, says-whole, says-cut}
@@ -67,14 +68,14 @@ within =
     (λ s e rest. rw (end-whole s e) (omega (arith, rw length-drop at rest, whole-out s e)))
 
 -- Each command takes at least its fixed part.
-room : (s : List ℕ) → length (commands s) * fixed ≤ endOf s
+room : (s : List ℕ) → length (commands s) * fixed V1 ≤ endOf s
 room =
     along
-    (λ (s : List ℕ). length (commands s) * fixed ≤ endOf s)
+    (λ (s : List ℕ). length (commands s) * fixed V1 ≤ endOf s)
     (λ s e. rw (commands-cut s e) (omega arith))
     (λ s e rest. rw (commands-whole s e, end-whole s e) (omega (arith, rest, extent-fixed s)))
 
-pub few : (s : List ℕ) → length (commands s) ≤ length s / fixed
+pub few : (s : List ℕ) → length (commands s) ≤ length s / (fixed V1)
 few s = omega (arith, room s, within s)
 
 -- ---- a command in front
@@ -99,7 +100,7 @@ back (c ∷ cs) rest h e =
 
 -- What stands at a place is whole: the first of the commands from there on, and the others begin behind it.
 pub passes : (s : List ℕ) (at end : ℕ) → nextAt s at ≡ Whole end →
-    (at + fixed ≤ end) × (end ≤ length s) × (commands (drop at s) ≡ part at (end - at) s ∷ commands (drop end s))
+    (at + fixed V1 ≤ end) × (end ≤ length s) × (commands (drop at s) ≡ part at (end - at) s ∷ commands (drop end s))
 unfolding part
 passes s at end e =
     let stands = says-whole s at end e in

@@ -6,8 +6,9 @@ use mathlib.Core.List.{List, [], _∷_}
 use mathlib.Core.Bool.{Bool, cond, _&&_}
 use lib.Dec.{leb}
 use lib.ListN.{length, take, drop}
+use Rattle.formats.specs.declared.Format.the-variants.{V1}
 use Rattle.lists.specs.Parts.{spread}
-use Rattle.commands.specs.Bytes.{fixed}
+use Rattle.formats.specs.Format.{fixed}
 use Rattle.lists.specs.Le.{field}
 use Rattle.stream.specs.declared.Next.{Next}
 use Rattle.stream.specs.declared.Next.the-variants.{Whole, Cut}
@@ -16,15 +17,15 @@ use Rattle.stream.specs.declared.Reader.{Reader}
 
 -- How long the command is that begins these bytes, malformed or not (rule 8.1).
 unfoldable pub extent : List ℕ → ℕ
-extent bytes = fixed + field 50 2 bytes
+extent bytes = fixed V1 + field 50 2 bytes
 
 -- The bytes begin with a whole command: all of its fixed part, and all of its payload.
 unfoldable pub whole : List ℕ → Bool
-whole bytes = leb fixed (length bytes) && leb (extent bytes) (length bytes)
+whole bytes = leb (fixed V1) (length bytes) && leb (extent bytes) (length bytes)
 
 -- A list of bytes is one whole command, by its own length field (rule 8.1).
 abbrev pub OneCommand : List ℕ → Type 0
-OneCommand c = (fixed ≤ length c) × (length c ≡ fixed + field 50 2 c)
+OneCommand c = (fixed V1 ≤ length c) × (length c ≡ fixed V1 + field 50 2 c)
 
 -- What stands at a place of a stream. From a place beyond the end on nothing is left, which is no whole command.
 unfoldable pub nextAt : List ℕ → ℕ → Next

@@ -1,8 +1,8 @@
 // A stream: commands end to end, and a reader that keeps the lent stream and its place.
 ghost use mathlib.Core.Path.{_≡_};
 ghost use Rattle.stream.specs.Stream.{nextAt, onward, endOf, begun, passed};
-use commands::FIXED;
 use commands::LENGTH;
+use formats::FIXED_V1 as FIXED;
 use slices::inner::fixed_width::read_u16;
 
 // ---- A stream: commands end to end.

@@ -6,8 +6,9 @@ use mathlib.Core.List.{List, [], _∷_, _++_}
 use mathlib.Core.Bool.{false}
 use lib.ListN.{length, drop, getD}
 use denote.Ref.{RefT, now}
+use Rattle.formats.specs.declared.Format.the-variants.{V1}
 use Rattle.lists.specs.Parts.{part}
-use Rattle.commands.specs.Bytes.{fixed}
+use Rattle.formats.specs.Format.{fixed}
 use Rattle.lists.specs.Le.{field}
 use Rattle.stream.specs.Stream.{whole, OneCommand, nextAt, commands, endOf, endToEnd, placeOf, begun, movedTo, steps}
 use Rattle.stream.specs.declared.Next.the-variants.{Whole, Cut}
@@ -18,7 +19,7 @@ pub record Parts (stream : List ℕ) : Type 0 where
   pub each : (i : ℕ) → i < length (commands stream) → OneCommand (getD (commands stream) i [])
   pub stopped : whole (drop (endOf stream) stream) ≡ false
   pub within : endOf stream ≤ length stream
-  pub few : length (commands stream) ≤ length stream / fixed
+  pub few : length (commands stream) ≤ length stream / (fixed V1)
 
 -- A command in front of a stream, malformed or not, is its first command, and the others follow.
 abbrev pub First : Type 0
@@ -32,7 +33,7 @@ Back = (cs : List (List ℕ)) (rest : List ℕ) → ((i : ℕ) → i < length cs
 -- answer, also one beyond the end.
 pub record Stepping (stream : List ℕ) (at : ℕ) : Type 0 where
   pub passes : (end : ℕ) → nextAt stream at ≡ Whole end →
-      (at + fixed ≤ end) × (end ≤ length stream) × (commands (drop at stream) ≡ part at (end - at) stream ∷ commands (drop end stream))
+      (at + fixed V1 ≤ end) × (end ≤ length stream) × (commands (drop at stream) ≡ part at (end - at) stream ∷ commands (drop end stream))
   pub stops : nextAt stream at ≡ Cut → commands (drop at stream) ≡ []
 
 -- From the first byte on, stepping visits the commands in their order, each from its place to the next one's, and stops at the end.

@@ -6,6 +6,7 @@ use borrow.Author.Needs.{needs}
 use lib.ListN.{length, take}
 use lib.Seq.{length-take-le}
 use borrow.Author.Tests.{le-ltb, lt-ltb}
+use Rattle.formats.specs.declared.Format.the-variants.{V1}
 use Rattle.history.proofs.Requests.{exits, serves-malformed, serves-no-card, serves-found}
 use Rattle.commands.proofs.Parsing.{is-malformed, is-formed}
 use Rattle.history.proofs.answer.Statement.{statement}
@@ -24,22 +25,22 @@ refusal-requires : tie.Need-refusal-requires
 refusal-requires c κs = search needs
 
 returns : tie.Need-returns
-returns c = let a = c .before .before .before .before .before .before .args in exits (serves-malformed (a .cards) (a .room) (a .kept .now) (a .used) (a .command .now) (a .reply .now) (is-malformed _ (sym (c .before .enum-told .given .1) ∙ c .before .before .before .parse .ensures))) (c .refusal .ensures) refl refl refl
+returns c = let a = c .before .before .before .before .before .before .args in exits (serves-malformed (a .cards) (a .room) (a .kept .now) (a .used) (a .command .now) (a .reply .now) (is-malformed V1 _ (sym (c .before .enum-told .given .1) ∙ c .before .before .before .parse .ensures))) (c .refusal .ensures) refl refl refl
 
 refusal-requires-2 : tie.Need-refusal-requires-2
 refusal-requires-2 c κs = search needs
 
 returns-2 : tie.Need-returns-2
-returns-2 c = let a = c .before .before .before .before .before .before .before .before .before .args in let whole = is-formed (a .command .now) (sym (c .before .before .before .before .c .given .1) ∙ c .before .before .before .before .before .before .parse .ensures) in exits (serves-no-card (a .cards) (a .room) (a .kept .now) (a .used) (a .command .now) (a .reply .now) (whole .0) (rw (← whole .1) (le-ltb _ _ (c .before .if1 .taken)))) (c .refusal2 .ensures) refl refl refl
+returns-2 c = let a = c .before .before .before .before .before .before .before .before .before .args in let whole = is-formed V1 (a .command .now) (sym (c .before .before .before .before .c .given .1) ∙ c .before .before .before .before .before .before .parse .ensures) in exits (serves-no-card (a .cards) (a .room) (a .kept .now) (a .used) (a .command .now) (a .reply .now) (whole .0) (rw (← whole .1) (le-ltb _ _ (c .before .if1 .taken)))) (c .refusal2 .ensures) refl refl refl
 
 carry-requires : tie.Need-carry-requires
-carry-requires c κs = let a = c .before .before .before .before .before .before .before .before .before .before .args in let whole = is-formed (a .command .now) (sym (c .before .before .before .before .before .c .given .1) ∙ c .before .before .before .before .before .before .before .parse .ensures) in (search needs, whole .0, whole .1)
+carry-requires c κs = let a = c .before .before .before .before .before .before .before .before .before .before .args in let whole = is-formed V1 (a .command .now) (sym (c .before .before .before .before .before .c .given .1) ∙ c .before .before .before .before .before .before .before .parse .ensures) in (search needs, whole .0, whole .1)
 
 same-length : tie.Need-same-length
 same-length c = search needs
 
 returns-3 : tie.Need-returns-3
-returns-3 c = let a = c .before .before .before .before .before .before .before .before .before .before .before .before .before .args in let whole = is-formed (a .command .now) (sym (c .before .before .before .before .before .before .before .before .c .given .1) ∙ c .before .before .before .before .before .before .before .before .before .before .parse .ensures) in let done = c .before .before .carry .ensures in exits (serves-found (a .cards) (a .room) (a .kept .now) (a .used) (a .command .now) (a .reply .now) (whole .0) (rw (← whole .1) (lt-ltb _ _ (c .before .before .before .before .before .if1 .left))) _ (whole .1)) (done .0) (done .1 .0) (done .1 .1 .0) (done .1 .1 .1)
+returns-3 c = let a = c .before .before .before .before .before .before .before .before .before .before .before .before .before .args in let whole = is-formed V1 (a .command .now) (sym (c .before .before .before .before .before .before .before .before .c .given .1) ∙ c .before .before .before .before .before .before .before .before .before .before .parse .ensures) in let done = c .before .before .carry .ensures in exits (serves-found (a .cards) (a .room) (a .kept .now) (a .used) (a .command .now) (a .reply .now) (whole .0) (rw (← whole .1) (lt-ltb _ _ (c .before .before .before .before .before .if1 .left))) _ (whole .1)) (done .0) (done .1 .0) (done .1 .1 .0) (done .1 .1 .1)
 
 pub answer-spec : {M : Type 1} → statement M
 answer-spec =

@@ -15,7 +15,8 @@ ghost use Rattle.history.specs.Steps.{writtenBy, Measured};
 use crate::Span;
 use crate::Totals;
 use commands::Command;
-use commands::FIXED;
+use formats::FIXED_V1 as FIXED;
+use formats::Format;
 use guard::Entry;
 use stamps::Mark;
 use stamps::Pair;
@@ -81,7 +82,7 @@ pub fn entry_of(kept: &[u8], card: u16) -> Entry
         let Next::Whole(end) = stream::next_at(kept, at) else {
             break e;
         };
-        let c = commands::inner::fields(&kept[at..end]);
+        let c = commands::inner::fields(Format::V1, &kept[at..end]);
         e = taken(e, c, card);
         at = end;
     }
@@ -108,7 +109,7 @@ pub fn text_of(kept: &[u8], card: u16, act: u8) -> Span
         let Next::Whole(end) = stream::next_at(kept, at) else {
             break found;
         };
-        let c = commands::inner::fields(&kept[at..end]);
+        let c = commands::inner::fields(Format::V1, &kept[at..end]);
         let here = Span {
             start: at + FIXED,
             end,

@@ -5,10 +5,12 @@ ghost use mathlib.Core.List.{reverse};
 ghost use Prim.Native.Nat.{_+_, _≤_, min};
 ghost use lib.Dec.{ltb};
 ghost use lib.ListN.{length};
+ghost use Rattle.formats.specs.declared.Format.the-variants.{V1};
 ghost use Rattle.lists.specs.Parts.{splice};
 ghost use Rattle.stream.specs.Stream.{commands, endOf};
 ghost use Rattle.history.specs.Engine.{mostKept, mostPayload, readFrom};
-ghost use Rattle.commands.specs.Bytes.{fixed, fieldsOf, formed};
+ghost use Rattle.formats.specs.Format.{fixed};
+ghost use Rattle.commands.specs.Bytes.{fieldsOf, formed};
 ghost use Rattle.history.specs.Lent.{historySize};
 ghost use Rattle.history.specs.Steps.{writtenBy, weighed, historyCarried};
 use crate::FULL;
@@ -40,7 +42,7 @@ pub fn weigh(kept: &[u8], c: Command, room: u16, lent: usize) -> Weighed
     requires { ⌜ length (now kept) ≤ historySize ⌝ }
     ensures judged { λ r. ⌜ r .judged ≡ weighed (reverse (commands (now (kept .entry)))) c room lent ⌝ }
     ensures end { λ r. ⌜ r .end ≡ endOf (now (kept .entry)) ⌝ }
-    ensures fits { λ r. ⌜ (r .judged .number ≡ 0 → r .end + fixed + c .length ≤ historySize) ⌝ }
+    ensures fits { λ r. ⌜ (r .judged .number ≡ 0 → r .end + fixed V1 + c .length ≤ historySize) ⌝ }
 {
     let e = entry_of(kept, c.card);
     let x = totals_of(kept);
@@ -106,7 +108,7 @@ pub fn carry(
     command: &[u8],
     reply: &mut [u8],
 ) -> HistoryAnswer
-    requires { ⌜ (length (now kept) ≡ historySize) × (formed (now command) ≡ true) × (c ≡ fieldsOf (now command)) ⌝ }
+    requires { ⌜ (length (now kept) ≡ historySize) × (formed V1 (now command) ≡ true) × (c ≡ fieldsOf V1 (now command)) ⌝ }
     ensures answer { λ r. ⌜ r .answer ≡ historyCarried room (now (kept .entry)) used c (now (command .entry)) (now (reply .entry)) .answer ⌝ }
     ensures used { λ r. ⌜ r .used ≡ historyCarried room (now (kept .entry)) used c (now (command .entry)) (now (reply .entry)) .used ⌝ }
     ensures kept { λ _. ⌜ now (kept .exit) ≡ historyCarried room (now (kept .entry)) used c (now (command .entry)) (now (reply .entry)) .bytes ⌝ }

@@ -1,6 +1,9 @@
-// Sizes and places in an image: numbers alone.
+// Sizes and places in an image of each version: numbers alone.
 ghost use mathlib.Core.Path.{_≡_};
-ghost use Rattle.image.specs.Layout.{sizeOf, shapeOk, entryPlace, bodyPlace};
+ghost use Rattle.image.specs.Layout.{sides, sizeOf, shapeOk, entryPlace, entryEnd, bodyPlace};
+ghost use Rattle.formats.specs.Format.{fromsAt, lengthsAt};
+ghost use Prim.Native.Nat.{_+_, _*_};
+use formats::Format;
 
 // The limits: N is 1 to MOST_CARDS, C is LEAST_ROOM to MOST_ROOM in steps of ROOM_STEP, the whole is at most MOST_BYTES.
 pub const MOST_CARDS: usize = 128;
@@ -13,10 +16,8 @@ pub const ROOM_STEP: usize = 16;
 
 pub const MOST_BYTES: usize = 65536;
 
-// The sizes of the header and of an entry.
+// The size of the header.
 pub const HEADER: usize = 16;
-
-pub const ENTRY: usize = 32;
 
 // Where the header has its version, its N and its C, and where its zeros begin.
 pub const VERSION_AT: usize = 4;
@@ -27,21 +28,49 @@ pub const ROOM_AT: usize = 8;
 
 pub const ZEROS_AT: usize = 10;
 
-// The header's first numbers: the bytes 52 43 31 00, and the version.
+// The header's first bytes: 52 43 31 00.
 pub const MAGIC: u32 = 0x0031_4352;
 
-pub const VERSION: u16 = 1;
+// How many bodies a card has.
+pub fn sides(f: Format) -> usize
+    ensures { λ r. ⌜ r ≡ sides f ⌝ }
+{
+    let count = formats::inner::translations(f);
+    1 + (count as usize)
+}
+
+// Where an entry has the edition that translation t was made from, and that translation's length.
+pub fn from_place(f: Format, t: u8) -> usize
+    ensures { λ r. ⌜ r ≡ fromsAt f + 2 * t ⌝ }
+{
+    formats::inner::froms_at(f) + 2 * (t as usize)
+}
+
+pub fn length_place(f: Format, t: u8) -> usize
+    ensures { λ r. ⌜ r ≡ lengthsAt f + 2 * t ⌝ }
+{
+    formats::inner::lengths_at(f) + 2 * (t as usize)
+}
+
+// Where the numbers of an entry end in it.
+pub fn entry_end(f: Format) -> usize
+    ensures { λ r. ⌜ r ≡ entryEnd f ⌝ }
+{
+    length_place(f, formats::inner::translations(f))
+}
 
 // The length of an image of n cards with room c.
-pub fn size_of(n: u16, c: u16) -> usize
-    ensures { λ r. ⌜ r ≡ sizeOf n c ⌝ }
+pub fn size_of(f: Format, n: u16, c: u16) -> usize
+    ensures { λ r. ⌜ r ≡ sizeOf f n c ⌝ }
 {
-    HEADER + ENTRY * (n as usize) + 2 * (c as usize) * (n as usize)
+    let entry = formats::inner::entry_size(f);
+    let sides = sides(f);
+    HEADER + entry * (n as usize) + sides * (c as usize) * (n as usize)
 }
 
 // Whether N and C are within the limits.
-pub fn shape_ok(n: usize, c: usize) -> bool
-    ensures { λ r. ⌜ r ≡ shapeOk n c ⌝ }
+pub fn shape_ok(f: Format, n: usize, c: usize) -> bool
+    ensures { λ r. ⌜ r ≡ shapeOk f n c ⌝ }
 {
     if MOST_CARDS < n {
         return false;
@@ -52,19 +81,22 @@ pub fn shape_ok(n: usize, c: usize) -> bool
     (1 <= n)
         & (LEAST_ROOM <= c)
         & (c % ROOM_STEP == 0)
-        & (size_of(n as u16, c as u16) <= MOST_BYTES)
+        & (size_of(f, n as u16, c as u16) <= MOST_BYTES)
 }
 
 // Where the entry of card k stands.
-pub fn entry_place(k: u16) -> usize
-    ensures { λ r. ⌜ r ≡ entryPlace k ⌝ }
+pub fn entry_place(f: Format, k: u16) -> usize
+    ensures { λ r. ⌜ r ≡ entryPlace f k ⌝ }
 {
-    HEADER + ENTRY * (k as usize)
+    let entry = formats::inner::entry_size(f);
+    HEADER + entry * (k as usize)
 }
 
-// Where the body of a text of card k stands, of n cards with room c: side 0 is the original, side 1 the translation.
-pub fn body_place(n: u16, c: u16, k: u16, side: u8) -> usize
-    ensures { λ r. ⌜ r ≡ bodyPlace n c k side ⌝ }
+// Where the body of a side of card k stands, of n cards with room c: side 0 is the original, side t + 1 is translation t.
+pub fn body_place(f: Format, n: u16, c: u16, k: u16, side: u8) -> usize
+    ensures { λ r. ⌜ r ≡ bodyPlace f n c k side ⌝ }
 {
-    HEADER + ENTRY * (n as usize) + (2 * (k as usize) + (side as usize)) * (c as usize)
+    let entry = formats::inner::entry_size(f);
+    let sides = sides(f);
+    HEADER + entry * (n as usize) + (sides * (k as usize) + (side as usize)) * (c as usize)
 }

@@ -1,14 +1,15 @@
 // What the bytes of an image say: N and C, an entry, a text.
 ghost use mathlib.Core.Path.{_≡_};
-ghost use Prim.Native.Nat.{_+_, _≤_};
+ghost use Prim.Native.Nat.{_+_, _*_, _≤_, _<_};
 ghost use lib.ListN.{length};
 ghost use Rattle.lists.specs.Parts.{part, splice};
+ghost use Rattle.formats.specs.Format.{translations, entrySize, originalAt, fromsAt, lengthsAt};
 ghost use Rattle.image.specs.Layout.{entryPlace};
 ghost use Rattle.image.specs.Bytes.{countOf, roomOf, readEntry, entryAt};
 use crate::inner::layout;
 use crate::inner::layout::CARDS_AT;
-use crate::inner::layout::ENTRY;
 use crate::inner::layout::ROOM_AT;
+use formats::Format;
 use guard::Entry;
 use slices::inner::fixed_width as le;
 use stamps::Mark;
@@ -30,10 +31,11 @@ pub fn room(image: &[u8]) -> u16
     le::read_u16(image, ROOM_AT)
 }
 
-// The entry that 32 bytes stand for.
-fn entry_of(bytes: &[u8]) -> Entry
-    requires { ⌜ 32 ≤ length (now bytes) ⌝ }
-    ensures { λ r. ⌜ r ≡ readEntry (now (bytes .entry)) ⌝ }
+// The entry that an entry's bytes stand for, as seen in translation t.
+fn entry_of(f: Format, bytes: &[u8], t: u8) -> Entry
+    requires { ⌜ (26 ≤ length (now bytes)) × (originalAt f + 2 ≤ length (now bytes))
+        × (fromsAt f + 2 * t + 2 ≤ length (now bytes)) × (lengthsAt f + 2 * t + 2 ≤ length (now bytes)) ⌝ }
+    ensures { λ r. ⌜ r ≡ readEntry f t (now (bytes .entry)) ⌝ }
 {
     Entry {
         pair: Pair {
@@ -45,20 +47,20 @@ fn entry_of(bytes: &[u8]) -> Entry
             transaction: le::read_u32(bytes, 20),
         },
         edition: le::read_u16(bytes, 24),
-        from: le::read_u16(bytes, 26),
-        original: le::read_u16(bytes, 28),
-        translation: le::read_u16(bytes, 30),
+        from: le::read_u16(bytes, layout::from_place(f, t)),
+        original: le::read_u16(bytes, formats::inner::original_at(f)),
+        translation: le::read_u16(bytes, layout::length_place(f, t)),
     }
 }
 
-// The entry of card k.
-pub fn entry_at(image: &[u8], k: u16) -> Entry
-    requires { ⌜ entryPlace k + 32 ≤ length (now image) ⌝ }
-    ensures { λ r. ⌜ r ≡ entryAt (now (image .entry)) k ⌝ }
+// The entry of card k, as seen in translation t.
+pub fn entry_at(f: Format, image: &[u8], k: u16, t: u8) -> Entry
+    requires { ⌜ (entryPlace f k + entrySize f ≤ length (now image)) × (t < translations f) ⌝ }
+    ensures { λ r. ⌜ r ≡ entryAt f (now (image .entry)) k t ⌝ }
 {
-    let at = layout::entry_place(k);
-    let end = at + ENTRY;
-    entry_of(&image[at..end])
+    let at = layout::entry_place(f, k);
+    let end = at + formats::inner::entry_size(f);
+    entry_of(f, &image[at..end], t)
 }
 
 // Reads the `count` bytes at `at` into the first bytes of a reply buffer.

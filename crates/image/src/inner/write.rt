@@ -1,12 +1,15 @@
 // Writing an entry and a text into an image.
 ghost use mathlib.Core.Path.{_≡_};
-ghost use Prim.Native.Nat.{_+_, _≤_};
+ghost use Prim.Native.Nat.{_+_, _*_, _≤_, _<_};
 ghost use lib.ListN.{length};
 ghost use Rattle.lists.specs.Parts.{splice};
+ghost use Rattle.formats.specs.Format.{translations, entrySize, originalAt, fromsAt, lengthsAt};
 ghost use Rattle.image.specs.Layout.{entryPlace};
 ghost use Rattle.commands.specs.Bytes.{pairBytes};
-ghost use Rattle.image.specs.Bytes.{entryMark, entryCounts, entryBytes, pad};
+ghost use Rattle.image.specs.Bytes.{entryMark, pad};
+ghost use Rattle.image.specs.Write.{countsWith, entryWith};
 use crate::inner::layout;
+use formats::Format;
 use guard::Entry;
 use slices::inner::fixed_width as le;
 use stamps::Mark;
@@ -31,26 +34,30 @@ fn write_mark(image: &mut [u8], at: usize, mark: Mark)
     le::write_u32(image, at + 4, mark.transaction);
 }
 
-// Writes an entry's last numbers at `at`: edition, translated-from, original length, translation length, u16 each.
-fn write_counts(image: &mut [u8], at: usize, e: Entry)
-    requires { ⌜ at + 8 ≤ length (now image) ⌝ }
-    ensures { λ _. ⌜ now (image .exit) ≡ splice at (entryCounts e) (now (image .entry)) ⌝ }
+// Writes the counts and lengths of the entry at `at`, as seen in translation t.
+fn write_counts(f: Format, image: &mut [u8], at: usize, t: u8, e: Entry)
+    requires { ⌜ (at + 26 ≤ length (now image)) × (at + originalAt f + 2 ≤ length (now image))
+        × (at + (fromsAt f + 2 * t) + 2 ≤ length (now image)) × (at + (lengthsAt f + 2 * t) + 2 ≤ length (now image)) ⌝ }
+    ensures { λ _. ⌜ now (image .exit) ≡ countsWith f t e at (now (image .entry)) ⌝ }
 {
-    le::write_u16(image, at, e.edition);
-    le::write_u16(image, at + 2, e.from);
-    le::write_u16(image, at + 4, e.original);
-    le::write_u16(image, at + 6, e.translation);
+    let original = formats::inner::original_at(f);
+    let from = layout::from_place(f, t);
+    let length = layout::length_place(f, t);
+    le::write_u16(image, at + 24, e.edition);
+    le::write_u16(image, at + original, e.original);
+    le::write_u16(image, at + from, e.from);
+    le::write_u16(image, at + length, e.translation);
 }
 
-// Writes the entry of card k.
-pub fn store_entry(image: &mut [u8], k: u16, e: Entry)
-    requires { ⌜ entryPlace k + 32 ≤ length (now image) ⌝ }
-    ensures { λ _. ⌜ now (image .exit) ≡ splice (entryPlace k) (entryBytes e) (now (image .entry)) ⌝ }
+// Writes the entry of card k, as seen in translation t.
+pub fn store_entry(f: Format, image: &mut [u8], k: u16, t: u8, e: Entry)
+    requires { ⌜ (entryPlace f k + entrySize f ≤ length (now image)) × (t < translations f) ⌝ }
+    ensures { λ _. ⌜ now (image .exit) ≡ entryWith f t e (entryPlace f k) (now (image .entry)) ⌝ }
 {
-    let at = layout::entry_place(k);
+    let at = layout::entry_place(f, k);
     write_pair(image, at, e.pair);
     write_mark(image, at + 16, e.mark);
-    write_counts(image, at + 24, e);
+    write_counts(f, image, at, t, e);
 }
 
 // Writes a text into the body at `at`, and makes the rest of its room zero.

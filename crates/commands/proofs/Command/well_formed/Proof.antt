@@ -31,20 +31,24 @@ mark-whole-requires c κs = search needs
 mark-whole-requires-2 : tie.Need-mark-whole-requires-2
 mark-whole-requires-2 c κs = search needs
 
+language-named-requires : tie.Need-language-named-requires
+language-named-requires c κs = search needs
+
 returns : tie.Need-returns
 returns c =
     rw (
-      c .mark-whole2 .ensures,
-      c .before .mark-whole .ensures,
-      c .before .before .verifier-ok .ensures,
-      c .before .before .before .session-ok .ensures,
-      c .before .before .before .before .update .ensures,
-      c .before .before .before .before .before .payload-written .ensures,
-      c .before .before .before .before .before .before .edition-named .ensures,
-      c .before .before .before .before .before .before .before .write-exclusive .ensures,
-      c .before .before .before .before .before .before .before .before .act-known .ensures,
+      c .language-named .ensures,
+      c .before .mark-whole2 .ensures,
+      c .before .before .mark-whole .ensures,
+      c .before .before .before .verifier-ok .ensures,
+      c .before .before .before .before .session-ok .ensures,
+      c .before .before .before .before .before .update .ensures,
+      c .before .before .before .before .before .before .payload-written .ensures,
+      c .before .before .before .before .before .before .before .edition-named .ensures,
+      c .before .before .before .before .before .before .before .before .write-exclusive .ensures,
+      c .before .before .before .before .before .before .before .before .before .act-known .ensures,
     )
-    (sym (by-session (c .before .before .before .before .before .before .before .before .before .args .self)))
+    (sym (by-session (c .before .before .before .before .before .before .before .before .before .before .args .self)))
 
 pub well-formed-spec : {M : Type 1} → statement M
 well-formed-spec =
@@ -59,4 +63,5 @@ well-formed-spec =
     verifier-ok-requires
     mark-whole-requires
     mark-whole-requires-2
+    language-named-requires
     returns)

@@ -3,17 +3,23 @@ use Rattle.commands.specs.Bytes.{fieldsOf}
 use Rattle.commands.proofs.inner.fields.Statement.{statement}
 use Rattle.commands.proofs.inner.fields.Tie as tie
 
-shared-slice-read-t3 : tie.Need-shared-slice-read-t3
-shared-slice-read-t3 c = search needs
+shared-slice-read-t4 : tie.Need-shared-slice-read-t4
+shared-slice-read-t4 c = search needs
 
-shared-slice-read-t5 : tie.Need-shared-slice-read-t5
-shared-slice-read-t5 c = search needs
+shared-slice-read-t6 : tie.Need-shared-slice-read-t6
+shared-slice-read-t6 c = search needs
+
+language-at-requires : tie.Need-language-at-requires
+language-at-requires c κs = search needs
 
 read-u16-requires : tie.Need-read-u16-requires
 read-u16-requires c κs = search needs
 
 pair-at-requires : tie.Need-pair-at-requires
 pair-at-requires c κs = search needs
+
+update-at-requires : tie.Need-update-at-requires
+update-at-requires c κs = search needs
 
 pair-at-requires-2 : tie.Need-pair-at-requires-2
 pair-at-requires-2 c κs = search needs
@@ -39,18 +45,22 @@ returns c =
       c .before .before .mark-at2 .ensures,
       c .before .before .before .mark-at .ensures,
       c .before .before .before .before .pair-at2 .ensures,
-      c .before .before .before .before .before .pair-at .ensures,
-      c .before .before .before .before .before .before .read-u16 .ensures,
+      c .before .before .before .before .before .update-at .ensures,
+      c .before .before .before .before .before .before .pair-at .ensures,
+      c .before .before .before .before .before .before .before .read-u16 .ensures,
+      c .before .before .before .before .before .before .before .before .language-at .ensures,
     )
 
 pub fields-spec : {M : Type 1} → statement M
 fields-spec =
     tie.close
     (tie.spec
-    shared-slice-read-t3
-    shared-slice-read-t5
+    shared-slice-read-t4
+    shared-slice-read-t6
+    language-at-requires
     read-u16-requires
     pair-at-requires
+    update-at-requires
     pair-at-requires-2
     mark-at-requires
     mark-at-requires-2

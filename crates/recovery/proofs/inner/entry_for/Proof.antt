@@ -1,7 +1,9 @@
 use native.Mathlib.Omega.{arith}
 use mathlib.Core.Path.{_∙_}
+use Rattle.formats.specs.declared.Format.the-variants.{V1}
 use Rattle.recovery.proofs.Laws.{entry-none, entry-some, entry-inside}
-use Rattle.store.proofs.Texts.{header-in}
+use Rattle.store.proofs.Kept.{header-in}
+use lib.Dec.{lit<}
 use Rattle.recovery.proofs.inner.entry_for.Statement.{statement}
 use Rattle.recovery.proofs.inner.entry_for.Tie as tie
 use Rattle.recovery.proofs.inner.entry_for.Reads as reads
@@ -10,13 +12,13 @@ use Rattle.image.proofs.inner.read.count.Reads as count-reads
 use Rattle.image.proofs.inner.read.entry_at.Reads as read-entry-reads
 
 count-requires : tie.Need-count-requires
-count-requires c κs = header-in _ (c .before .pre)
+count-requires c κs = header-in V1 _ (c .before .pre)
 
 returns : tie.Need-returns
 returns c = entry-none (c .before .before .before .args .image .now) (c .before .before .before .args .k) (omega (arith, c .before .count .ensures))
 
 entry-at-requires : tie.Need-entry-at-requires
-entry-at-requires c κs = entry-inside (c .before .before .before .args .image .now) (c .before .before .before .args .k) (c .before .before .before .pre) (omega (arith, c .before .count .ensures))
+entry-at-requires c κs = (entry-inside (c .before .before .before .args .image .now) (c .before .before .before .args .k) (c .before .before .before .pre) (omega (arith, c .before .count .ensures)), lit< tt)
 
 returns-2 : tie.Need-returns-2
 returns-2 c = c .entry-at .ensures ∙ entry-some (c .before .before .before .before .args .image .now) (c .before .before .before .before .args .k) (c .before .before .before .before .pre) (omega (arith, c .before .before .count .ensures))

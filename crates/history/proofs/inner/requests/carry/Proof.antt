@@ -5,6 +5,7 @@ use native.Mathlib.Omega.{arith}
 use borrow.Author.Needs.{needs}
 use lib.ListN.{length, take}
 use lib.Seq.{length-take-le}
+use Rattle.formats.specs.declared.Format.the-variants.{V1}
 use Rattle.commands.proofs.CommandBytes.{formedness}
 use Rattle.history.proofs.Requests.{exits, low, read-fits, carry-refused, carry-accepted, number-zero}
 use Rattle.history.proofs.inner.requests.carry.Statement.{statement}
@@ -41,13 +42,13 @@ show-requires : tie.Need-show-requires
 show-requires c κs = read-fits _ _ _ _ (number-zero (c .before .before .before .before .before .before .before .before .before .before .before .args .room) (c .before .before .before .before .before .before .before .before .before .before .before .args .kept .now) (c .before .before .before .before .before .before .before .before .before .before .before .args .used) (c .before .before .before .before .before .before .before .before .before .before .before .args .c) (c .before .before .before .before .before .before .before .before .before .before .before .args .command .now) (c .before .before .before .before .before .before .before .before .before .before .before .args .reply .now) (c .before .before .before .before .before .before .before .before .before .before .before .pre .0) _ (c .before .before .before .before .before .before .before .standing .ensures) _ (c .before .before .before .before .before .weigh .ensures .0) (c .before .before .if1 .left))
 
 put-requires : tie.Need-put-requires
-put-requires c κs = let fits = c .before .before .before .before .before .before .before .before .before .weigh .ensures .1 .1 (c .before .before .before .before .before .before .if1 .left) in let whole = formedness (c .before .before .before .before .before .before .before .before .before .before .before .before .before .before .before .args .command .now) (c .before .before .before .before .before .before .before .before .before .before .before .before .before .before .before .pre .1) .whole in let same = ap (λ d. d .length) (c .before .before .before .before .before .before .before .before .before .before .before .before .before .before .before .pre .2) in omega (arith, fits, whole, same, c .before .before .before .before .before .before .before .before .before .before .before .before .before .before .before .pre .0)
+put-requires c κs = let fits = c .before .before .before .before .before .before .before .before .before .weigh .ensures .1 .1 (c .before .before .before .before .before .before .if1 .left) in let whole = formedness V1 (c .before .before .before .before .before .before .before .before .before .before .before .before .before .before .before .args .command .now) (c .before .before .before .before .before .before .before .before .before .before .before .before .before .before .before .pre .1) .whole in let same = ap (λ d. d .length) (c .before .before .before .before .before .before .before .before .before .before .before .before .before .before .before .pre .2) in omega (arith, fits, whole, same, c .before .before .before .before .before .before .before .before .before .before .before .before .before .before .before .pre .0)
 
 reply-requires-2 : tie.Need-reply-requires-2
 reply-requires-2 c κs = search needs
 
 add-t24 : tie.Need-add-t24
-add-t24 c = let fits = c .before .before .before .before .before .before .before .before .before .before .before .before .before .weigh .ensures .1 .1 (c .before .before .before .before .before .before .before .before .before .before .if1 .left) in let whole = formedness (c .before .before .before .before .before .before .before .before .before .before .before .before .before .before .before .before .before .before .before .args .command .now) (c .before .before .before .before .before .before .before .before .before .before .before .before .before .before .before .before .before .before .before .pre .1) .whole in let same = ap (λ d. d .length) (c .before .before .before .before .before .before .before .before .before .before .before .before .before .before .before .before .before .before .before .pre .2) in omega (arith, fits, whole, same, c .before .before .before .before .before .before .before .before .before .before .before .before .before .before .before .before .before .before .before .pre .0)
+add-t24 c = let fits = c .before .before .before .before .before .before .before .before .before .before .before .before .before .weigh .ensures .1 .1 (c .before .before .before .before .before .before .before .before .before .before .if1 .left) in let whole = formedness V1 (c .before .before .before .before .before .before .before .before .before .before .before .before .before .before .before .before .before .before .before .args .command .now) (c .before .before .before .before .before .before .before .before .before .before .before .before .before .before .before .before .before .before .before .pre .1) .whole in let same = ap (λ d. d .length) (c .before .before .before .before .before .before .before .before .before .before .before .before .before .before .before .before .before .before .before .pre .2) in omega (arith, fits, whole, same, c .before .before .before .before .before .before .before .before .before .before .before .before .before .before .before .before .before .before .before .pre .0)
 
 same-length-2 : tie.Need-same-length-2
 same-length-2 c = search needs

@@ -18,7 +18,7 @@ same-length : tie.Need-same-length
 same-length c = search needs
 
 returns : tie.Need-returns
-returns c = rw (c .before .before .clear .ensures, c .before .before .before .before .before .before .write-header .ensures) (fresh-written (c .before .before .before .before .before .before .before .before .before .args .n) (c .before .before .before .before .before .before .before .before .before .args .c) (c .before .before .before .before .before .before .before .before .before .args .image .now) (omega arith))
+returns c = rw (c .before .before .clear .ensures, c .before .before .before .before .before .before .write-header .ensures) (fresh-written (c .before .before .before .before .before .before .before .before .before .args .f) (c .before .before .before .before .before .before .before .before .before .args .n) (c .before .before .before .before .before .before .before .before .before .args .c) (c .before .before .before .before .before .before .before .before .before .args .image .now) (omega arith))
 
 pub fill-spec : {M : Type 1} → statement M
 fill-spec =

@@ -1,11 +1,15 @@
 -- The numbers end to end. Assumes nothing.
-use Rattle.image.specs.Bytes.{magic, version}
+use Rattle.formats.specs.Format.{version}
+use Rattle.image.specs.Bytes.{magic}
 use native.Mathlib.Omega.{arith}
 use Rattle.lists.specs.Le.{toLe}
 use Rattle.image.proofs.Written.{splice-four}
 use borrow.Author.Needs.{needs}
 use Rattle.image.proofs.inner.fresh.write_header.Statement.{statement}
 use Rattle.image.proofs.inner.fresh.write_header.Tie as tie
+
+version-requires : tie.Need-version-requires
+version-requires c κs = search needs
 
 write-u32-requires : tie.Need-write-u32-requires
 write-u32-requires c κs = search needs
@@ -29,13 +33,15 @@ returns c = rw (
   c .before .before .before .before .before .before .write-u162 .ensures,
   c .before .before .before .before .before .before .before .before .before .before .write-u16 .ensures,
   c .before .before .before .before .before .before .before .before .before .before .before .before .before .before .write-u32 .ensures,
+  c .before .before .before .before .before .before .before .before .before .before .before .before .before .before .before .before .version .ensures,
 )
-    (splice-four 0 magic (toLe 2 version) (toLe 2 (c .before .before .before .before .before .before .before .before .before .before .before .before .before .before .before .before .before .args .n)) (toLe 2 (c .before .before .before .before .before .before .before .before .before .before .before .before .before .before .before .before .before .args .c)) _ (omega arith))
+    (splice-four 0 magic (toLe 2 (version (c .before .before .before .before .before .before .before .before .before .before .before .before .before .before .before .before .before .before .args .f))) (toLe 2 (c .before .before .before .before .before .before .before .before .before .before .before .before .before .before .before .before .before .before .args .n)) (toLe 2 (c .before .before .before .before .before .before .before .before .before .before .before .before .before .before .before .before .before .before .args .c)) _ (omega arith))
 
 pub write-header-spec : {M : Type 1} → statement M
 write-header-spec =
     tie.close
     (tie.spec
+    version-requires
     write-u32-requires
     write-u16-requires
     write-u16-requires-2

@@ -1,14 +1,19 @@
--- The entry that its bytes stand for. Assumes nothing.
-use mathlib.Core.Path.{refl}
+use Rattle.lists.proofs.Parts.{length-part}
 use Prim.Native.Nat.{_+_}
+use mathlib.Core.Path.{refl}
 use Rattle.image.proofs.Parts.{cut}
 use Rattle.image.specs.Bytes.{entryAt}
+use native.Mathlib.Omega.{arith}
+use Rattle.formats.proofs.Numbers.{numbers}
 use borrow.Author.Needs.{needs}
 use Rattle.image.proofs.inner.read.entry_at.Statement.{statement}
 use Rattle.image.proofs.inner.read.entry_at.Tie as tie
 
 entry-place-requires : tie.Need-entry-place-requires
 entry-place-requires c κs = search needs
+
+entry-size-requires : tie.Need-entry-size-requires
+entry-size-requires c κs = search needs
 
 add-end : tie.Need-add-end
 add-end c = search needs
@@ -23,17 +28,23 @@ part-entry-of-end : tie.Need-part-entry-of-end
 part-entry-of-end c = search needs
 
 entry-of-requires : tie.Need-entry-of-requires
-entry-of-requires c κs = search needs
+entry-of-requires c κs = let n = numbers (c .before .before .before .before .args .f) in
+    let long = length-part (c .before .before .entry-place .result) (c .before .entry-size .result) (c .before .before .before .before .args .image .now) (omega (arith, c .before .entry-size .ensures, c .before .before .entry-place .ensures)) in
+    let same = cut (c .before .before .entry-place .result) (c .before .entry-size .result) (c .before .before .entry-place .result + c .before .entry-size .result) (c .before .before .before .before .args .image .now) refl in
+    rw same (omega (arith, n, long, c .before .entry-size .ensures))
 
 returns : tie.Need-returns
 unfolding entryAt
-returns c = rw (c .entry-of .ensures, cut (c .before .before .entry-place .result) 32 (c .before .before .entry-place .result + 32) (c .before .before .before .before .args .image .now) refl, c .before .before .entry-place .ensures)
+returns c = let at = c .before .before .before .entry-place .result in
+    let size = c .before .before .entry-size .result in
+    rw (c .entry-of .ensures, cut at size (at + size) (c .before .before .before .before .before .args .image .now) refl, c .before .before .entry-size .ensures, c .before .before .before .entry-place .ensures)
 
 pub entry-at-spec : {M : Type 1} → statement M
 entry-at-spec =
     tie.close
     (tie.spec
     entry-place-requires
+    entry-size-requires
     add-end
     sub-entry-of
     part-entry-of-start

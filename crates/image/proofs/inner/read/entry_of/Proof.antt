@@ -1,4 +1,3 @@
--- Each number, by what its read ensures. Assumes nothing.
 use Rattle.image.specs.Bytes.{readEntry}
 use borrow.Author.Needs.{needs}
 use Rattle.image.proofs.inner.read.entry_of.Statement.{statement}
@@ -19,11 +18,20 @@ read-u32-requires c κs = search needs
 read-u16-requires-2 : tie.Need-read-u16-requires-2
 read-u16-requires-2 c κs = search needs
 
+from-place-requires : tie.Need-from-place-requires
+from-place-requires c κs = search needs
+
 read-u16-requires-3 : tie.Need-read-u16-requires-3
 read-u16-requires-3 c κs = search needs
 
+original-at-requires : tie.Need-original-at-requires
+original-at-requires c κs = search needs
+
 read-u16-requires-4 : tie.Need-read-u16-requires-4
 read-u16-requires-4 c κs = search needs
+
+length-place-requires : tie.Need-length-place-requires
+length-place-requires c κs = search needs
 
 read-u16-requires-5 : tie.Need-read-u16-requires-5
 read-u16-requires-5 c κs = search needs
@@ -32,13 +40,16 @@ returns : tie.Need-returns
 unfolding readEntry
 returns c = rw (
   c .read-u165 .ensures,
-  c .before .read-u164 .ensures,
-  c .before .before .read-u163 .ensures,
-  c .before .before .before .read-u162 .ensures,
-  c .before .before .before .before .read-u32 .ensures,
-  c .before .before .before .before .before .read-u16 .ensures,
-  c .before .before .before .before .before .before .read-u642 .ensures,
-  c .before .before .before .before .before .before .before .read-u64 .ensures,
+  c .before .length-place .ensures,
+  c .before .before .read-u164 .ensures,
+  c .before .before .before .original-at .ensures,
+  c .before .before .before .before .read-u163 .ensures,
+  c .before .before .before .before .before .from-place .ensures,
+  c .before .before .before .before .before .before .read-u162 .ensures,
+  c .before .before .before .before .before .before .before .read-u32 .ensures,
+  c .before .before .before .before .before .before .before .before .read-u16 .ensures,
+  c .before .before .before .before .before .before .before .before .before .read-u642 .ensures,
+  c .before .before .before .before .before .before .before .before .before .before .read-u64 .ensures,
 )
 
 pub entry-of-spec : {M : Type 1} → statement M
@@ -50,7 +61,10 @@ entry-of-spec =
     read-u16-requires
     read-u32-requires
     read-u16-requires-2
+    from-place-requires
     read-u16-requires-3
+    original-at-requires
     read-u16-requires-4
+    length-place-requires
     read-u16-requires-5
     returns)

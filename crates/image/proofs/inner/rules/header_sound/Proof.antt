@@ -1,4 +1,3 @@
--- The tests in their order, by what each call ensures. Assumes nothing.
 use Rattle.image.specs.Image.{headerSound}
 use Rattle.lists.specs.Le.{le}
 use Rattle.lists.specs.Parts.{part}
@@ -18,6 +17,9 @@ read-u32-requires c κs = search needs
 
 read-u16-requires : tie.Need-read-u16-requires
 read-u16-requires c κs = search needs
+
+version-requires : tie.Need-version-requires
+version-requires c κs = search needs
 
 cast-shape-ok : tie.Need-cast-shape-ok
 cast-shape-ok c = search needs
@@ -49,10 +51,11 @@ returns c = rw (
   c .size-of .ensures,
   c .before .all-zero .ensures,
   c .before .before .before .shape-ok .ensures,
-  c .before .before .before .before .read-u16 .ensures,
-  c .before .before .before .before .before .read-u32 .ensures,
-  c .before .before .before .before .before .before .room .ensures,
-  c .before .before .before .before .before .before .before .count .ensures,
+  c .before .before .before .before .version .ensures,
+  c .before .before .before .before .before .read-u16 .ensures,
+  c .before .before .before .before .before .before .read-u32 .ensures,
+  c .before .before .before .before .before .before .before .room .ensures,
+  c .before .before .before .before .before .before .before .before .count .ensures,
 )
 
 pub header-sound-spec : {M : Type 1} → statement M
@@ -63,6 +66,7 @@ header-sound-spec =
     room-requires
     read-u32-requires
     read-u16-requires
+    version-requires
     cast-shape-ok
     cast-shape-ok-2
     shape-ok-requires

@@ -1,29 +1,26 @@
--- `store::inner::step::keep` meets its contract. Assumes nothing.
-use borrow.Author.Needs.{needs}
 use native.Mathlib.Omega.{arith}
+use mathlib.Core.Path.{sym, _∙_}
 use Rattle.lists.proofs.Tests.{to-T}
-use Rattle.image.proofs.Decode.{places}
-use Rattle.store.proofs.Kept.{keeps}
+use Rattle.formats.proofs.Numbers.{numbers}
+use Rattle.image.proofs.Decode.{entry-lies}
+use Rattle.store.proofs.Kept.{keeps, header-in, body-in, written-original, written-translation, written-none}
+use borrow.Author.Needs.{needs}
 use Rattle.store.proofs.inner.effects.keep.Statement.{statement}
 use Rattle.store.proofs.inner.effects.keep.Tie as tie
 
 write-requires : tie.Need-write-requires
-write-requires c κs = let start = c .before .before .before in (start .pre .0, start .pre .1, rw (start .pre .2) (start .pre .3))
+write-requires c κs = search needs
 
 store-entry-requires : tie.Need-store-entry-requires
-store-entry-requires c κs =
-    let start = c .before .before .before .before .before .before .before in
-    omega (arith, places _ _ (to-T (start .pre .0)) (start .pre .1) .entry, c .before .before .before .write .kept .0)
+store-entry-requires c κs = let start = c .before .before .before .before .before .before .before in (omega (arith, entry-lies (start .args .f) (start .args .image .now) (to-T (start .pre .0)) _ (start .pre .1), c .before .before .before .write .kept .1), start .pre .2)
 
 same-length : tie.Need-same-length
 same-length c = search needs
 
 returns : tie.Need-returns
-returns c =
-    let start = c .before .before .before .before .before .before .before .before .before .before in
-    rw
-    (c .before .before .store-entry .ensures, c .before .before .before .before .before .before .write .ensures)
-    (keeps _ (λ j. c .before .before .before .before .before .before .before .before .before .slice-known .given j .fits) (to-T (start .pre .0)) (start .args .c) (start .pre .1) _ (start .pre .2) (start .pre .4))
+returns c = let start = c .before .before .before .before .before .before .before .before .before .before in
+    rw (c .before .before .store-entry .ensures, c .before .before .before .before .before .before .write .ensures)
+    (keeps (start .args .f) (start .args .image .now) (λ j. c .before .before .before .before .before .before .before .before .before .slice-known .given j .fits) (to-T (start .pre .0)) (start .args .c) (start .pre .1) (start .pre .2) (start .args .text .now) (start .pre .3) (start .pre .5))
 
 pub keep-spec : {M : Type 1} → statement M
 keep-spec = tie.close (tie.spec write-requires store-entry-requires same-length returns)

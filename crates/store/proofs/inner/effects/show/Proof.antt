@@ -1,10 +1,9 @@
--- `store::inner::step::show` meets its contract. Assumes nothing.
-use lib.Dec.{lit<}
-use borrow.Author.Needs.{needs}
-use mathlib.Core.Path.{sym, _∙_}
-use Rattle.commands.specs.Command.{original, translation}
 use Rattle.image.specs.Image.{cardAt}
-use Rattle.store.proofs.Texts.{text-fits, shows, shows-none}
+use native.Mathlib.Omega.{arith}
+use mathlib.Core.Path.{sym, _∙_}
+use Rattle.formats.proofs.Numbers.{numbers}
+use Rattle.store.proofs.Texts.{original-fits, translation-fits, shows-original, shows-translation, shows-none}
+use borrow.Author.Needs.{needs}
 use Rattle.store.proofs.inner.effects.show.Statement.{statement}
 use Rattle.store.proofs.inner.effects.show.Tie as tie
 
@@ -15,54 +14,34 @@ body-at-requires : tie.Need-body-at-requires
 body-at-requires c κs = search needs
 
 copy-text-requires : tie.Need-copy-text-requires
-copy-text-requires c κs =
-    let start = c .before .before .before .before .before .before in
-    text-fits _ (start .pre .0) (start .args .c) (start .pre .1) original (lit< tt) (c .before .body-at .ensures) (start .pre .2)
-    (sym (c .before .before .before .reads-original .ensures) ∙ c .before .before .if1 .taken)
-    (start .pre .3)
+copy-text-requires c κs = let start = c .before .before .before .before .before .before in original-fits (start .args .f) (start .args .image .now) (start .pre .0) (start .args .c) (start .pre .1) (start .pre .2) (start .pre .3) (sym (c .before .before .before .reads-original .ensures) ∙ c .before .before .if1 .taken) (c .before .body-at .ensures) (start .pre .4)
 
 same-length : tie.Need-same-length
 same-length c = search needs
 
 returns : tie.Need-returns
-returns c =
-    let start = c .before .before .before .before .before .before .before .before .before in
-    shows _ (start .pre .0) (start .args .c) (start .pre .1) original (lit< tt) (c .before .before .before .before .body-at .ensures) (start .pre .2)
-    (sym (c .before .before .before .before .before .before .reads-original .ensures) ∙ c .before .before .before .before .before .if1 .taken)
-    _
-    (c .before .before .copy-text .ensures)
+returns c = let start = c .before .before .before .before .before .before .before .before .before in shows-original (start .args .f) (start .args .image .now) (start .pre .0) (start .args .c) (start .pre .1) (start .pre .2) (start .pre .3) (sym (c .before .before .before .before .before .before .reads-original .ensures) ∙ c .before .before .before .before .before .if1 .taken) (c .before .before .before .before .body-at .ensures) (start .args .reply .now) (c .before .before .copy-text .ensures)
 
 reads-translation-requires : tie.Need-reads-translation-requires
 reads-translation-requires c κs = search needs
+
+add-body-at : tie.Need-add-body-at
+add-body-at c = let start = c .before .before .before .before .before .before .before in omega (arith, numbers (start .args .f), start .pre .2)
 
 body-at-requires-2 : tie.Need-body-at-requires-2
 body-at-requires-2 c κs = search needs
 
 copy-text-requires-2 : tie.Need-copy-text-requires-2
-copy-text-requires-2 c κs =
-    let start = c .before .before .before .before .before .before .before .before in
-    text-fits _ (start .pre .0) (start .args .c) (start .pre .1) (translation 0) (lit< tt) (c .before .body-at2 .ensures) (start .pre .2)
-    (sym (c .before .before .before .reads-translation .ensures) ∙ c .before .before .if2 .taken)
-    (start .pre .3)
+copy-text-requires-2 c κs = let start = c .before .before .before .before .before .before .before .before .before in translation-fits (start .args .f) (start .args .image .now) (start .pre .0) (start .args .c) (start .pre .1) (start .pre .2) (start .pre .3) (sym (c .before .before .before .before .before .before .reads-original .ensures) ∙ c .before .before .before .before .before .if1 .left) (sym (c .before .before .before .before .reads-translation .ensures) ∙ c .before .before .before .if2 .taken) (c .before .body-at2 .ensures) (start .pre .4)
 
 same-length-2 : tie.Need-same-length-2
 same-length-2 c = search needs
 
 returns-2 : tie.Need-returns-2
-returns-2 c =
-    let start = c .before .before .before .before .before .before .before .before .before .before .before in
-    shows _ (start .pre .0) (start .args .c) (start .pre .1) (translation 0) (lit< tt) (c .before .before .before .before .body-at2 .ensures) (start .pre .2)
-    (sym (c .before .before .before .before .before .before .reads-translation .ensures)
-    ∙ c .before .before .before .before .before .if2 .taken)
-    _
-    (c .before .before .copy-text2 .ensures)
+returns-2 c = let start = c .before .before .before .before .before .before .before .before .before .before .before .before in shows-translation (start .args .f) (start .args .image .now) (start .pre .0) (start .args .c) (start .pre .1) (start .pre .2) (start .pre .3) (sym (c .before .before .before .before .before .before .before .before .before .reads-original .ensures) ∙ c .before .before .before .before .before .before .before .before .if1 .left) (sym (c .before .before .before .before .before .before .before .reads-translation .ensures) ∙ c .before .before .before .before .before .before .if2 .taken) (c .before .before .before .before .body-at2 .ensures) (start .args .reply .now) (c .before .before .copy-text2 .ensures)
 
 returns-3 : tie.Need-returns-3
-returns-3 c =
-    let start = c .before .before .before .before .before .before in
-    shows-none (cardAt (start .args .image .now) (start .args .c .card)) (start .args .c) _
-    (sym (c .before .before .before .reads-original .ensures) ∙ c .before .before .if1 .left)
-    (sym (c .before .reads-translation .ensures) ∙ c .if2 .left)
+returns-3 c = shows-none (cardAt (c .before .before .before .before .before .before .args .f) (c .before .before .before .before .before .before .args .image .now) (c .before .before .before .before .before .before .args .c .card)) (c .before .before .before .before .before .before .args .c) (c .before .before .before .before .before .before .args .reply .now) (sym (c .before .before .before .reads-original .ensures) ∙ c .before .before .if1 .left) (sym (c .before .reads-translation .ensures) ∙ c .if2 .left)
 
 pub show-spec : {M : Type 1} → statement M
 show-spec =
@@ -74,6 +53,7 @@ show-spec =
     same-length
     returns
     reads-translation-requires
+    add-body-at
     body-at-requires-2
     copy-text-requires-2
     same-length-2

@@ -3,24 +3,24 @@ use borrow.Author.Needs.{needs}
 use mathlib.Core.Path.{_≡_, refl}
 use lib.ListN.{length}
 use Rattle.lists.proofs.Tests.{to-T}
-use Rattle.image.proofs.Decode.{places}
 use Rattle.store.specs.Carried.{judgedAt}
 use Rattle.store.proofs.Step.{exits, refuses, accepts, payload-fits, lent-fits, raises}
-use Rattle.store.proofs.Texts.{header-in}
+use Rattle.image.proofs.Decode.{entry-lies}
+use Rattle.store.proofs.Kept.{header-in}
 use Rattle.store.proofs.inner.step.carry.Statement.{statement}
 use Rattle.store.proofs.inner.step.carry.Tie as tie
 
 -- The entry of the command's card judged it.
 known : (c : tie.After-judge) →
     c .judge .result
-    ≡ judgedAt (c .before .before .before .before .before .before .before .before .args .image .now) (c .before .before .before .before .before .before .before .before .args .c) (length (c .before .before .before .before .before .before .before .before .args .reply .now))
+    ≡ judgedAt (c .before .before .before .before .before .before .before .before .args .f) (c .before .before .before .before .before .before .before .before .args .image .now) (c .before .before .before .before .before .before .before .before .args .c) (length (c .before .before .before .before .before .before .before .before .args .reply .now))
 known c = rw (← c .before .before .before .entry-at .ensures, ← c .before .room .ensures) (c .judge .ensures)
 
 entry-at-requires : tie.Need-entry-at-requires
-entry-at-requires c κs = let start = c .before .before .before .before in places _ _ (to-T (start .pre .0)) (start .pre .1) .entry
+entry-at-requires c κs = let start = c .before .before .before .before in (entry-lies (start .args .f) (start .args .image .now) (to-T (start .pre .0)) _ (start .pre .1), start .pre .2)
 
 room-requires : tie.Need-room-requires
-room-requires c κs = header-in _ (c .before .before .before .before .before .before .pre .0)
+room-requires c κs = header-in _ _ (c .before .before .before .before .before .before .pre .0)
 
 judge-requires : tie.Need-judge-requires
 judge-requires c κs = search needs
@@ -35,7 +35,7 @@ returns : tie.Need-returns
 returns c =
     let start = c .before .before .before .before .before .before .before .before .before .before .before in
     exits
-    (refuses (start .args .image .now) (start .args .c) (start .args .text .now) (start .args .reply .now) (known (c .before .before .before)) (c .before .if1 .taken))
+    (refuses (start .args .f) (start .args .image .now) (start .args .c) (start .args .text .now) (start .args .reply .now) (known (c .before .before .before)) (c .before .if1 .taken))
     (c .reply .ensures)
     refl
     refl
@@ -46,8 +46,9 @@ show-requires c κs =
     let entry = c .before .before .before .before .before .before .before .entry-at .ensures in (
       start .pre .0,
       start .pre .1,
+      start .pre .2,
       entry,
-      lent-fits (start .args .image .now) (start .args .c) (start .args .text .now) (start .args .reply .now) (known (c .before .before .before .before)) (c .before .before .if1 .left) entry,
+      lent-fits (start .args .f) (start .args .image .now) (start .args .c) (start .args .text .now) (start .args .reply .now) (known (c .before .before .before .before)) (c .before .before .if1 .left) entry,
     )
 
 keep-requires : tie.Need-keep-requires
@@ -58,8 +59,9 @@ keep-requires c κs =
       start .pre .0,
       start .pre .1,
       start .pre .2,
-      payload-fits (start .args .image .now) (start .args .c) (start .args .text .now) (start .args .reply .now) judged zero,
-      raises (start .args .image .now) (start .args .c) (start .args .text .now) (start .args .reply .now) judged zero,
+      start .pre .3,
+      payload-fits (start .args .f) (start .args .image .now) (start .args .c) (start .args .text .now) (start .args .reply .now) judged zero,
+      raises (start .args .f) (start .args .image .now) (start .args .c) (start .args .text .now) (start .args .reply .now) judged zero,
     )
 
 reply-requires-2 : tie.Need-reply-requires-2
@@ -75,7 +77,7 @@ returns-2 : tie.Need-returns-2
 returns-2 c =
     let start = c .before .before .before .before .before .before .before .before .before .before .before .before .before .before .before .before .before .before .before .before in
     exits
-    (accepts (start .args .image .now) (start .args .c) (start .args .text .now) (start .args .reply .now) (known (c .before .before .before .before .before .before .before .before .before .before .before .before)) (c .before .before .before .before .before .before .before .before .before .before .if1 .left))
+    (accepts (start .args .f) (start .args .image .now) (start .args .c) (start .args .text .now) (start .args .reply .now) (known (c .before .before .before .before .before .before .before .before .before .before .before .before)) (c .before .before .before .before .before .before .before .before .before .before .if1 .left))
     (c .reply3 .ensures)
     (c .before .before .before .keep .ensures)
     (c .before .before .before .before .before .before .before .show .ensures)

@@ -1,0 +1,79 @@
+-- Too few bytes are no command; else the one test decides. Assumes nothing.
+use borrow.Author.Needs.{needs}
+use Prim.Native.Nat.{ℕ, _-_}
+use native.Mathlib.Omega.{arith}
+use mathlib.Core.Path.{sym, ap, _∙_}
+use Rattle.lists.specs.Parts.{part, zeros}
+use Rattle.formats.proofs.Numbers.{numbers}
+use Rattle.commands.specs.declared.Parsed.the-variants.{Formed}
+use Rattle.commands.proofs.CommandBytes.{parsed-formed, parsed-malformed, formed-short, formed-by}
+use Rattle.commands.proofs.parse_as.Statement.{statement}
+use Rattle.commands.proofs.parse_as.Tie as tie
+
+fixed-requires : tie.Need-fixed-requires
+fixed-requires c κs = search needs
+
+returns : tie.Need-returns
+returns c = sym (parsed-malformed _ _ (formed-short _ _ (omega (arith, c .before .fixed .ensures, c .if1 .taken))))
+
+fields-requires : tie.Need-fields-requires
+fields-requires c κs = let n = numbers (c .before .before .before .args .f) in omega (arith, c .before .fixed .ensures, c .if1 .left)
+
+blank-at-requires : tie.Need-blank-at-requires
+blank-at-requires c κs = search needs
+
+cast-if2 : tie.Need-cast-if2
+cast-if2 c = search needs
+
+add-if2 : tie.Need-add-if2
+add-if2 c = search needs
+
+sub-all-zero : tie.Need-sub-all-zero
+sub-all-zero c = let n = numbers (c .before .before .before .before .before .before .args .f) in omega (arith, c .before .blank-at .ensures)
+
+part-all-zero-start : tie.Need-part-all-zero-start
+part-all-zero-start c = let n = numbers (c .before .before .before .before .before .before .args .f) in omega (arith, c .before .blank-at .ensures)
+
+part-all-zero-end : tie.Need-part-all-zero-end
+part-all-zero-end c = let n = numbers (c .before .before .before .before .before .before .args .f) in omega (arith, c .before .before .before .before .fixed .ensures, c .before .before .before .if1 .left)
+
+all-zero-requires : tie.Need-all-zero-requires
+all-zero-requires c κs = search needs
+
+well-formed-requires : tie.Need-well-formed-requires
+well-formed-requires c κs = search needs
+
+returns-2 : tie.Need-returns-2
+unfolding part
+returns-2 c =
+    let b = c .before .before .before .before .before in
+    let bytes = c .before .before .before .before .before .before .before .before .before .before .args .bytes .now in
+    let blank = c .before .before .all-zero .ensures ∙ ap (λ (n : ℕ). zeros (part n (36 - n) bytes)) (b .blank-at .ensures) in
+    ap Formed (b .before .fields .ensures)
+    ∙ sym (parsed-formed _ _ (formed-by _ bytes (b .before .fields .ensures) (b .before .before .before .fixed .ensures) blank (c .before .well-formed .ensures) ∙ c .if2 .taken))
+
+returns-3 : tie.Need-returns-3
+unfolding part
+returns-3 c =
+    let b = c .before .before .before .before .before in
+    let bytes = c .before .before .before .before .before .before .before .before .before .before .args .bytes .now in
+    let blank = c .before .before .all-zero .ensures ∙ ap (λ (n : ℕ). zeros (part n (36 - n) bytes)) (b .blank-at .ensures) in
+    sym (parsed-malformed _ _ (formed-by _ bytes (b .before .fields .ensures) (b .before .before .before .fixed .ensures) blank (c .before .well-formed .ensures) ∙ c .if2 .left))
+
+pub parse-as-spec : {M : Type 1} → statement M
+parse-as-spec =
+    tie.close
+    (tie.spec
+    fixed-requires
+    returns
+    fields-requires
+    blank-at-requires
+    cast-if2
+    add-if2
+    sub-all-zero
+    part-all-zero-start
+    part-all-zero-end
+    all-zero-requires
+    well-formed-requires
+    returns-2
+    returns-3)
