@@ -29,7 +29,7 @@ pub fn fields(f: Format, bytes: &[u8]) -> Command
         language: language_at(f, bytes),
         card: slices::inner::fixed_width::read_u16(bytes, CARD),
         pair: pair_at(bytes, VERIFIER),
-        opened: pair_at(bytes, formats::update_at(f)),
+        opened: pair_at(bytes, formats::inner::update_at(f)),
         expected: mark_at(bytes, EXPECTED),
         next: mark_at(bytes, NEXT),
         edition: slices::inner::fixed_width::read_u16(bytes, EDITION),

@@ -228,12 +228,12 @@ fn language_at(f: Format, bytes: &[u8]) -> u8
 pub fn parse_as(f: Format, bytes: &[u8]) -> Parsed
     ensures { λ r. ⌜ r ≡ parsed f (now (bytes .entry)) ⌝ }
 {
-    let fixed = formats::fixed(f);
+    let fixed = formats::inner::fixed(f);
     if bytes.len() < fixed {
         return Parsed::Malformed;
     }
     let c = inner::fields(f, bytes);
-    let blank = formats::blank_at(f);
+    let blank = formats::inner::blank_at(f);
     if (bytes.len() == fixed + (c.length as usize))
         & slices::all_zero(&bytes[blank..EXPECTED])
         & c.well_formed()

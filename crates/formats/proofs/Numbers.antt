@@ -3,7 +3,7 @@ use Prim.Native.Nat.{_+_, _*_, _≤_, _<_}
 use lib.Dec.{lit≤, lit<}
 use Rattle.formats.specs.declared.Format.{Format}
 use Rattle.formats.specs.declared.Format.the-variants.{V1, V2}
-use Rattle.formats.specs.Format.{translations, entrySize, originalAt, fromAt, lengthAt, fixed, updateAt, blankAt}
+use Rattle.formats.specs.Format.{translations, entrySize, originalAt, fromsAt, lengthsAt, fixed, updateAt, blankAt}
 
 pub record Numbers (f : Format) : Type 0 where
   pub some : 0 < translations f
@@ -11,8 +11,8 @@ pub record Numbers (f : Format) : Type 0 where
   pub least-entry : 26 ≤ entrySize f
   pub most-entry : entrySize f ≤ 48
   pub original : originalAt f + 2 ≤ entrySize f
-  pub froms : fromAt f + 2 * translations f ≤ entrySize f
-  pub lengths : lengthAt f + 2 * translations f ≤ entrySize f
+  pub froms : fromsAt f + 2 * translations f ≤ entrySize f
+  pub lengths : lengthsAt f + 2 * translations f ≤ entrySize f
   pub least-fixed : 52 ≤ fixed f
   pub most-fixed : fixed f ≤ 68
   pub update : updateAt f + 16 ≤ fixed f

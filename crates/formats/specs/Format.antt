@@ -24,13 +24,13 @@ abbrev pub originalAt : Format → ℕ
 originalAt V1 = 28
 originalAt V2 = 26
 
-abbrev pub fromAt : Format → ℕ
-fromAt V1 = 26
-fromAt V2 = 28
+abbrev pub fromsAt : Format → ℕ
+fromsAt V1 = 26
+fromsAt V2 = 28
 
-abbrev pub lengthAt : Format → ℕ
-lengthAt V1 = 30
-lengthAt V2 = 36
+abbrev pub lengthsAt : Format → ℕ
+lengthsAt V1 = 30
+lengthsAt V2 = 36
 
 -- How long a command is in front of its payload (rule 3.1), where its update pair stands, and where the zeros in front of its expected mark, which
 -- stands at 36, begin; version 1 has none.

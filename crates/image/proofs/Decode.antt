@@ -21,7 +21,7 @@ use Rattle.guard.specs.Entry.{entrySound, FitsEntry}
 use Rattle.guard.specs.declared.Entry.{Entry}
 use Rattle.formats.specs.declared.Format.{Format}
 use Rattle.formats.specs.declared.Format.the-variants.{V1, V2}
-use Rattle.formats.specs.Format.{version, translations, entrySize, fromAt, originalAt, lengthAt}
+use Rattle.formats.specs.Format.{version, translations, entrySize, fromsAt, originalAt, lengthsAt}
 use Rattle.image.specs.Layout.{sides, shapeOk, sizeOf, mostBytes, headerSize, entryPlace, entryEnd, bodyPlace}
 use Rattle.image.specs.Bytes.{magic, header, entryBytes, pad, countOf, roomOf, readEntry, entryAt}
 use Rattle.image.specs.Image.{Translation, Card, view, translationOf, noTranslation, noCard, sideText, cardEntry, bodies, encode, bodyAt, translationAt, cardAt, decode, tailZero, translationSound, cardSound, headerSound, sound, GoodCard, GoodCards}
@@ -176,9 +176,9 @@ entry-fits f image k t b =
       pair = record { s = le-part-bound 0 8 bytes own; x = le-part-bound 8 8 bytes own };
       mark = record { desk = le-part-bound 16 2 bytes own; transaction = le-part-bound 20 4 bytes own };
       edition = le-part-bound 24 2 bytes own;
-      from = le-part-bound (fromAt f + 2 * t) 2 bytes own;
+      from = le-part-bound (fromsAt f + 2 * t) 2 bytes own;
       original = le-part-bound (originalAt f) 2 bytes own;
-      translation = le-part-bound (lengthAt f + 2 * t) 2 bytes own;
+      translation = le-part-bound (lengthsAt f + 2 * t) 2 bytes own;
     }
 
 -- The translations of a card are bytes, and there are none beyond the version's.

@@ -17,7 +17,7 @@ use Rattle.guard.specs.Entry.{FitsEntry}
 use Rattle.guard.specs.declared.Entry.{Entry}
 use Rattle.formats.specs.declared.Format.{Format}
 use Rattle.formats.specs.declared.Format.the-variants.{V1, V2}
-use Rattle.formats.specs.Format.{entrySize, translations, fromAt, lengthAt}
+use Rattle.formats.specs.Format.{entrySize, translations, fromsAt, lengthsAt}
 use Rattle.image.specs.Layout.{entryEnd}
 use Rattle.image.specs.Bytes.{entryBytes, readEntry, pad}
 use Rattle.image.specs.Image.{Card, view, cardEntry}
@@ -25,7 +25,7 @@ use Rattle.image.proofs.Encode.{part-whole}
 use Rattle.image.proofs.Written.{pad-text}
 
 module _ (card : Card) where
-  from-back : (f : Format) (t : ℕ) → t < translations f → view t card .from < 65536 → field (fromAt f + 2 * t) 2 (cardEntry f card) ≡ view t card .from
+  from-back : (f : Format) (t : ℕ) → t < translations f → view t card .from < 65536 → field (fromsAt f + 2 * t) 2 (cardEntry f card) ≡ view t card .from
   unfolding entryBytes part toLe spread table
   from-back V1 zero h e = le-toLe 2 (view 0 card .from) e
   from-back V1 (suc t) h e = absurd (omega arith)
@@ -36,7 +36,7 @@ module _ (card : Card) where
   from-back V2 (suc (suc (suc (suc t)))) h e = absurd (omega arith)
 
   length-back : (f : Format) (t : ℕ) → t < translations f → view t card .translation < 65536 →
-      field (lengthAt f + 2 * t) 2 (cardEntry f card) ≡ view t card .translation
+      field (lengthsAt f + 2 * t) 2 (cardEntry f card) ≡ view t card .translation
   unfolding entryBytes part toLe spread table
   length-back V1 zero h e = le-toLe 2 (view 0 card .translation) e
   length-back V1 (suc t) h e = absurd (omega arith)

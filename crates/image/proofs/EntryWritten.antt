@@ -13,7 +13,7 @@ use Rattle.lists.proofs.Parts.{splice-within, splice-part, length-splice}
 use Rattle.guard.specs.declared.Entry.{Entry}
 use Rattle.formats.specs.declared.Format.{Format}
 use Rattle.formats.specs.declared.Format.the-variants.{V1, V2}
-use Rattle.formats.specs.Format.{translations, entrySize, originalAt, fromAt, lengthAt}
+use Rattle.formats.specs.Format.{translations, entrySize, originalAt, fromsAt, lengthsAt}
 use Rattle.formats.proofs.Numbers.{numbers}
 use Rattle.commands.specs.Bytes.{pairBytes}
 use Rattle.image.specs.Bytes.{entryMark, entryBytes}
@@ -66,18 +66,18 @@ module _ (f : Format) (t : ℕ) (e : Entry) (known : t < translations f) (at : �
       let l3 : length v3 ≡ entrySize f = still 24 (toLe 2 (e .edition)) v2 (omega (arith, n)) l2 in
       let v4 = splice (0 + originalAt f) (toLe 2 (e .original)) v3 in
       let l4 : length v4 ≡ entrySize f = still (originalAt f) (toLe 2 (e .original)) v3 (omega (arith, n)) l3 in
-      let v5 = splice (0 + (fromAt f + 2 * t)) (toLe 2 (e .from)) v4 in
-      let l5 : length v5 ≡ entrySize f = still (fromAt f + 2 * t) (toLe 2 (e .from)) v4 (omega (arith, n)) l4 in
+      let v5 = splice (0 + (fromsAt f + 2 * t)) (toLe 2 (e .from)) v4 in
+      let l5 : length v5 ≡ entrySize f = still (fromsAt f + 2 * t) (toLe 2 (e .from)) v4 (omega (arith, n)) l4 in
       let s1 : splice at pair (splice at v l) ≡ splice at v1 l = ap (λ (j : ℕ). splice j pair (splice at v l)) (sym (add-zero at)) ∙ one 0 pair v (omega (arith, n)) long in
       ap (λ (u : List ℕ). countsWith f t e at (splice (at + 16) mark u)) s1
       ∙ ap (countsWith f t e at) (one 16 mark v1 (omega (arith, n)) l1)
-      ∙ ap (λ (u : List ℕ). splice (at + (lengthAt f + 2 * t)) (toLe 2 (e .translation)) (splice (at + (fromAt f + 2 * t)) (toLe 2 (e .from)) (splice (at + originalAt f) (toLe 2 (e .original)) u)))
+      ∙ ap (λ (u : List ℕ). splice (at + (lengthsAt f + 2 * t)) (toLe 2 (e .translation)) (splice (at + (fromsAt f + 2 * t)) (toLe 2 (e .from)) (splice (at + originalAt f) (toLe 2 (e .original)) u)))
       (one 24 (toLe 2 (e .edition)) v2 (omega (arith, n)) l2)
-      ∙ ap (λ (u : List ℕ). splice (at + (lengthAt f + 2 * t)) (toLe 2 (e .translation)) (splice (at + (fromAt f + 2 * t)) (toLe 2 (e .from)) u))
+      ∙ ap (λ (u : List ℕ). splice (at + (lengthsAt f + 2 * t)) (toLe 2 (e .translation)) (splice (at + (fromsAt f + 2 * t)) (toLe 2 (e .from)) u))
       (one (originalAt f) (toLe 2 (e .original)) v3 (omega (arith, n)) l3)
-      ∙ ap (λ (u : List ℕ). splice (at + (lengthAt f + 2 * t)) (toLe 2 (e .translation)) u)
-      (one (fromAt f + 2 * t) (toLe 2 (e .from)) v4 (omega (arith, n)) l4)
-      ∙ one (lengthAt f + 2 * t) (toLe 2 (e .translation)) v5 (omega (arith, n)) l5
+      ∙ ap (λ (u : List ℕ). splice (at + (lengthsAt f + 2 * t)) (toLe 2 (e .translation)) u)
+      (one (fromsAt f + 2 * t) (toLe 2 (e .from)) v4 (omega (arith, n)) l4)
+      ∙ one (lengthsAt f + 2 * t) (toLe 2 (e .translation)) v5 (omega (arith, n)) l5
 
 -- Where an entry stands, written as seen in language t: the bytes of the entry as it is then seen in each language.
 pub entry-written : (f : Format) (t : ℕ) (e : Entry) (see : ℕ → Entry) (at : ℕ) (l : List ℕ) → t < translations f → at + entrySize f ≤ length l

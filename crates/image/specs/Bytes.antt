@@ -10,7 +10,7 @@ use Rattle.stamps.specs.declared.Mark.{Mark}
 use Rattle.lists.specs.Parts.{part, spread, table}
 use Rattle.formats.specs.declared.Format.{Format}
 use Rattle.formats.specs.declared.Format.the-variants.{V1, V2}
-use Rattle.formats.specs.Format.{version, translations, entrySize, originalAt, fromAt, lengthAt}
+use Rattle.formats.specs.Format.{version, translations, entrySize, originalAt, fromsAt, lengthsAt}
 use Rattle.image.specs.Layout.{entryPlace}
 
 -- The header's first numbers, and the whole header (rule 2.3).
@@ -61,9 +61,9 @@ readEntry f t bytes =
       pair = pairAt 0 bytes;
       mark = record { desk = field 16 2 bytes; transaction = field 20 4 bytes };
       edition = field 24 2 bytes;
-      from = field (fromAt f + 2 * t) 2 bytes;
+      from = field (fromsAt f + 2 * t) 2 bytes;
       original = field (originalAt f) 2 bytes;
-      translation = field (lengthAt f + 2 * t) 2 bytes;
+      translation = field (lengthsAt f + 2 * t) 2 bytes;
     }
 
 -- The entry of card k, as seen in translation t.

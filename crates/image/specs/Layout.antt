@@ -6,7 +6,7 @@ use mathlib.Core.Bool.{Bool}
 use lib.Dec.{leb, eqb}
 use Rattle.lists.specs.Table.{all}
 use Rattle.formats.specs.declared.Format.{Format}
-use Rattle.formats.specs.Format.{translations, entrySize, lengthAt}
+use Rattle.formats.specs.Format.{translations, entrySize, lengthsAt}
 
 -- The limits of N, C and the whole (rule 2.2).
 abbrev pub mostCards : ℕ
@@ -51,7 +51,7 @@ abbrev pub entryPlace : Format → ℕ → ℕ
 entryPlace f k = headerSize + entrySize f * k
 
 abbrev pub entryEnd : Format → ℕ
-entryEnd f = lengthAt f + 2 * translations f
+entryEnd f = lengthsAt f + 2 * translations f
 
 abbrev pub bodyPlace : Format → ℕ → ℕ → ℕ → ℕ → ℕ
 bodyPlace f n c k side = headerSize + entrySize f * n + (sides f * k + side) * c

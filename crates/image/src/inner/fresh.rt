@@ -18,7 +18,7 @@ fn write_header(f: Format, image: &mut [u8], n: u16, c: u16)
     requires { ⌜ 16 ≤ length (now image) ⌝ }
     ensures { λ _. ⌜ now (image .exit) ≡ splice 0 (headerNumbers f n c) (now (image .entry)) ⌝ }
 {
-    let version = formats::version(f);
+    let version = formats::inner::version(f);
     le::write_u32(image, 0, MAGIC);
     le::write_u16(image, VERSION_AT, version);
     le::write_u16(image, CARDS_AT, n);

@@ -1,7 +1,7 @@
 // Sizes and places in an image of each version: numbers alone.
 ghost use mathlib.Core.Path.{_≡_};
 ghost use Rattle.image.specs.Layout.{sides, sizeOf, shapeOk, entryPlace, entryEnd, bodyPlace};
-ghost use Rattle.formats.specs.Format.{fromAt, lengthAt};
+ghost use Rattle.formats.specs.Format.{fromsAt, lengthsAt};
 ghost use Prim.Native.Nat.{_+_, _*_};
 use formats::Format;
 
@@ -35,35 +35,35 @@ pub const MAGIC: u32 = 0x0031_4352;
 pub fn sides(f: Format) -> usize
     ensures { λ r. ⌜ r ≡ sides f ⌝ }
 {
-    let count = formats::translations(f);
+    let count = formats::inner::translations(f);
     1 + (count as usize)
 }
 
 // Where an entry has the edition that translation t was made from, and that translation's length.
 pub fn from_place(f: Format, t: u8) -> usize
-    ensures { λ r. ⌜ r ≡ fromAt f + 2 * t ⌝ }
+    ensures { λ r. ⌜ r ≡ fromsAt f + 2 * t ⌝ }
 {
-    formats::from_at(f) + 2 * (t as usize)
+    formats::inner::froms_at(f) + 2 * (t as usize)
 }
 
 pub fn length_place(f: Format, t: u8) -> usize
-    ensures { λ r. ⌜ r ≡ lengthAt f + 2 * t ⌝ }
+    ensures { λ r. ⌜ r ≡ lengthsAt f + 2 * t ⌝ }
 {
-    formats::length_at(f) + 2 * (t as usize)
+    formats::inner::lengths_at(f) + 2 * (t as usize)
 }
 
 // Where the numbers of an entry end in it.
 pub fn entry_end(f: Format) -> usize
     ensures { λ r. ⌜ r ≡ entryEnd f ⌝ }
 {
-    length_place(f, formats::translations(f))
+    length_place(f, formats::inner::translations(f))
 }
 
 // The length of an image of n cards with room c.
 pub fn size_of(f: Format, n: u16, c: u16) -> usize
     ensures { λ r. ⌜ r ≡ sizeOf f n c ⌝ }
 {
-    let entry = formats::entry_size(f);
+    let entry = formats::inner::entry_size(f);
     let sides = sides(f);
     HEADER + entry * (n as usize) + sides * (c as usize) * (n as usize)
 }
@@ -88,7 +88,7 @@ pub fn shape_ok(f: Format, n: usize, c: usize) -> bool
 pub fn entry_place(f: Format, k: u16) -> usize
     ensures { λ r. ⌜ r ≡ entryPlace f k ⌝ }
 {
-    let entry = formats::entry_size(f);
+    let entry = formats::inner::entry_size(f);
     HEADER + entry * (k as usize)
 }
 
@@ -96,7 +96,7 @@ pub fn entry_place(f: Format, k: u16) -> usize
 pub fn body_place(f: Format, n: u16, c: u16, k: u16, side: u8) -> usize
     ensures { λ r. ⌜ r ≡ bodyPlace f n c k side ⌝ }
 {
-    let entry = formats::entry_size(f);
+    let entry = formats::inner::entry_size(f);
     let sides = sides(f);
     HEADER + entry * (n as usize) + (sides * (k as usize) + (side as usize)) * (c as usize)
 }

@@ -3,7 +3,7 @@ ghost use mathlib.Core.Path.{_≡_};
 ghost use Prim.Native.Nat.{_+_, _*_, _≤_, _<_};
 ghost use lib.ListN.{length};
 ghost use Rattle.lists.specs.Parts.{part, splice};
-ghost use Rattle.formats.specs.Format.{translations, entrySize, originalAt, fromAt, lengthAt};
+ghost use Rattle.formats.specs.Format.{translations, entrySize, originalAt, fromsAt, lengthsAt};
 ghost use Rattle.image.specs.Layout.{entryPlace};
 ghost use Rattle.image.specs.Bytes.{countOf, roomOf, readEntry, entryAt};
 use crate::inner::layout;
@@ -34,7 +34,7 @@ pub fn room(image: &[u8]) -> u16
 // The entry that an entry's bytes stand for, as seen in translation t.
 fn entry_of(f: Format, bytes: &[u8], t: u8) -> Entry
     requires { ⌜ (26 ≤ length (now bytes)) × (originalAt f + 2 ≤ length (now bytes))
-        × (fromAt f + 2 * t + 2 ≤ length (now bytes)) × (lengthAt f + 2 * t + 2 ≤ length (now bytes)) ⌝ }
+        × (fromsAt f + 2 * t + 2 ≤ length (now bytes)) × (lengthsAt f + 2 * t + 2 ≤ length (now bytes)) ⌝ }
     ensures { λ r. ⌜ r ≡ readEntry f t (now (bytes .entry)) ⌝ }
 {
     Entry {
@@ -48,7 +48,7 @@ fn entry_of(f: Format, bytes: &[u8], t: u8) -> Entry
         },
         edition: le::read_u16(bytes, 24),
         from: le::read_u16(bytes, layout::from_place(f, t)),
-        original: le::read_u16(bytes, formats::original_at(f)),
+        original: le::read_u16(bytes, formats::inner::original_at(f)),
         translation: le::read_u16(bytes, layout::length_place(f, t)),
     }
 }
@@ -59,7 +59,7 @@ pub fn entry_at(f: Format, image: &[u8], k: u16, t: u8) -> Entry
     ensures { λ r. ⌜ r ≡ entryAt f (now (image .entry)) k t ⌝ }
 {
     let at = layout::entry_place(f, k);
-    let end = at + formats::entry_size(f);
+    let end = at + formats::inner::entry_size(f);
     entry_of(f, &image[at..end], t)
 }
 

@@ -49,7 +49,7 @@ pub fn header_sound(f: Format, image: &[u8]) -> bool
     let n = read::count(image);
     let c = read::room(image);
     (le::read_u32(image, 0) == MAGIC)
-        & (le::read_u16(image, VERSION_AT) == formats::version(f))
+        & (le::read_u16(image, VERSION_AT) == formats::inner::version(f))
         & layout::shape_ok(f, n as usize, c as usize)
         & slices::all_zero(&image[ZEROS_AT..HEADER])
         & (image.len() == layout::size_of(f, n, c))
@@ -79,7 +79,7 @@ fn translations_sound(f: Format, image: &[u8], k: u16) -> bool
     requires { ⌜ (length (now image) ≡ sizeOf f (countOf (now image)) (roomOf (now image))) × (k < countOf (now image)) ⌝ }
     ensures { λ r. ⌜ r ≡ every (translationSound f (now (image .entry)) k) (translations f) ⌝ }
 {
-    let count = formats::translations(f);
+    let count = formats::inner::translations(f);
     let mut t: u8 = 0;
     while t < count {
         if !translation_sound(f, image, k, t) {
@@ -103,7 +103,7 @@ pub fn card_sound(f: Format, image: &[u8], k: u16) -> bool
     let e = read::entry_at(f, image, k, 0);
     let at = layout::entry_place(f, k);
     let start = at + layout::entry_end(f);
-    let end = at + formats::entry_size(f);
+    let end = at + formats::inner::entry_size(f);
     (le::read_u16(image, at + 18) == 0)
         & slices::all_zero(&image[start..end])
         & tail_zero(image, layout::body_place(f, n, c, k, 0), e.original, c)

@@ -3,7 +3,7 @@ ghost use mathlib.Core.Path.{_≡_};
 ghost use Prim.Native.Nat.{_+_, _*_, _≤_, _<_};
 ghost use lib.ListN.{length};
 ghost use Rattle.lists.specs.Parts.{splice};
-ghost use Rattle.formats.specs.Format.{translations, entrySize, originalAt, fromAt, lengthAt};
+ghost use Rattle.formats.specs.Format.{translations, entrySize, originalAt, fromsAt, lengthsAt};
 ghost use Rattle.image.specs.Layout.{entryPlace};
 ghost use Rattle.commands.specs.Bytes.{pairBytes};
 ghost use Rattle.image.specs.Bytes.{entryMark, pad};
@@ -37,10 +37,10 @@ fn write_mark(image: &mut [u8], at: usize, mark: Mark)
 // Writes the counts and lengths of the entry at `at`, as seen in translation t.
 fn write_counts(f: Format, image: &mut [u8], at: usize, t: u8, e: Entry)
     requires { ⌜ (at + 26 ≤ length (now image)) × (at + originalAt f + 2 ≤ length (now image))
-        × (at + (fromAt f + 2 * t) + 2 ≤ length (now image)) × (at + (lengthAt f + 2 * t) + 2 ≤ length (now image)) ⌝ }
+        × (at + (fromsAt f + 2 * t) + 2 ≤ length (now image)) × (at + (lengthsAt f + 2 * t) + 2 ≤ length (now image)) ⌝ }
     ensures { λ _. ⌜ now (image .exit) ≡ countsWith f t e at (now (image .entry)) ⌝ }
 {
-    let original = formats::original_at(f);
+    let original = formats::inner::original_at(f);
     let from = layout::from_place(f, t);
     let length = layout::length_place(f, t);
     le::write_u16(image, at + 24, e.edition);

@@ -37,13 +37,13 @@ pub fn show(f: Format, image: &[u8], c: Command, e: Entry, reply: &mut [u8])
     ensures { λ _. ⌜ now (reply .exit) ≡ splice 0 (textRead (cardAt f (now (image .entry)) (c .card)) c) (now (reply .entry)) ⌝ }
 {
     if c.reads_original() {
-        let at = body_at(f, image, c.card, 0);
-        image::inner::read::copy_text(image, at, e.original, reply);
+        let from = body_at(f, image, c.card, 0);
+        image::inner::read::copy_text(image, from, e.original, reply);
         return;
     }
     if c.reads_translation() {
-        let at = body_at(f, image, c.card, c.language + 1);
-        image::inner::read::copy_text(image, at, e.translation, reply);
+        let from = body_at(f, image, c.card, c.language + 1);
+        image::inner::read::copy_text(image, from, e.translation, reply);
     }
 }
 

@@ -47,6 +47,6 @@ pub fn step(f: Format, image: &mut [u8], command: &[u8], reply: &mut [u8]) -> An
     if image::inner::read::count(image) <= c.card {
         return guard::refusal(NO_CARD);
     }
-    let start = formats::fixed(f);
+    let start = formats::inner::fixed(f);
     carry(f, image, c, &command[start..], reply)
 }

@@ -4,17 +4,17 @@ use borrow.Author.Needs.{needs}
 use Rattle.image.proofs.inner.layout.length_place.Statement.{statement}
 use Rattle.image.proofs.inner.layout.length_place.Tie as tie
 
-length-at-requires : tie.Need-length-at-requires
-length-at-requires c κs = search needs
+lengths-at-requires : tie.Need-lengths-at-requires
+lengths-at-requires c κs = search needs
 
 mul-result : tie.Need-mul-result
 mul-result c = search needs
 
 add-result : tie.Need-add-result
-add-result c = let n = numbers (c .before .args .f) in omega (arith, n, c .length-at .ensures)
+add-result c = let n = numbers (c .before .args .f) in omega (arith, n, c .lengths-at .ensures)
 
 returns : tie.Need-returns
 returns c = search needs
 
 pub length-place-spec : {M : Type 1} → statement M
-length-place-spec = tie.close (tie.spec length-at-requires mul-result add-result returns)
+length-place-spec = tie.close (tie.spec lengths-at-requires mul-result add-result returns)
