@@ -2,7 +2,9 @@
 //! `crates/capi`. Slices are a pointer and a length there, arrays a pointer.
 
 use second::short::Kept;
-use second::{Held, Language, Place, Turn};
+use second::{Format, Held, Language, Place, Turn};
+
+use crate::version2;
 
 mod exported {
     extern "C" {
@@ -61,13 +63,19 @@ mod exported {
 }
 
 /// Makes a fresh image: 0, or 14 and nothing written.
-pub fn make(image: &mut [u8], cards: u64, room: u64) -> u8 {
+pub fn make(format: Format, image: &mut [u8], cards: u64, room: u64) -> u8 {
+    if format == Format::V2 {
+        return version2::make(image, cards, room);
+    }
     // SAFETY: the pointer and the length are the slice's.
     unsafe { exported::lupaniele_make(image.as_mut_ptr(), image.len(), cards, room) }
 }
 
 /// Whether the bytes are a sound image.
-pub fn sound(image: &[u8]) -> bool {
+pub fn sound(format: Format, image: &[u8]) -> bool {
+    if format == Format::V2 {
+        return version2::sound(image);
+    }
     // SAFETY: the pointer and the length are the slice's.
     unsafe { exported::lupaniele_sound(image.as_ptr(), image.len()) }
 }
@@ -82,7 +90,10 @@ pub struct Answer {
 }
 
 /// One request on an image.
-pub fn answer(image: &mut [u8], command: &[u8], reply: &mut [u8]) -> Answer {
+pub fn answer(format: Format, image: &mut [u8], command: &[u8], reply: &mut [u8]) -> Answer {
+    if format == Format::V2 {
+        return version2::answer(image, command, reply);
+    }
     // A value that no field has, to see that each is written.
     let mut fields = [0x5a5a_5a5a_5a5a_5a5a; 7];
     // SAFETY: the pointers and lengths are the slices', which do not overlap.
@@ -212,13 +223,16 @@ pub fn shown(held: &Held, asked: u8) -> (u8, u64) {
 pub fn asked(language: Language) -> u8 {
     match language {
         Language::Original => 0,
-        Language::Translation => 1,
+        Language::Translation(_) => 1,
     }
 }
 
 /// Whether a whole command stands at a place of a stream, and the place
 /// behind it, or the place itself.
-pub fn next(stream: &[u8], at: u64) -> (bool, u64) {
+pub fn next(format: Format, stream: &[u8], at: u64) -> (bool, u64) {
+    if format == Format::V2 {
+        return version2::next(stream, at);
+    }
     let mut end = 0x5a5a_5a5a;
     // SAFETY: the pointer and the length are the slice's.
     let whole = unsafe { exported::lupaniele_next(stream.as_ptr(), stream.len(), at, &mut end) };
@@ -226,7 +240,10 @@ pub fn next(stream: &[u8], at: u64) -> (bool, u64) {
 }
 
 /// The byte where the walk of a stream ends.
-pub fn end(stream: &[u8]) -> u64 {
+pub fn end(format: Format, stream: &[u8]) -> u64 {
+    if format == Format::V2 {
+        return version2::end(stream);
+    }
     // SAFETY: the pointer and the length are the slice's.
     unsafe { exported::lupaniele_end(stream.as_ptr(), stream.len()) }
 }
