@@ -4,16 +4,14 @@ use Prim.Native.Nat.{ℕ}
 use mathlib.Core.Path.{_≡_}
 use mathlib.Core.List.{List, [], _∷_, _++_, map, reverse}
 use lib.Dec.{T}
-use lib.ListN.{length, replicate}
-use Rattle.stamps.specs.Stamp.{shared, exclusive, noMark, noPair}
-use Rattle.commands.specs.Bytes.{commandBytes}
+use lib.ListN.{replicate}
 use Rattle.formats.specs.declared.Format.the-variants.{V1, V2}
 use Rattle.image.specs.Layout.{shapeOk, sizeOf}
 use Rattle.image.specs.Image.{fresh}
 use Rattle.image.specs.Convert.{converted, convertNumber}
 use Rattle.model.specs.Words.{Sent, Event, imageAfter, history, logOf}
 use Rattle.model.specs.Claims.{AllBytes, Claim}
-use Rattle.model.specs.Cases.{Got, run, got, pair, stamp1, stamp2, writeOriginal, writeTranslation, readTranslation}
+use Rattle.model.specs.Cases.{run, names, gets, stamp1, writeOriginal, writeTranslation}
 
 -- The image of version 1 that a list of requests leaves of a fresh one.
 unfoldable pub imageBefore : ℕ → ℕ → List Sent → List ℕ
@@ -37,28 +35,6 @@ Demand3Across = (n c : ℕ) → T (shapeOk V2 n c) → (sent more : List Sent) �
 abbrev pub told : List Sent
 told = writeOriginal stamp1 stamp1 (50 ∷ 48 ∷ 53 ∷ []) ∷ writeTranslation stamp1 stamp1 1 (52 ∷ 48 ∷ 49 ∷ []) ∷ []
 
--- A command of version 2 for card 0 by the pair of stamps 1.1.0, that names a language.
-abbrev pub names : ℕ → ℕ → ℕ → List ℕ → List ℕ → Sent
-names act language edition text lent =
-    record {
-      command =
-          commandBytes V2
-          (record {
-            act = act;
-            mode = exclusive;
-            language = language;
-            card = 0;
-            pair = pair stamp1 stamp1;
-            opened = noPair;
-            expected = noMark;
-            next = noMark;
-            edition = edition;
-            length = length text;
-          })
-          text;
-      lent = lent;
-    }
-
 -- Language 0 is read, language 1 is behind, is written and is read; the original is written again, and both are behind.
 abbrev pub toldAfter : List Sent
 toldAfter =
@@ -71,9 +47,6 @@ toldAfter =
     ∷ names 2 0 0 [] (replicate 3 0)
     ∷ names 2 1 0 [] (replicate 3 0)
     ∷ []
-
-abbrev pub gets : ℕ → ℕ → ℕ → ℕ → List ℕ → Got
-gets number edition from count reply = got number stamp1 stamp1 0 0 edition from count reply
 
 abbrev pub StoryAcross : Type 0
 StoryAcross =
