@@ -1,7 +1,6 @@
 // The library for Rust and C: each function is exported under its plain name, takes any input, and answers what the libraries answer.
 // A slice is a pointer and a length, a reference to a number or to an array a pointer.
 pub mod agree;
-pub mod conversion;
 pub mod desks;
 pub mod histories;
 pub mod images;
@@ -11,3 +10,4 @@ pub mod outputs;
 pub mod queues;
 pub mod shown;
 pub mod streams;
+pub mod versions;

@@ -13,3 +13,4 @@ pub mod Sound
 pub mod Cases
 pub mod Words
 pub mod Conversion
+pub mod Versions

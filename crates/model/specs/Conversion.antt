@@ -4,16 +4,14 @@ use Prim.Native.Nat.{ℕ}
 use mathlib.Core.Path.{_≡_}
 use mathlib.Core.List.{List, [], _∷_, _++_, map, reverse}
 use lib.Dec.{T}
-use lib.ListN.{length, replicate}
-use Rattle.stamps.specs.Stamp.{shared, exclusive, noMark, noPair}
-use Rattle.commands.specs.Bytes.{commandBytes}
+use lib.ListN.{replicate}
 use Rattle.formats.specs.declared.Format.the-variants.{V1, V2}
 use Rattle.image.specs.Layout.{shapeOk, sizeOf}
 use Rattle.image.specs.Image.{fresh}
 use Rattle.image.specs.Convert.{converted, convertNumber}
 use Rattle.model.specs.Words.{Sent, Event, imageAfter, history, logOf}
 use Rattle.model.specs.Claims.{AllBytes, Claim}
-use Rattle.model.specs.Cases.{Got, run, got, pair, stamp1, stamp2, writeOriginal, writeTranslation, readTranslation}
+use Rattle.model.specs.Cases.{run, names, gotIn, stamp1, writeOriginal, writeTranslation}
 
 -- The image of version 1 that a list of requests leaves of a fresh one.
 unfoldable pub imageBefore : ℕ → ℕ → List Sent → List ℕ
@@ -37,54 +35,29 @@ Demand3Across = (n c : ℕ) → T (shapeOk V2 n c) → (sent more : List Sent) �
 abbrev pub sentBefore : List Sent
 sentBefore = writeOriginal stamp1 stamp1 (50 ∷ 48 ∷ 53 ∷ []) ∷ writeTranslation stamp1 stamp1 1 (52 ∷ 48 ∷ 49 ∷ []) ∷ []
 
--- A command of version 2 for card 0 by the pair of stamps 1.1.0, that names a language.
-abbrev pub sendsInLanguage : ℕ → ℕ → ℕ → List ℕ → List ℕ → Sent
-sendsInLanguage act language edition text lent =
-    record {
-      command =
-          commandBytes V2
-          (record {
-            act = act;
-            mode = exclusive;
-            language = language;
-            card = 0;
-            pair = pair stamp1 stamp1;
-            opened = noPair;
-            expected = noMark;
-            next = noMark;
-            edition = edition;
-            length = length text;
-          })
-          text;
-      lent = lent;
-    }
-
 -- Language 0 is read, language 1 is behind, is written and is read; the original is written again, and both are behind.
 abbrev pub sentAfter : List Sent
 sentAfter =
-    sendsInLanguage 2 0 0 [] (replicate 3 0)
-    ∷ sendsInLanguage 2 1 0 [] (replicate 3 0)
-    ∷ sendsInLanguage 4 1 1 (52 ∷ 48 ∷ 50 ∷ []) []
-    ∷ sendsInLanguage 2 1 0 [] (replicate 3 0)
-    ∷ sendsInLanguage 2 0 0 [] (replicate 3 0)
-    ∷ sendsInLanguage 3 0 0 (50 ∷ 48 ∷ 54 ∷ []) []
-    ∷ sendsInLanguage 2 0 0 [] (replicate 3 0)
-    ∷ sendsInLanguage 2 1 0 [] (replicate 3 0)
+    names 2 0 0 [] (replicate 3 0)
+    ∷ names 2 1 0 [] (replicate 3 0)
+    ∷ names 4 1 1 (52 ∷ 48 ∷ 50 ∷ []) []
+    ∷ names 2 1 0 [] (replicate 3 0)
+    ∷ names 2 0 0 [] (replicate 3 0)
+    ∷ names 3 0 0 (50 ∷ 48 ∷ 54 ∷ []) []
+    ∷ names 2 0 0 [] (replicate 3 0)
+    ∷ names 2 1 0 [] (replicate 3 0)
     ∷ []
-
-abbrev pub gotInLanguage : ℕ → ℕ → ℕ → ℕ → List ℕ → Got
-gotInLanguage number edition from count reply = got number stamp1 stamp1 0 0 edition from count reply
 
 abbrev pub StoryAcross : Type 0
 StoryAcross =
     run V2 (converted (imageBefore 1 16 sentBefore)) sentAfter
-    ≡ (gotInLanguage 0 1 1 3 (52 ∷ 48 ∷ 49 ∷ [])
-    ∷ gotInLanguage 6 1 0 0 (replicate 3 0)
-    ∷ gotInLanguage 0 1 1 0 []
-    ∷ gotInLanguage 0 1 1 3 (52 ∷ 48 ∷ 50 ∷ [])
-    ∷ gotInLanguage 0 1 1 3 (52 ∷ 48 ∷ 49 ∷ [])
+    ≡ (gotIn 0 1 1 3 (52 ∷ 48 ∷ 49 ∷ [])
+    ∷ gotIn 6 1 0 0 (replicate 3 0)
+    ∷ gotIn 0 1 1 0 []
+    ∷ gotIn 0 1 1 3 (52 ∷ 48 ∷ 50 ∷ [])
+    ∷ gotIn 0 1 1 3 (52 ∷ 48 ∷ 49 ∷ [])
     -- an act without a language is answered translated-from of language 0
-    ∷ gotInLanguage 0 2 1 0 []
-    ∷ gotInLanguage 6 2 1 0 (replicate 3 0)
-    ∷ gotInLanguage 6 2 1 0 (replicate 3 0)
+    ∷ gotIn 0 2 1 0 []
+    ∷ gotIn 6 2 1 0 (replicate 3 0)
+    ∷ gotIn 6 2 1 0 (replicate 3 0)
     ∷ [])

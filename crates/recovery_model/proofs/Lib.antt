@@ -3,3 +3,4 @@ pub mod Sending
 pub mod Pairs
 pub mod Texts
 pub mod Cases
+pub mod Versions

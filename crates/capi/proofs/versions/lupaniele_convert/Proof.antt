@@ -1,7 +1,7 @@
 -- What the call ensures. Assumes nothing.
 use borrow.Author.Needs.{needs}
-use Rattle.capi.proofs.conversion.lupaniele_convert.Statement.{statement}
-use Rattle.capi.proofs.conversion.lupaniele_convert.Tie as tie
+use Rattle.capi.proofs.versions.lupaniele_convert.Statement.{statement}
+use Rattle.capi.proofs.versions.lupaniele_convert.Tie as tie
 
 convert-requires : tie.Need-convert-requires
 convert-requires c κs = search needs
