@@ -717,24 +717,24 @@ trialAllBehind =
     }
 
 -- A command of version 2 that is malformed.
-abbrev pub malformed : List ℕ → Trial
-malformed command =
+abbrev pub malformedSecond : List ℕ → Trial
+malformedSecond command =
     record { version = V2; start = emptyOf2; sent = record { command = command; lent = [] } ∷ []; expected = got 1 0 0 0 0 0 0 0 [] ∷ [] }
 
 abbrev pub trialsMalformed : List Trial
 trialsMalformed =
     -- a language that there is not, read and written
-    malformed (names 2 4 0 [] [] .command)
-    ∷ malformed (names 4 4 1 text401 [] .command)
+    malformedSecond (names 2 4 0 [] [] .command)
+    ∷ malformedSecond (names 4 4 1 text401 [] .command)
     -- a language named by an act that has none
-    ∷ malformed (names 1 1 0 [] [] .command)
-    ∷ malformed (names 3 1 0 text205 [] .command)
-    ∷ malformed (names 5 1 0 [] [] .command)
+    ∷ malformedSecond (names 1 1 0 [] [] .command)
+    ∷ malformedSecond (names 3 1 0 text205 [] .command)
+    ∷ malformedSecond (names 5 1 0 [] [] .command)
     -- the zeros behind the language: the first and the last of them
-    ∷ malformed (set (names 5 0 0 [] [] .command) 21 1)
-    ∷ malformed (set (names 5 0 0 [] [] .command) 35 1)
+    ∷ malformedSecond (set (names 5 0 0 [] [] .command) 21 1)
+    ∷ malformedSecond (set (names 5 0 0 [] [] .command) 35 1)
     -- a command of version 1, which is 52 bytes long
-    ∷ malformed (verify exclusive stamp1 stamp1 .command)
+    ∷ malformedSecond (verify exclusive stamp1 stamp1 .command)
     ∷ []
 
 -- With 16 zeros behind it, it is one of version 2.
