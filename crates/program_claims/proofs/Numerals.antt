@@ -7,7 +7,6 @@ use mathlib.Core.Bool.{Bool, true, false}
 use lib.Dec.{ltb}
 use lib.ListN.{length, getD, length-append, List·getD-append}
 use borrow.Author.Tests.{ltb-true, ltb-false}
-use Rattle.formats.specs.declared.Format.the-variants.{V1}
 use Rattle.program.specs.Text.{decimalWithin, decimal}
 use Rattle.program_claims.specs.Claims.{readOn, Numeral}
 
@@ -15,7 +14,7 @@ use Rattle.program_claims.specs.Claims.{readOn, Numeral}
 along : (P : ℕ → List ℕ → Type 0) → ((n : ℕ) → n < 10 → P n ((48 + n) ∷ [])) →
     ((n : ℕ) (l : List ℕ) → 10 ≤ n → P (n / 10) l → P n (l ++ ((48 + n % 10) ∷ []))) → (n : ℕ) → P n (decimal n)
 unfolding decimal decimalWithin
-along V1 P low more n = go n n (omega arith) (ltb n 10) refl
+along P low more n = go n n (omega arith) (ltb n 10) refl
   where
     go : (f n : ℕ) → n ≤ f → (b : Bool) → ltb n 10 ≡ b → P n (decimalWithin f b n)
     go zero n h b e = low n (omega arith)
@@ -30,7 +29,7 @@ read-more sum (a ∷ l) d = read-more (sum * 10 + (a - 48)) l d
 back : (n : ℕ) → readOn 0 (decimal n) ≡ n
 unfolding readOn
 back =
-    along V1
+    along
     (λ n l. readOn 0 l ≡ n)
     (λ n h. omega arith)
     (λ n l h e. read-more 0 l (48 + n % 10) ∙ rw e (omega arith))
@@ -49,14 +48,14 @@ join (a ∷ l) m p q (suc i) h = join l m (λ j k. p (suc j) (omega arith)) q i 
 
 each : (n : ℕ) → Digits (decimal n)
 each =
-    along V1
+    along
     (λ n l. Digits l)
     (λ n h. one (48 + n) (omega arith) (omega arith))
     (λ n l h e. join l ((48 + n % 10) ∷ []) e (one (48 + n % 10) (omega arith) (omega arith)))
 
 front : (n : ℕ) → (0 < n → 48 < getD (decimal n) 0 0) × (0 < length (decimal n))
 front =
-    along V1
+    along
     (λ n l. (0 < n → 48 < getD l 0 0) × (0 < length l))
     (λ n h. ((λ k. omega arith), omega arith))
     (λ n l h e. ((λ k. rw (List·getD-append l ((48 + n % 10) ∷ []) 0 0 (e .1)) (e .0 (omega arith))), rw length-append (omega (arith, e .1))))
