@@ -8,7 +8,7 @@ use stream::Next;
 // What stands at a place of a stream: true, and in `end` the place behind it, if a whole command does; else false, and the place itself.
 #[no_mangle]
 pub extern "C" fn lupaniele_next(stream: &[u8], at: u64, end: &mut u64) -> bool
-    ensures (whole V1) { λ r. ⌜ r ≡ isWhole (nextAt V1 (now (stream .entry)) at) ⌝ }
+    ensures whole { λ r. ⌜ r ≡ isWhole (nextAt V1 (now (stream .entry)) at) ⌝ }
     ensures end { λ _. ⌜ now (end .exit) ≡ onward at (nextAt V1 (now (stream .entry)) at) ⌝ }
 {
     let Next::Whole(next) = stream::next_at(stream, at as usize) else {
