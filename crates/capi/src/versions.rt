@@ -1,9 +1,10 @@
-// Images of version 2, for Rust and C: made, looked at, and one request on one.
+// Images of version 2, for Rust and C: made, looked at, one request on one, and one made of an image of version 1.
 ghost use mathlib.Core.Path.{_≡_};
 ghost use lib.ListN.{length};
 ghost use Rattle.formats.specs.declared.Format.the-variants.{V2};
 ghost use Rattle.lists.specs.Table.{settled};
 ghost use Rattle.image.specs.Image.{sound, makeNumber, fresh};
+ghost use Rattle.image.specs.Convert.{converted, convertNumber};
 ghost use Rattle.model.specs.Serve.{serve};
 ghost use Rattle.guard.specs.Replies.{replyFields};
 use crate::inner::answers::write_fields;
@@ -43,4 +44,14 @@ pub extern "C" fn lupaniele_answer_v2(
     let served = store::answer_as(Format::V2, image, command, reply);
     write_fields(fields, served);
     served.number
+}
+
+// Converts an image of version 1 into one of version 2 in the whole of target: 0, or 9 or 14 and nothing written.
+#[no_mangle]
+pub extern "C" fn lupaniele_convert(image: &[u8], target: &mut [u8]) -> u8
+    ensures number { λ r. ⌜ r ≡ convertNumber (now (image .entry)) (length (now (target .entry))) ⌝ }
+    ensures bytes { λ _. ⌜ now (target .exit)
+        ≡ settled (convertNumber (now (image .entry)) (length (now (target .entry)))) (converted (now (image .entry))) (now (target .entry)) ⌝ }
+{
+    image::convert(image, target)
 }

@@ -14,6 +14,7 @@ use Rattle.lists.specs.Table.{settled}
 use Rattle.lists.proofs.Parts.{splice-before, splice-middle, length-splice}
 use Rattle.lists.proofs.Spread.{length-table, getD-table, table-ext, table-is, map-table}
 use Rattle.lists.proofs.Tests.{cases, to-T}
+use Rattle.guard.specs.Judge.{UNSOUND}
 use Rattle.guard.specs.declared.Entry.{Entry}
 use Rattle.formats.specs.declared.Format.the-variants.{V1, V2}
 use Rattle.formats.specs.Format.{entrySize}
@@ -21,7 +22,7 @@ use Rattle.image.specs.Layout.{sides, sizeOf, headerSize, entryPlace, bo
 use Rattle.image.specs.Bytes.{countOf, roomOf, entryAt, entryBytes, pad}
 use Rattle.image.specs.Image.{Card, Cards, noCard, translationOf, view, withCard, cardEntry, bodies, encode, decode, cardAt, sound, fresh, freshCards, makes, makeNumber, NOT-MADE}
 use Rattle.image.specs.Write.{entryWith}
-use Rattle.image.specs.Convert.{widened, converted, widenedUpTo, convertNumber, UNSOUND}
+use Rattle.image.specs.Convert.{widened, converted, widenedUpTo, convertNumber}
 use Rattle.image.proofs.Shape.{entry-within, body-within}
 use Rattle.image.proofs.Encode.{length-pad, length-bodies, length-encode, part-entry, part-whole, length-entryBytes}
 use Rattle.image.proofs.Put.{table-set, put-part-entry}

@@ -1,4 +1,4 @@
--- Conversion of an image of version 1 into one of version 2 (rules 15.9 to 15.11).
+-- Conversion of an image of version 1 into one of version 2.
 -- Assumes nothing.
 use Prim.Native.Nat.{ℕ}
 use mathlib.Core.List.{List, [], _∷_, map}
@@ -7,11 +7,12 @@ use lib.Dec.{ltb}
 use lib.ListN.{replicate}
 use Rattle.lists.specs.Parts.{table}
 use Rattle.lists.specs.Table.{Row, row, first}
+use Rattle.guard.specs.Judge.{UNSOUND}
 use Rattle.formats.specs.declared.Format.the-variants.{V1, V2}
 use Rattle.image.specs.Bytes.{countOf, roomOf}
 use Rattle.image.specs.Image.{Card, Cards, translationOf, noTranslation, noCard, encode, decode, cardAt, sound, makes, NOT-MADE}
 
--- A card of version 1 as one of version 2: its translation becomes that of language 0, the other three were never written, all else stays.
+-- A card of version 1 as one of version 2 (rule 15.9): its translation becomes that of language 0, the other three were never written, all else stays.
 abbrev pub widened : Card → Card
 widened card =
     record {
@@ -31,9 +32,6 @@ converted image = encode V2 (widenedCards (decode V1 image))
 
 -- When there is none (rule 15.10): the image is not sound, or what is lent for the new one is not exactly as long as a fresh one of as many cards with the
 -- same room, or that breaks the limits.
-abbrev pub UNSOUND : ℕ
-UNSOUND = 9
-
 abbrev pub convertRows : List ℕ → ℕ → List Row
 convertRows image lent = row (not (sound V1 image)) UNSOUND ∷ row (not (makes V2 (countOf image) (roomOf image) lent)) NOT-MADE ∷ []
 

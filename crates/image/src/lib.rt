@@ -8,6 +8,7 @@ ghost use lib.ListN.{length};
 ghost use Rattle.lists.specs.Table.{settled};
 ghost use Rattle.formats.specs.declared.Format.the-variants.{V1};
 use formats::Format;
+use guard::UNSOUND;
 
 // ---- The image: the bytes of a store's cards.
 
@@ -113,9 +114,6 @@ pub fn make(image: &mut [u8], cards: usize, room: usize) -> u8
 }
 
 // ---- From version 1 to version 2.
-
-// What a conversion answers for an image that is not sound.
-pub const UNSOUND: u8 = 9;
 
 // Converts an image of version 1 into one of version 2 in the whole of target, and answers MADE; or answers UNSOUND or NOT_MADE and writes nothing.
 pub fn convert(image: &[u8], target: &mut [u8]) -> u8

@@ -1,4 +1,4 @@
--- What a conversion keeps, as claims and as worked cases (rules 15.9 to 15.11); the theorems stand in proofs/.
+-- What a conversion keeps, as claims and as worked cases; the theorems stand in proofs/.
 -- Assumes nothing.
 use Prim.Native.Nat.{ℕ, _<_}
 use mathlib.Core.Path.{_≡_}
@@ -12,7 +12,7 @@ use Rattle.image.specs.Image.{Card, translationOf, noTranslation, cardAt, encod
 use Rattle.image.specs.Convert.{widenedCards, converted, convertNumber}
 use Rattle.image_claims.specs.Cases.{oneCard}
 
--- A card keeps its stamps, its mark, its edition and its original; its translation is that of language 0, and no other language was ever written.
+-- Rule 15.9: a card keeps its stamps, its mark, its edition and its original; its translation is that of language 0, and no other language was ever written.
 pub record Keeps (old new : Card) : Type 0 where
   pub pair : new .pair ≡ old .pair
   pub mark : new .mark ≡ old .mark
@@ -21,7 +21,7 @@ pub record Keeps (old new : Card) : Type 0 where
   pub first : translationOf 0 new ≡ translationOf 0 old
   pub others : (t : ℕ) → 0 < t → translationOf t new ≡ noTranslation
 
--- A conversion that is answered 0 leaves a sound image of version 2, as long as what was lent, of as many cards with the same room, and keeps each card.
+-- Rule 15.11: a conversion that is answered 0 leaves a sound image of version 2, as long as what was lent, of as many cards with the same room, and keeps each card.
 pub record Converts (image : List ℕ) (lent : ℕ) : Type 0 where
   pub bytes : Bytes (converted image)
   pub sounds : T (sound V2 (converted image))
@@ -34,7 +34,7 @@ pub record Converts (image : List ℕ) (lent : ℕ) : Type 0 where
 abbrev pub Conversion : Type 0
 Conversion = (image : List ℕ) (lent : ℕ) → Bytes image → convertNumber image lent ≡ 0 → Converts image lent
 
--- ---- Worked cases: the image of one card, converted, and the numbers for it and for one with its zero field broken.
+-- ---- Worked cases: the image of one card, converted, and the numbers for it and for one with its zero field broken (rule 15.10).
 
 -- The header of version 2; the stamps; the mark; edition 2, 3 bytes of original; made from edition 1, and three times none; 2 bytes, and three times none;
 -- the zeros behind; the original, the translation, and three empty bodies.

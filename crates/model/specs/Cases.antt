@@ -380,7 +380,7 @@ slipRaised =
     }
 
 -- Commit marks. With (5, 7) stored, (5, 7) and (5, 8) are accepted; (5, 6), where the transaction alone differs, (6, 7), where the desk alone does,
--- and no mark at all get 4. With no mark stored, (5, 7) gets 4.
+-- and no mark at all get 4. With no mark stored, (5, 7) gotIn 4.
 abbrev pub trialMark : Mark → Got → Trial
 trialMark expected then =
     record {
@@ -424,7 +424,7 @@ refusedAhead mode s x = trialAhead (verifyAhead mode (pair s x) (markOf 5 7) ∷
 abbrev pub passedAhead : ℕ → ℕ → ℕ → Trial
 passedAhead mode s x = trialAhead (verifyAhead mode (pair s x) (markOf 5 7) ∷ []) (got 0 s x 5 7 0 0 0 [] ∷ [])
 
--- One command on a fresh card: a read of the translation, with a reply buffer of two bytes, gets 6 or 17; a verify is accepted or gets 17.
+-- One command on a fresh card: a read of the translation, with a reply buffer of two bytes, gotIn 6 or 17; a verify is accepted or gotIn 17.
 abbrev pub freshRead : ℕ → ℕ → Trial
 freshRead t number =
     record { version = V1; start = empty; sent = request 2 shared (pair (ahead t) 0) 0 [] (long 2) ∷ []; expected = got number 0 0 0 0 0 0 0 (long 2) ∷ [] }
@@ -639,8 +639,8 @@ opens act language opened edition text lent =
 abbrev pub names : ℕ → ℕ → ℕ → List ℕ → List ℕ → Sent
 names act language edition text lent = opens act language noPair edition text lent
 
-abbrev pub gets : ℕ → ℕ → ℕ → ℕ → List ℕ → Got
-gets number edition from count reply = got number stamp1 stamp1 0 0 edition from count reply
+abbrev pub gotIn : ℕ → ℕ → ℕ → ℕ → List ℕ → Got
+gotIn number edition from count reply = got number stamp1 stamp1 0 0 edition from count reply
 
 -- The text of language t, as long as no other's.
 abbrev pub letters : ℕ → List ℕ
@@ -660,7 +660,7 @@ abbrev pub allWritten : List Sent
 allWritten = names 3 0 0 text205 [] ∷ map (writesIn 1) languages
 
 abbrev pub allGot : List Got
-allGot = gets 0 1 0 0 [] ∷ map (λ (t : ℕ). gets 0 1 1 0 []) languages
+allGot = gotIn 0 1 0 0 [] ∷ map (λ (t : ℕ). gotIn 0 1 1 0 []) languages
 
 -- Each language is read as it was written, and the original as well.
 abbrev pub trialLanguages : Trial
@@ -671,11 +671,11 @@ trialLanguages =
       sent = allWritten ++ (map readsIn languages ++ (names 1 0 0 [] (long 4) ∷ []));
       expected =
           allGot
-          ++ (gets 0 1 1 1 (65 ∷ 97 ∷ 97 ∷ 97 ∷ [])
-          ∷ gets 0 1 1 2 (66 ∷ 66 ∷ 97 ∷ 97 ∷ [])
-          ∷ gets 0 1 1 3 (67 ∷ 67 ∷ 67 ∷ 97 ∷ [])
-          ∷ gets 0 1 1 4 (68 ∷ 68 ∷ 68 ∷ 68 ∷ [])
-          ∷ gets 0 1 1 3 (50 ∷ 48 ∷ 53 ∷ 97 ∷ [])
+          ++ (gotIn 0 1 1 1 (65 ∷ 97 ∷ 97 ∷ 97 ∷ [])
+          ∷ gotIn 0 1 1 2 (66 ∷ 66 ∷ 97 ∷ 97 ∷ [])
+          ∷ gotIn 0 1 1 3 (67 ∷ 67 ∷ 67 ∷ 97 ∷ [])
+          ∷ gotIn 0 1 1 4 (68 ∷ 68 ∷ 68 ∷ 68 ∷ [])
+          ∷ gotIn 0 1 1 3 (50 ∷ 48 ∷ 53 ∷ 97 ∷ [])
           ∷ []);
     }
 
@@ -687,13 +687,13 @@ trialOneBehind =
       start = emptyOf2;
       sent = names 3 0 0 text205 [] ∷ writesIn 1 2 ∷ readsIn 2 ∷ readsIn 1 ∷ names 5 0 0 [] [] ∷ writesIn 1 0 ∷ names 5 0 0 [] [] ∷ [];
       expected =
-          gets 0 1 0 0 []
-          ∷ gets 0 1 1 0 []
-          ∷ gets 0 1 1 3 (67 ∷ 67 ∷ 67 ∷ 97 ∷ [])
-          ∷ gets 6 1 0 0 (long 4)
-          ∷ gets 0 1 0 0 []
-          ∷ gets 0 1 1 0 []
-          ∷ gets 0 1 1 0 []
+          gotIn 0 1 0 0 []
+          ∷ gotIn 0 1 1 0 []
+          ∷ gotIn 0 1 1 3 (67 ∷ 67 ∷ 67 ∷ 97 ∷ [])
+          ∷ gotIn 6 1 0 0 (long 4)
+          ∷ gotIn 0 1 0 0 []
+          ∷ gotIn 0 1 1 0 []
+          ∷ gotIn 0 1 1 0 []
           ∷ [];
     }
 
@@ -706,35 +706,35 @@ trialAllBehind =
       sent = allWritten ++ (names 3 0 0 text401 [] ∷ (map readsIn languages ++ (writesIn 2 3 ∷ map readsIn languages)));
       expected =
           allGot
-          ++ (gets 0 2 1 0 []
-          ∷ (map (λ (t : ℕ). gets 6 2 1 0 (long 4)) languages
-          ++ (gets 0 2 2 0 []
-          ∷ gets 6 2 1 0 (long 4)
-          ∷ gets 6 2 1 0 (long 4)
-          ∷ gets 6 2 1 0 (long 4)
-          ∷ gets 0 2 2 4 (68 ∷ 68 ∷ 68 ∷ 68 ∷ [])
+          ++ (gotIn 0 2 1 0 []
+          ∷ (map (λ (t : ℕ). gotIn 6 2 1 0 (long 4)) languages
+          ++ (gotIn 0 2 2 0 []
+          ∷ gotIn 6 2 1 0 (long 4)
+          ∷ gotIn 6 2 1 0 (long 4)
+          ∷ gotIn 6 2 1 0 (long 4)
+          ∷ gotIn 0 2 2 4 (68 ∷ 68 ∷ 68 ∷ 68 ∷ [])
           ∷ [])));
     }
 
 -- A command of version 2 that is malformed.
-abbrev pub malformed : List ℕ → Trial
-malformed command =
+abbrev pub malformedSecond : List ℕ → Trial
+malformedSecond command =
     record { version = V2; start = emptyOf2; sent = record { command = command; lent = [] } ∷ []; expected = got 1 0 0 0 0 0 0 0 [] ∷ [] }
 
 abbrev pub trialsMalformed : List Trial
 trialsMalformed =
     -- a language that there is not, read and written
-    malformed (names 2 4 0 [] [] .command)
-    ∷ malformed (names 4 4 1 text401 [] .command)
+    malformedSecond (names 2 4 0 [] [] .command)
+    ∷ malformedSecond (names 4 4 1 text401 [] .command)
     -- a language named by an act that has none
-    ∷ malformed (names 1 1 0 [] [] .command)
-    ∷ malformed (names 3 1 0 text205 [] .command)
-    ∷ malformed (names 5 1 0 [] [] .command)
+    ∷ malformedSecond (names 1 1 0 [] [] .command)
+    ∷ malformedSecond (names 3 1 0 text205 [] .command)
+    ∷ malformedSecond (names 5 1 0 [] [] .command)
     -- the zeros behind the language: the first and the last of them
-    ∷ malformed (set (names 5 0 0 [] [] .command) 21 1)
-    ∷ malformed (set (names 5 0 0 [] [] .command) 35 1)
+    ∷ malformedSecond (set (names 5 0 0 [] [] .command) 21 1)
+    ∷ malformedSecond (set (names 5 0 0 [] [] .command) 35 1)
     -- a command of version 1, which is 52 bytes long
-    ∷ malformed (verify exclusive stamp1 stamp1 .command)
+    ∷ malformedSecond (verify exclusive stamp1 stamp1 .command)
     ∷ []
 
 -- With 16 zeros behind it, it is one of version 2.
@@ -744,7 +744,7 @@ trialLengthened =
       version = V2;
       start = emptyOf2;
       sent = record { command = verify exclusive stamp1 stamp1 .command ++ replicate 16 0; lent = [] } ∷ [];
-      expected = gets 0 0 0 0 [] ∷ [];
+      expected = gotIn 0 0 0 0 [] ∷ [];
     }
 
 -- The update pair stands behind the length: the stored pair is raised by it.

@@ -1,4 +1,4 @@
--- A store that is converted between two lists of requests (rule 15.12): demand 3 over the whole, and a story of it.
+-- A store that is converted between two lists of requests: demand 3 over the whole, and a story of it.
 -- Assumes nothing.
 use Prim.Native.Nat.{ℕ}
 use mathlib.Core.Path.{_≡_}
@@ -11,7 +11,7 @@ use Rattle.image.specs.Image.{fresh}
 use Rattle.image.specs.Convert.{converted, convertNumber}
 use Rattle.model.specs.Words.{Sent, Event, imageAfter, history, logOf}
 use Rattle.model.specs.Claims.{AllBytes, Claim}
-use Rattle.model.specs.Cases.{run, names, gets, stamp1, writeOriginal, writeTranslation}
+use Rattle.model.specs.Cases.{run, names, gotIn, stamp1, writeOriginal, writeTranslation}
 
 -- The image of version 1 that a list of requests leaves of a fresh one.
 unfoldable pub imageBefore : ℕ → ℕ → List Sent → List ℕ
@@ -21,7 +21,7 @@ imageBefore n c sent = imageAfter V1 (fresh V1 n c) (reverse sent)
 unfoldable pub logAcross : ℕ → ℕ → List Sent → List Sent → List Event
 logAcross n c sent more = history V2 (converted (imageBefore n c sent)) (reverse more) ++ logOf V1 n c sent
 
--- The image that the first list leaves is converted where as many bytes are lent as an image of version 2 has, and of both lists together every sentence of
+-- Rule 15.12: the image that the first list leaves is converted where as many bytes are lent as an image of version 2 has, and of both lists together every sentence of
 -- demand 3 holds. A translation of version 1 is named by language 0, as its commands are read.
 pub record Across (n c : ℕ) (sent more : List Sent) : Type 0 where
   pub converts : convertNumber (imageBefore n c sent) (sizeOf V2 n c) ≡ 0
@@ -32,12 +32,12 @@ Demand3Across = (n c : ℕ) → T (shapeOk V2 n c) → (sent more : List Sent) �
 
 -- ---- A story: an original and its translation, a conversion, then languages.
 
-abbrev pub told : List Sent
-told = writeOriginal stamp1 stamp1 (50 ∷ 48 ∷ 53 ∷ []) ∷ writeTranslation stamp1 stamp1 1 (52 ∷ 48 ∷ 49 ∷ []) ∷ []
+abbrev pub sentBefore : List Sent
+sentBefore = writeOriginal stamp1 stamp1 (50 ∷ 48 ∷ 53 ∷ []) ∷ writeTranslation stamp1 stamp1 1 (52 ∷ 48 ∷ 49 ∷ []) ∷ []
 
 -- Language 0 is read, language 1 is behind, is written and is read; the original is written again, and both are behind.
-abbrev pub toldAfter : List Sent
-toldAfter =
+abbrev pub sentAfter : List Sent
+sentAfter =
     names 2 0 0 [] (replicate 3 0)
     ∷ names 2 1 0 [] (replicate 3 0)
     ∷ names 4 1 1 (52 ∷ 48 ∷ 50 ∷ []) []
@@ -50,14 +50,14 @@ toldAfter =
 
 abbrev pub StoryAcross : Type 0
 StoryAcross =
-    run V2 (converted (imageBefore 1 16 told)) toldAfter
-    ≡ (gets 0 1 1 3 (52 ∷ 48 ∷ 49 ∷ [])
-    ∷ gets 6 1 0 0 (replicate 3 0)
-    ∷ gets 0 1 1 0 []
-    ∷ gets 0 1 1 3 (52 ∷ 48 ∷ 50 ∷ [])
-    ∷ gets 0 1 1 3 (52 ∷ 48 ∷ 49 ∷ [])
+    run V2 (converted (imageBefore 1 16 sentBefore)) sentAfter
+    ≡ (gotIn 0 1 1 3 (52 ∷ 48 ∷ 49 ∷ [])
+    ∷ gotIn 6 1 0 0 (replicate 3 0)
+    ∷ gotIn 0 1 1 0 []
+    ∷ gotIn 0 1 1 3 (52 ∷ 48 ∷ 50 ∷ [])
+    ∷ gotIn 0 1 1 3 (52 ∷ 48 ∷ 49 ∷ [])
     -- an act without a language is answered translated-from of language 0
-    ∷ gets 0 2 1 0 []
-    ∷ gets 6 2 1 0 (replicate 3 0)
-    ∷ gets 6 2 1 0 (replicate 3 0)
+    ∷ gotIn 0 2 1 0 []
+    ∷ gotIn 6 2 1 0 (replicate 3 0)
+    ∷ gotIn 6 2 1 0 (replicate 3 0)
     ∷ [])

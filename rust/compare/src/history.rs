@@ -346,7 +346,7 @@ pub fn any(run: &mut Run, random: &mut Random) -> Compared<()> {
         list(run, random, cards as u16, room as u16, length)?;
         run.seen_at(Kind::LargeLists, 1);
     }
-    if random.one_in(20) {
+    if random.one_in(8) {
         at_both(run, random)?;
     }
     for _ in 0..3 {

@@ -1,5 +1,5 @@
 //! `compare test` runs a fixed seed and 8,000,000 cases; `compare soak
-//! N` runs N cases, 1,000,000 at the least, with a new seed, which it prints.
+//! N` runs N cases, 2,000,000 at the least, with a new seed, which it prints.
 //! `compare seed S N` runs any seed again. Each prints the coverage table at
 //! its end, and fails at the first difference, and where a number or a kind of
 //! the table never came.
@@ -22,7 +22,7 @@ const CASES: u64 = 8_000_000;
 const INPUTS: u64 = 10_000;
 
 /// The fewest cases, in which every kind of the table comes.
-const LEAST: u64 = 1_000_000;
+const LEAST: u64 = 2_000_000;
 
 fn main() -> ExitCode {
     let words: Vec<String> = std::env::args().skip(1).collect();

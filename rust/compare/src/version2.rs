@@ -1,9 +1,20 @@
-//! Version 2 of the proved library. Until it exports these functions the second
-//! program stands in for them.
+//! Version 2 of the proved library: conversion by its exported function. Until
+//! it exports the others the second program stands in for them.
 
 use second::{standing_at, walk, Format, Standing};
 
 use crate::proved::Answer;
+
+mod exported {
+    extern "C" {
+        pub fn lupaniele_convert(
+            image: *const u8,
+            image_length: usize,
+            target: *mut u8,
+            target_length: usize,
+        ) -> u8;
+    }
+}
 
 /// Makes a fresh image: 0, or 14 and nothing written.
 pub fn make(image: &mut [u8], cards: u64, room: u64) -> u8 {
@@ -26,7 +37,15 @@ pub fn answer(image: &mut [u8], command: &[u8], reply: &mut [u8]) -> Answer {
 
 /// Converts an image of version 1: 0, or 9 or 14 and nothing written.
 pub fn convert(image: &[u8], target: &mut [u8]) -> u8 {
-    second::convert(image, target)
+    // SAFETY: the pointers and lengths are the slices', which do not overlap.
+    unsafe {
+        exported::lupaniele_convert(
+            image.as_ptr(),
+            image.len(),
+            target.as_mut_ptr(),
+            target.len(),
+        )
+    }
 }
 
 /// Whether a whole command stands at a place of a stream, and the place behind
