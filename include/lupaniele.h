@@ -58,6 +58,10 @@ bool lupaniele_next(const uint8_t *stream, size_t stream_length, uint64_t at, ui
 /* The byte where the first command of a stream that is not whole begins, or the stream's end (rule 8.2). */
 uint64_t lupaniele_end(const uint8_t *stream, size_t stream_length);
 
+/* What the program prints for these bytes as its standard input (rules 8.3 to 8.6), in the first bytes of out: how many they are.
+   out takes 238,518 bytes; with fewer it stays, and the answer is 0. */
+uint64_t lupaniele_output(const uint8_t *input, size_t input_length, uint8_t *out, size_t out_length);
+
 /* Whether two structured texts say the same drops (rules 12.8 and 12.9): 0 if they agree, 18 if the first is ill formed, 19 if
    the second is, 20 if they differ. place (rule 12.10): with 20 the byte of the first text at which its first step without a
    match begins, or just past the section in which the second has a step more; else 0. */

@@ -73,7 +73,7 @@ module _ (input : List ℕ) where
   unfolding outputOf
   bad-output h e = rw (le-ltb mostInput (length input) h, e)
 
-  good-output : length input ≤ mostInput → goodFront input ≡ true →
+  pub good-output : length input ≤ mostInput → goodFront input ≡ true →
       outputOf input ≡ firstLine (countOf input) ++ printed (imageOf input) (blankOf input) (streamOf input)
   unfolding outputOf
   good-output h e = rw (le-ltb mostInput (length input) h, e)

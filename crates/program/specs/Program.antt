@@ -1,4 +1,4 @@
--- What the program prints for its input, byte for byte (rules 8.3 to 8.5).
+-- What the program prints for its input, byte for byte (rules 8.3 to 8.6).
 -- Assumes nothing.
 use Prim.Native.Nat.{ℕ, _+_, _*_, _-_, _/_, _≤_}
 use mathlib.Core.List.{List, [], _∷_, _++_}
@@ -110,7 +110,7 @@ mostPrinted stream = (length stream / (fixed V1) + 1) * mostLine
 abbrev pub mostOutput : ℕ
 mostOutput = (mostInput / (fixed V1) + 2) * mostLine
 
--- What is written where so many bytes are lent: nothing where they are too few for the longest output.
+-- What is written where so many bytes are lent: nothing where they are too few for the longest output (rule 8.6).
 unfoldable pub outputWithin : ℕ → List ℕ → List ℕ
 outputWithin lent input = cond (ltb lent mostOutput) [] (outputOf input)
 

@@ -17,6 +17,7 @@ use Rattle.program.specs.Program.{lineOf, linesFrom, firstLine, printed, mostIn
 use Rattle.program_claims.specs.Claims.{NeverEmpty, ProgramClaims}
 use Rattle.program_claims.proofs.Log.{logs}
 use Rattle.program_claims.proofs.Served.{guarded, serves}
+use Rattle.program_claims.proofs.Prints.{prints}
 use Rattle.program_claims.proofs.Numerals.{numerals}
 
 one-each : (image reply : List ℕ) (cs : List (List ℕ)) → length (runs image reply cs .answers) ≡ length cs
@@ -81,6 +82,7 @@ claims =
       logs = logs;
       guarded = guarded;
       serves = serves;
+      prints = prints;
       numerals = numerals;
       never-empty = never-empty;
     }

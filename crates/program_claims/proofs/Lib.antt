@@ -1,5 +1,6 @@
 pub mod Log
 pub mod Served
+pub mod Prints
 pub mod Numerals
 pub mod Claims
 pub mod Cases

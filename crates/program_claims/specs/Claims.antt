@@ -10,6 +10,7 @@ use Rattle.formats.specs.declared.Format.the-variants.{V1}
 use Rattle.lists.specs.Parts.{Bytes}
 use Rattle.guard.specs.declared.Answer.{Answer}
 use Rattle.image.specs.Layout.{shapeOk}
+use Rattle.image.specs.Bytes.{countOf, roomOf}
 use Rattle.image.specs.Image.{sound, fresh}
 use Rattle.model.specs.Serve.{serve}
 use Rattle.model.specs.Words.{Sent, Event, imageAfter, history}
@@ -18,7 +19,7 @@ use Rattle.model.specs.Claims.{Claim}
 use Rattle.stream.specs.Stream.{commands}
 use Rattle.image.specs.Image.{goodFront}
 use Rattle.program.specs.Text.{decimal}
-use Rattle.program.specs.Program.{lineOf, linesFrom, runs, runOf, outputOf}
+use Rattle.program.specs.Program.{firstLine, lineOf, linesFrom, lastLine, leftOver, mostInput, runs, runOf, outputOf}
 
 -- The answers of a run are those of judging command by command: one for each command, and each is the store's, on the image and the reply
 -- buffer as the commands before leave them.
@@ -89,6 +90,13 @@ pub record Numeral (n : ℕ) : Type 0 where
   pub each : (i : ℕ) → i < length (decimal n) → (48 ≤ getD (decimal n) i 0) × (getD (decimal n) i 0 ≤ 57)
   pub front : 0 < n → 48 < getD (decimal n) 0 0
 
+-- Behind a sound image in front, within the limit, the output is the first line, a line for each answer of the run that the claims above speak of,
+-- and the last line.
+abbrev pub Prints : Type 0
+Prints =
+    (image stream : List ℕ) → sound image ≡ true → length (image ++ stream) ≤ mostInput
+    → outputOf (image ++ stream) ≡ firstLine (countOf image) ++ (linesFrom 1 (runs image (replicate (roomOf image) 0) (commands stream) .answers) ++ lastLine (leftOver stream))
+
 -- No output is empty. So where nothing is written, because too few bytes were lent, the count tells it.
 abbrev pub NeverEmpty : Type 0
 NeverEmpty = (input : List ℕ) → 0 < length (outputOf input)
@@ -98,5 +106,6 @@ pub record ProgramClaims : Type 0 where
   pub logs : (image reply : List ℕ) (cs : List (List ℕ)) → Logged image reply cs
   pub guarded : Guarded
   pub serves : Serves
+  pub prints : Prints
   pub numerals : (n : ℕ) → Numeral n
   pub never-empty : NeverEmpty

@@ -72,7 +72,7 @@ impl<'a> Reader<'a> {
 
 // One step of a walk that has come to any place: where a reader that stands there goes on.
 pub fn next_from(stream: &[u8], at: usize) -> usize
-    ensures { λ r. ⌜ r ≡ onward at (nextAt (now (stream .entry)) at) ⌝ }
+    ensures { λ end. ⌜ end ≡ onward at (nextAt (now (stream .entry)) at) ⌝ }
 {
     Reader { stream, at }.next().at
 }

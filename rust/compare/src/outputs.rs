@@ -135,7 +135,7 @@ pub fn any(run: &mut Run, random: &mut Random, inputs: u64) -> Compared<()> {
     for count in 0..inputs {
         // Of the longest ones a quarter as many as of the others.
         let sort = match count % SORTS {
-            0..=4 if !random.one_in(4) => SORTS - 1,
+            0 | 2..=4 if !random.one_in(4) => SORTS - 1,
             sort => sort,
         };
         let input = input(random, sort);
