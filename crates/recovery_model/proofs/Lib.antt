@@ -1,5 +1,6 @@
 pub mod Steps
 pub mod Sending
 pub mod Pairs
+pub mod Never
 pub mod Texts
 pub mod Cases
