@@ -9,6 +9,7 @@ use lib.Seq.{take-at, drop-append-seam}
 use Rattle.lists.specs.Le.{le}
 use Rattle.lists.proofs.Parts.{part-append-left}
 use Rattle.lists.proofs.Tests.{to-T}
+use Rattle.formats.specs.declared.Format.the-variants.{V1}
 use Rattle.image.specs.Layout.{sizeOf}
 use Rattle.image.specs.Bytes.{countOf, roomOf}
 use Rattle.image.specs.Image.{sound, claimed, goodFront, frontSize}
@@ -17,12 +18,12 @@ use Rattle.image.proofs.InFront.{front-sound}
 use Rattle.program.proofs.Answered.{good-output}
 use Rattle.program_claims.specs.Claims.{Prints}
 
-module _ (image stream : List ℕ) (s : sound image ≡ true) where
+module _ (image stream : List ℕ) (s : sound V1 image ≡ true) where
   abbrev input : List ℕ
   input = image ++ stream
 
-  size : length image ≡ sizeOf (countOf image) (roomOf image)
-  size = long image (to-T s)
+  size : length image ≡ sizeOf V1 (countOf image) (roomOf image)
+  size = long V1 image (to-T s)
 
   count-is : countOf input ≡ countOf image
   count-is = ap le (part-append-left 6 2 image stream (omega (arith, size)))
@@ -39,7 +40,7 @@ module _ (image stream : List ℕ) (s : sound image ≡ true) where
   good : goodFront input ≡ true
   good =
       front-sound input (length image) claims-it (omega (arith, size, within)) within
-      ∙ ap sound (take-at image stream (length image) refl)
+      ∙ ap (sound V1) (take-at image stream (length image) refl)
       ∙ s
 
   front-is : frontSize input ≡ length image

@@ -94,7 +94,7 @@ pub record Numeral (n : ℕ) : Type 0 where
 -- and the last line.
 abbrev pub Prints : Type 0
 Prints =
-    (image stream : List ℕ) → sound image ≡ true → length (image ++ stream) ≤ mostInput
+    (image stream : List ℕ) → sound V1 image ≡ true → length (image ++ stream) ≤ mostInput
     → outputOf (image ++ stream) ≡ firstLine (countOf image) ++ (linesFrom 1 (runs image (replicate (roomOf image) 0) (commands stream) .answers) ++ lastLine (leftOver stream))
 
 -- No output is empty. So where nothing is written, because too few bytes were lent, the count tells it.
