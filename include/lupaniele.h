@@ -75,8 +75,8 @@ uint64_t lupaniele_end(const uint8_t *stream, size_t stream_length);
 uint64_t lupaniele_output(const uint8_t *input, size_t input_length, uint8_t *out, size_t out_length);
 
 /* Whether two structured texts say the same drops (rules 12.8 and 12.9): 0 if they agree, 18 if the first is ill formed, 19 if
-   the second is, 20 if they differ. place (rule 12.10): with 20 the byte of the first text where the first unmatched step
-   begins, or just past the section in which the second has a step more; else 0. */
+   the second is, 20 if they differ. place (rule 12.10): with 20 the byte of the first text at which its first step without a
+   match begins, or just past the section in which the second has a step more; else 0. */
 uint8_t lupaniele_agree(const uint8_t *first, size_t first_length, const uint8_t *second, size_t second_length,
                         uint64_t *place);
 

@@ -9,9 +9,9 @@ fn number_of(answer: Agreement) -> u8
 {
     match answer {
         Agreement::Agree => 0,
-        Agreement::FirstIll => 18,
-        Agreement::SecondIll => 19,
-        Agreement::Unmatched(_) => 20,
+        Agreement::FirstIll => texts::FIRST_ILL,
+        Agreement::SecondIll => texts::SECOND_ILL,
+        Agreement::Unmatched(_) => texts::UNMATCHED,
     }
 }
 

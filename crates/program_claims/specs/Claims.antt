@@ -63,7 +63,7 @@ pub record Logged (image reply : List ℕ) (cs : List (List ℕ)) : Type 0 where
 abbrev pub Guarded : Type 0
 Guarded =
     (n c : ℕ) (stream : List ℕ) → T (shapeOk V1 n c) → Bytes stream
-    → Claim n (requests (fresh V1 n c) (replicate c 0) (commands stream)) (logged (fresh V1 n c) (replicate c 0) (commands stream))
+    → Claim n (requests (fresh V1 n c) (replicate c 0) (commands V1 stream)) (logged (fresh V1 n c) (replicate c 0) (commands V1 stream))
 
 -- ---- the program on a good store
 
@@ -95,7 +95,7 @@ pub record Numeral (n : ℕ) : Type 0 where
 abbrev pub Prints : Type 0
 Prints =
     (image stream : List ℕ) → sound V1 image ≡ true → length (image ++ stream) ≤ mostInput
-    → outputOf (image ++ stream) ≡ firstLine (countOf image) ++ (linesFrom 1 (runs image (replicate (roomOf image) 0) (commands stream) .answers) ++ lastLine (leftOver stream))
+    → outputOf (image ++ stream) ≡ firstLine (countOf image) ++ (linesFrom 1 (runs image (replicate (roomOf image) 0) (commands V1 stream) .answers) ++ lastLine (leftOver stream))
 
 -- No output is empty. So where nothing is written, because too few bytes were lent, the count tells it.
 abbrev pub NeverEmpty : Type 0

@@ -18,7 +18,7 @@ use Rattle.commands.specs.Bytes.{commandBytes}
 use Rattle.formats.specs.Format.{translations}
 use Rattle.guard.specs.declared.Entry.{Entry}
 use Rattle.image.specs.Image.{sound, decode}
-use Rattle.image_claims.proofs.Claims.{soundReadsBack}
+use Rattle.image.proofs.Decode.{decode-good}
 use Rattle.model.specs.Serve.{Outcome, serve}
 use Rattle.lists.specs.Search.{any}
 use Rattle.store.proofs.Step.{serve-unsound}
@@ -46,7 +46,7 @@ module _ (image ss xs body : List ℕ) (ok : Bool) (o : ok ≡ sound V1 image) w
     pub write-fits : sound V1 image ≡ true → Bytes image → Bytes body → ((k : ℕ) → getD ss k 0 < 18446744073709551616) → ((k : ℕ) → getD xs k 0 < 18446744073709551616) → length body < 65536 → FitsCommand w
     write-fits t ib bb fs fx h =
         subst FitsCommand (sym write-is)
-        (fits-write (pairsOf ss xs) image (updated body) (record { s = fs; x = fx }) (entry-fits (decode V1 image) (soundReadsBack V1 image ib (to-T t) .good) (field 0 2 body)) bb h)
+        (fits-write (pairsOf ss xs) image (updated body) (record { s = fs; x = fx }) (entry-fits (decode V1 image) (decode-good V1 image ib (to-T t)) (field 0 2 body)) bb h)
 
     pub write-names : w .language < translations V1
     write-names = subst (λ (c : Command). c .language < translations V1) (sym write-is) (lit< tt)

@@ -133,9 +133,9 @@ fn act_of(side: u8) -> u8
     ensures { λ r. ⌜ r ≡ cond (eqb side 1) 3 4 ⌝ }
 {
     if side == 1 {
-        return 3;
+        return commands::WRITE_ORIGINAL;
     }
-    4
+    commands::WRITE_TRANSLATION
 }
 
 // A translation names the stored edition, an original none.
@@ -158,7 +158,7 @@ fn write_of(pair: Pair, e: Entry, body: &[u8]) -> Command
     let none = Pair { s: 0, x: 0 };
     Command {
         act: act_of(body[2]),
-        mode: 2,
+        mode: stamps::EXCLUSIVE,
         language: 0,
         card: le::read_u16(body, 0),
         pair: pair,
@@ -178,10 +178,10 @@ fn carry_out(image: &mut [u8], c: Command, text: &[u8]) -> u8
     ensures kept { λ _. ⌜ sound V1 (now (image .exit)) ≡ true ⌝ }
 {
     if !c.well_formed() {
-        return 1;
+        return stamps::MALFORMED;
     }
     if image::inner::read::count(image) <= c.card {
-        return 2;
+        return guard::NO_CARD;
     }
     let mut none = [0u8; 0];
     let a = store::inner::step::carry(Format::V1, image, c, text, &mut none);
@@ -196,7 +196,7 @@ fn apply<'a>(image: &mut [u8], ok: bool, body: &[u8], s: &'a [u64], x: &'a [u64]
     ensures kept { λ _. ⌜ ok ≡ sound V1 (now (image .exit)) ⌝ }
 {
     if !ok {
-        return 9;
+        return guard::UNSOUND;
     }
     let card = le::read_u16(body, 0);
     let pair = Pair {

@@ -19,7 +19,7 @@ use Rattle.model.specs.Serve.{serve}
 use Rattle.model.specs.Words.{Sent, imageAfter, history}
 use Rattle.model.proofs.Exact.{refusals}
 use Rattle.recovery_model.specs.Recovery.{Pairs, Recovery, recordIn, due, recoverySent, recoveryStep, recovering, recovered}
-use Rattle.recovery_model.specs.Claims.{AllTaken, StopsWith, Recovers, RecoversAll, RecoveryListed}
+use Rattle.recovery_model.specs.Claims.{AllTaken, StopsWith, Recovers, RecoversAll, FromRecovery, RecoveryListed}
 
 -- The store's numbers, 0 to 9 and 17, are below 23.
 at-most : {n : ℕ} → (n ≤ 9) ⊎ (n ≡ 17) → n ≤ 17
@@ -172,7 +172,6 @@ pub recovery-listed : RecoveryListed
 unfolding recovered
 recovery-listed pairs log image = go (goodLog log) refl
   where
-    go : (g : Bool) → goodLog log ≡ g
-        → ((recovered pairs log image .number ≤ 9) ⊎ (recovered pairs log image .number ≡ 17)) ⊎ (recovered pairs log image .number ≡ 23)
+    go : (g : Bool) → goodLog log ≡ g → FromRecovery (recovered pairs log image .number)
     go true e = rw e (inl (told pairs (records log) image (length (records log)) .listed))
     go false e = rw e (inr refl)

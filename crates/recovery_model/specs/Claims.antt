@@ -9,6 +9,7 @@ use lib.ListN.{length, getD}
 use lib.Dec.{T, eqb}
 use Rattle.formats.specs.declared.Format.the-variants.{V1, V2}
 use Rattle.lists.specs.Parts.{Bytes}
+use Rattle.lists.specs.Search.{none}
 use Rattle.image.specs.Layout.{shapeOk}
 use Rattle.commands.specs.Command.{Language, original, translation}
 use Rattle.image.specs.Image.{fresh, text, noCard, decode, sound}
@@ -51,10 +52,11 @@ abbrev pub RecoversAll : Type 0
 RecoversAll = (pairs : Pairs) (log image : List ℕ) → Recovers pairs log image
 
 -- Rule 5.1: recovery answers a number of the store or 23.
+abbrev pub FromRecovery : ℕ → Type 0
+FromRecovery number = ((number ≤ 9) ⊎ (number ≡ 17)) ⊎ (number ≡ 23)
+
 abbrev pub RecoveryListed : Type 0
-RecoveryListed =
-    (pairs : Pairs) (log image : List ℕ)
-    → ((recovered pairs log image .number ≤ 9) ⊎ (recovered pairs log image .number ≡ 17)) ⊎ (recovered pairs log image .number ≡ 23)
+RecoveryListed = (pairs : Pairs) (log image : List ℕ) → FromRecovery (recovered pairs log image .number)
 
 -- ---- recovery's requests stand in demand 3's list (rule 11.20)
 
@@ -101,6 +103,16 @@ abbrev pub Under : Type 0
 Under =
     (pairs : Pairs) (log image : List ℕ) → FitsPairs pairs → Bytes log → Bytes image → sound V1 image ≡ true
     → AllUnder pairs (recovered pairs log image .sent)
+
+-- Rule 11.22: the mark that a write of recovery expects is the stored one, a translation names the stored edition, and no write reads. So recovery does not answer
+-- these.
+abbrev pub neverAnswered : List ℕ
+neverAnswered = 4 ∷ 6 ∷ 8 ∷ []
+
+abbrev pub RecoveryNever : Type 0
+RecoveryNever =
+    (pairs : Pairs) (log image : List ℕ) → FitsPairs pairs → Bytes log → Bytes image → sound V1 image ≡ true
+    → none (eqb (recovered pairs log image .number)) neverAnswered ≡ true
 
 -- ---- the texts that recovery leaves (rule 11.21)
 
