@@ -148,7 +148,7 @@ pub fn singles(run: &mut Run, random: &mut Random) -> Compared<()> {
             note_ahead(run, &before, &command, told.number);
             let about = about(format, &before, &command);
             pairs::note(run, &command, about.map(|(_, stored)| stored), told.number);
-            languages::note(run, &before, &command, told.number);
+            languages::note(run, &command, told.number);
         }
     }
     Ok(())

@@ -13,16 +13,16 @@ use crate::coverage::{Kind, Run};
 use crate::demand3::Event;
 use crate::images::{self, size, soundness};
 use crate::lists::sentences;
+use crate::proved;
 use crate::run::{bytes, same, Compared};
 use crate::sessions::Desks;
-use crate::version2;
 
 /// Converts by both, and leaves the target as both left it.
 fn convert(run: &mut Run, image: &[u8], target: &mut [u8]) -> Compared<u8> {
     let lent = target.to_vec();
     let mut second_target = lent.clone();
     let input = || bytes("image", image) + &format!("  target of {} bytes\n", lent.len());
-    let proved = version2::convert(image, target);
+    let proved = proved::convert(image, target);
     let second = second::convert(image, &mut second_target);
     same("convert", proved, second, input)?;
     same("converted", &*target, &second_target[..], input)?;

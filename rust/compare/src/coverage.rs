@@ -155,7 +155,7 @@ kinds! {
     Regrouped 1 1 "lists sent again card after card"
     OtherCommands 1 1 "commands of the other version, refused with 1"
     OtherImages 2 2 "commands on an image of the other version, answered 9: as it is, with this version's number in its header"
-    OtherFronts 1 0 "the program: images of version 2"
+    OtherFronts 2 0 "bad store for an image of version 2: the program, whole outputs in process"
     TrialsAgain 0 4 "the trials in version 2, by language"
     TrialsOfLanguages 0 7 "trials of languages: each by itself, one behind, all behind, no language, bytes 21 to 35, 52 bytes, the update pair"
     LanguagesRead 0 8 "single commands that read a translation: language 0, accepted, behind; 1, accepted, behind; 2; 3"

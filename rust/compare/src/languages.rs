@@ -10,7 +10,7 @@ use crate::images::soundness;
 use crate::run::{bytes, same, Compared};
 
 /// Counts what a command has to do with languages, and with the other version.
-pub fn note(run: &mut Run, image: &[u8], bytes: &[u8], number: u8) {
+pub fn note(run: &mut Run, bytes: &[u8], number: u8) {
     let format = run.format;
     if Command::parse(format.other(), bytes).is_some() && number == 1 {
         run.seen(Kind::OtherCommands);
@@ -30,7 +30,6 @@ pub fn note(run: &mut Run, image: &[u8], bytes: &[u8], number: u8) {
         None if number == 1 => malformed(run, bytes),
         None => {}
     }
-    let _ = image;
 }
 
 /// A malformed command: whether its language alone is at fault, or one of the

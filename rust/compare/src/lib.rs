@@ -14,8 +14,7 @@
 //!   of desks, queues and a store, by the rules and with one rule broken.
 //! - [`pairs`]: commands with two pairs, edge by edge. [`languages`]: commands
 //!   of version 2, and each version's images before the other.
-//! - [`conversions`]: from version 1 to version 2. [`version2`]: the exported
-//!   functions of version 2.
+//! - [`conversions`]: from version 1 to version 2.
 //! - [`trials`]: the sheet's trials, by both.
 //! - [`sessions`]: lists of commands as desks send them, sessions interleaved.
 //! - [`demand3`]: the sentences of demand 3, over a list of events.
@@ -47,4 +46,3 @@ pub mod systems;
 pub mod texts;
 pub mod trials;
 pub mod upgrades;
-pub mod version2;

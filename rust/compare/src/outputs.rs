@@ -6,10 +6,11 @@ use second::generate;
 use second::program::INPUT_LIMIT;
 use second::random::Random;
 use second::short::{entry, fresh, put_card, write_original};
-use second::Format::V1;
+use second::Format::{V1, V2};
 use second::{Entry, Mark, Pair};
 
 use crate::coverage::{Kind, Run};
+use crate::program::front_of_version_2;
 use crate::proved;
 use crate::run::{bytes, same, Compared};
 
@@ -45,6 +46,12 @@ pub fn input(random: &mut Random, sort: u64) -> Vec<u8> {
             let mut input = wide(random);
             let length = random.index(input.len());
             input.truncate(length);
+            input
+        }
+        7 => {
+            let mut input = generate::sound_image(V2, random);
+            let format = random.pick(&[V1, V2]);
+            input.extend(generate::stream(format, random, &input));
             input
         }
         _ => wide(random),
@@ -172,6 +179,10 @@ fn compared(run: &mut Run, input: &[u8], room: usize) -> Compared<()> {
         .for_each(|at| run.seen_at(Kind::OutputRooms, at));
     if room >= LONGEST {
         counted(run, input, &second);
+        if front_of_version_2(input) {
+            same("output on version 2", &*told, "bad store\n", lent)?;
+            run.seen_at(Kind::OtherFronts, 1);
+        }
     }
     Ok(())
 }

@@ -110,11 +110,9 @@ impl Program {
         if let Some(past @ 0..2) = input.len().checked_sub(INPUT_LIMIT) {
             run.seen_at(Kind::InputLengths, past);
         }
-        let version2 = Layout::of_header(V2, input).map(Layout::size);
-        let version2 = version2.and_then(|size| input.get(..size));
-        if version2.is_some_and(|front| V2.is_sound(front)) {
+        if front_of_version_2(input) {
             same("program on version 2", proved.as_str(), "bad store\n", lent)?;
-            run.seen(Kind::OtherFronts);
+            run.seen_at(Kind::OtherFronts, 0);
         }
         let front = Layout::of_header(V1, input).map(|layout| (layout.cards(), layout.room()));
         let large = FRONTS
@@ -135,6 +133,14 @@ impl Drop for Program {
 
 /// The signal of a pipe that nobody reads.
 const SIGPIPE: i32 = 13;
+
+/// Whether a sound image of version 2 stands in front of an input that is not
+/// too long.
+pub fn front_of_version_2(input: &[u8]) -> bool {
+    let size = Layout::of_header(V2, input).map(Layout::size);
+    let front = size.and_then(|size| input.get(..size));
+    input.len() <= INPUT_LIMIT && front.is_some_and(|front| V2.is_sound(front))
+}
 
 /// The edges of an input's length, and of what an image leaves of it; then the
 /// sorts of inputs with long outputs.
