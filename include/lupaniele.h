@@ -70,6 +70,10 @@ bool lupaniele_next(const uint8_t *stream, size_t stream_length, uint64_t at, ui
 /* The byte where the first command of a stream that is not whole begins, or the stream's end (rule 8.2). */
 uint64_t lupaniele_end(const uint8_t *stream, size_t stream_length);
 
+/* The same two for a stream of commands of version 2 (rule 15.6). */
+bool lupaniele_next_v2(const uint8_t *stream, size_t stream_length, uint64_t at, uint64_t *end);
+uint64_t lupaniele_end_v2(const uint8_t *stream, size_t stream_length);
+
 /* What the program prints for these bytes as its standard input (rules 8.3 to 8.6), in the first bytes of out: how many they are.
    out takes 238,518 bytes; with fewer it stays, and the answer is 0. */
 uint64_t lupaniele_output(const uint8_t *input, size_t input_length, uint8_t *out, size_t out_length);
