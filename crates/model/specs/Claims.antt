@@ -147,7 +147,7 @@ pub record Turned (g : Format) (image command reply : List ℕ) : Type 0 where
   pub silent : serve g image command reply .reply ≡ reply
 
 abbrev pub OtherVersion : Type 0
-OtherVersion = (f g : Format) → f ≡ g → (image command reply : List ℕ) → T (sound f image) → Turned g image command reply
+OtherVersion = (f g : Format) → (f ≡ g → ⊥) → (image command reply : List ℕ) → T (sound f image) → Turned g image command reply
 
 -- Rule 15.8, each language by itself: a command that writes one leaves the text of every other as it was, and one that writes a translation leaves it as it was
 -- whether another translation is behind.
