@@ -380,7 +380,7 @@ slipRaised =
     }
 
 -- Commit marks. With (5, 7) stored, (5, 7) and (5, 8) are accepted; (5, 6), where the transaction alone differs, (6, 7), where the desk alone does,
--- and no mark at all get 4. With no mark stored, (5, 7) gotIn 4.
+-- and no mark at all get 4. With no mark stored, (5, 7) gets 4.
 abbrev pub trialMark : Mark → Got → Trial
 trialMark expected then =
     record {
@@ -424,7 +424,7 @@ refusedAhead mode s x = trialAhead (verifyAhead mode (pair s x) (markOf 5 7) ∷
 abbrev pub passedAhead : ℕ → ℕ → ℕ → Trial
 passedAhead mode s x = trialAhead (verifyAhead mode (pair s x) (markOf 5 7) ∷ []) (got 0 s x 5 7 0 0 0 [] ∷ [])
 
--- One command on a fresh card: a read of the translation, with a reply buffer of two bytes, gotIn 6 or 17; a verify is accepted or gotIn 17.
+-- One command on a fresh card: a read of the translation, with a reply buffer of two bytes, gets 6 or 17; a verify is accepted or gets 17.
 abbrev pub freshRead : ℕ → ℕ → Trial
 freshRead t number =
     record { version = V1; start = empty; sent = request 2 shared (pair (ahead t) 0) 0 [] (long 2) ∷ []; expected = got number 0 0 0 0 0 0 0 (long 2) ∷ [] }

@@ -140,7 +140,7 @@ StaysSound =
     (f : Format) (image command reply : List ℕ) → Bytes image → Bytes command → Bytes reply → sound f image ≡ true
     → sound f (serve f image command reply .image) ≡ true
 
--- An image of another version is answered 9, whatever is asked, and nothing changes.
+-- Rule 15.13: an image of another version is answered 9, whatever is asked, and nothing changes.
 pub record Turned (g : Format) (image command reply : List ℕ) : Type 0 where
   pub number : serve g image command reply .answer .number ≡ 9
   pub kept : serve g image command reply .image ≡ image
@@ -149,7 +149,7 @@ pub record Turned (g : Format) (image command reply : List ℕ) : Type 0 where
 abbrev pub OtherVersion : Type 0
 OtherVersion = (f g : Format) → (f ≡ g → ⊥) → (image command reply : List ℕ) → T (sound f image) → Turned g image command reply
 
--- Each language by itself: a command that writes one leaves the text of every other as it was, and one that writes a translation leaves it as it was
+-- Rule 15.8, each language by itself: a command that writes one leaves the text of every other as it was, and one that writes a translation leaves it as it was
 -- whether another translation is behind.
 pub record ByItself (e : Event) (before : List Event) (k : ℕ) : Type 0 where
   pub texts : (l m : Language) → (l ≡ m → ⊥) → writes l (commandOf e) ≡ true → lastText m (e ∷ before) k ≡ lastText m before k
