@@ -1,16 +1,16 @@
 -- Another card in the bytes of cards: its entry and a text of it written. Assumes nothing.
-use Prim.Native.Nat.{ℕ, zero, suc, _+_, _*_, _≤_, _<_}
+use Prim.Native.Nat.{ℕ, _+_, _*_, _≤_, _<_}
 use native.Mathlib.Omega.{arith}
 use native.Mathlib.Nat.{mul-le-mul-right}
-use mathlib.Core.Path.{_≡_, refl, sym, ap, subst, _∙_}
+use mathlib.Core.Path.{_≡_, sym, ap, subst, _∙_}
 use mathlib.Core.Logic.{_⊎_, inl, inr}
 use mathlib.Core.Bool.{true, false}
 use mathlib.Core.List.{List, [], _++_}
 use borrow.Author.Tests.{eqb-true, eqb-false}
 use lib.Dec.{eqb}
-use lib.ListN.{length, getD, set, length-append, length-set}
+use lib.ListN.{length, getD, set, length-set}
 use lib.Seq.{getD-set-same, getD-set-other, ext-getD}
-use Rattle.lists.specs.Parts.{part, splice, spread, table}
+use Rattle.lists.specs.Parts.{splice, spread, table}
 use Rattle.lists.proofs.Parts.{splice-append-left, splice-append-right, splice-within, splice-part}
 use Rattle.lists.proofs.Spread.{length-spread, part-spread, splice-spread, length-table, getD-table}
 use Rattle.lists.proofs.Tests.{cases}

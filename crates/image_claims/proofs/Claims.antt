@@ -1,18 +1,18 @@
 -- The claims on images and cards, proved for each version. Assumes nothing.
-use Prim.Native.Nat.{ℕ, zero, suc, _+_, _*_, _-_, _/_, _<_}
+use Prim.Native.Nat.{ℕ, _+_, _*_, _-_, _/_, _<_}
 use native.Mathlib.Omega.{arith}
 use mathlib.Core.Path.{_≡_, refl, sym, ap, _∙_, subst}
 use mathlib.Core.Logic.{_⊎_, inl, inr}
-use mathlib.Core.List.{List, [], _++_, append-assoc}
+use mathlib.Core.List.{List, _++_}
 use mathlib.Core.Bool.{Bool, true, false, _&&_}
 use borrow.Author.Tests.{eqb-true, ne-eqb}
-use lib.Dec.{T, eqb, leb, lit<, leb·zero}
-use lib.ListN.{length, take, drop, getD, replicate, length-replicate, getD-replicate, replicate-append-replicate}
+use lib.Dec.{T, leb, lit<, leb·zero}
+use lib.ListN.{length, take, drop, getD, replicate, length-replicate, getD-replicate}
 use lib.Seq.{drop-at}
-use Rattle.lists.specs.Parts.{spread, table, Bytes}
-use Rattle.lists.specs.Le.{le, toLe, field}
+use Rattle.lists.specs.Parts.{Bytes}
+use Rattle.lists.specs.Le.{le, field}
 use Rattle.lists.proofs.Parts.{part-take, part-append-left}
-use Rattle.lists.proofs.Spread.{table-ext, table-is, spread-replicate}
+use Rattle.lists.proofs.Spread.{table-ext}
 use Rattle.lists.proofs.Tests.{to-T, from-T, cases, all-out, all-fails-at}
 use Rattle.lists.specs.Table.{all, allFrom, listed}
 use Rattle.lists.proofs.Bytes.{Bytes-nil, zeros-at, zeros-replicate}
@@ -20,10 +20,10 @@ use Rattle.guard.specs.Entry.{entrySound, noEntry, FitsEntry}
 use Rattle.guard.specs.declared.Entry.{Entry}
 use Rattle.formats.specs.declared.Format.{Format}
 use Rattle.formats.specs.declared.Format.the-variants.{V1, V2}
-use Rattle.formats.specs.Format.{version, entrySize, translations}
-use Rattle.image.specs.Layout.{sides, shapeOk, sizeOf, headerSize}
-use Rattle.image.specs.Bytes.{header, entryBytes, pad, countOf}
-use Rattle.image.specs.Image.{Card, Translation, translationOf, noTranslation, view, sideText, noCard, cardEntry, bodies, encode, cardAt, decode, headerSound, sound, fresh, GoodCard, GoodCards, freshCards, makes, makeNumber, claimed, goodFront}
+use Rattle.formats.specs.Format.{version, translations}
+use Rattle.image.specs.Layout.{shapeOk, sizeOf, headerSize}
+use Rattle.image.specs.Bytes.{header, countOf}
+use Rattle.image.specs.Image.{noTranslation, view, noCard, encode, cardAt, decode, headerSound, sound, fresh, GoodCard, GoodCards, freshCards, makes, makeNumber, claimed, goodFront}
 use Rattle.image_claims.specs.Claims.{SoundReadsBack, GoodEncodes, OneImage, OneVersion, NoOldFront, FreshSound, LargestImage, makeNumbers, MakeListed}
 use Rattle.image.proofs.Shape.{shape}
 use Rattle.image.proofs.Cards.{Bytes-encode, sound-encode, decode-encode}

@@ -7,7 +7,7 @@ use mathlib.Core.Logic.{_⊎_, inl, inr}
 use mathlib.Core.List.{List, [], _∷_}
 use mathlib.Core.Bool.{Bool, true, false, cond, _&&_, or-comm}
 use borrow.Author.Tests.{eqb-true, eqb-false, eq-eqb, ne-eqb, le-ltb, ltb-true, not-true, not-false}
-use lib.Dec.{eqb, ltb, eqb·suc-zero, lit<}
+use lib.Dec.{eqb, ltb, eqb·suc-zero}
 use lib.ListN.{length, getD, set, length-set, length-replicate}
 use lib.Seq.{getD-set-same, getD-set-other}
 use Rattle.lists.proofs.Tests.{cases, never-both, or-right, not-in, ltb-max}
@@ -17,7 +17,6 @@ use Rattle.stamps.specs.Stamp.{noMark}
 use Rattle.guard.specs.Judge.{behind, judgeRows, raise, judged}
 use Rattle.guard.specs.Replies.{replied}
 use Rattle.lists.specs.Table.{first, settled, applies}
-use Rattle.commands.specs.declared.Command.{Command}
 use Rattle.stamps.specs.declared.Pair.{Pair}
 use Rattle.guard.proofs.Judge.{Accepted, accepted as passes}
 use Rattle.commands.proofs.Rules.{CommandRules}

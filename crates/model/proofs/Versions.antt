@@ -1,9 +1,8 @@
 -- An image of another version, and languages by themselves. Assumes nothing.
 use Prim.Native.Nat.{ℕ}
 use mathlib.Core.Path.{_≡_, refl, sym, ap, _∙_}
-use mathlib.Core.List.{List, _∷_}
+use mathlib.Core.List.{List}
 use mathlib.Core.Bool.{true, false, and-false}
-use lib.Dec.{T}
 use lib.ListN.{length}
 use Rattle.commands.specs.Command.{Language, original, translation, writes}
 use Rattle.commands.specs.declared.Command.{Command}

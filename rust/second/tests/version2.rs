@@ -13,12 +13,7 @@ use second::{
 /// Answers a command of version 2 with a reply buffer of 16 bytes, and checks
 /// what every answer must keep.
 fn send(image: &mut [u8], fields: CommandFields, payload: &[u8]) -> Answer {
-    check::answer(
-        V2,
-        image,
-        &fields.with_payload(payload),
-        &mut vec![0xaa; 16],
-    )
+    check::answer(V2, image, &fields.with_payload(payload), &mut [0xaa; 16])
 }
 
 /// Writes the original on card 0.
