@@ -10,3 +10,4 @@ pub mod outputs;
 pub mod queues;
 pub mod shown;
 pub mod streams;
+pub mod versions;

@@ -1,12 +1,12 @@
 -- Cards by the rules: they encode to a sound image of bytes that reads back to them. Assumes nothing.
-use Prim.Native.Nat.{ℕ, zero, suc, _+_, _*_, _-_, _≤_, _<_}
+use Prim.Native.Nat.{ℕ, zero, suc, _+_, _-_, _≤_, _<_}
 use native.Mathlib.Omega.{arith}
 use native.Mathlib.Nat.{add-zero}
 use mathlib.Core.Path.{_≡_, refl, sym, ap, subst, _∙_}
 use mathlib.Core.Logic.{_⊎_, inl, inr}
-use mathlib.Core.List.{List, [], _∷_, _++_}
-use mathlib.Core.Bool.{true, false, _&&_}
-use borrow.Author.Tests.{eq-eqb, eqb-true, eqb-false, leb-true}
+use mathlib.Core.List.{List, [], _++_}
+use mathlib.Core.Bool.{true, false}
+use borrow.Author.Tests.{eq-eqb, eqb-true, eqb-false}
 use lib.Dec.{eqb, lit≤, lit<}
 use lib.ListN.{length, take, getD, set, replicate, length-set}
 use lib.Seq.{getD-set-same, getD-set-other}
@@ -17,7 +17,7 @@ use Rattle.lists.proofs.Bytes.{Bytes-append, Bytes-replicate, Bytes-take, zeros
 use Rattle.lists.proofs.Every.{every-in}
 use Rattle.lists.proofs.Le.{Bytes-toLe}
 use Rattle.lists.proofs.Spread.{Bytes-spread, table-is, length-table, getD-table}
-use Rattle.lists.proofs.Tests.{cases, from-T, and-in, all-out}
+use Rattle.lists.proofs.Tests.{cases, from-T, and-in}
 use Rattle.guard.specs.Entry.{entrySound}
 use Rattle.guard.specs.declared.Entry.{Entry}
 use Rattle.formats.specs.declared.Format.{Format}
@@ -26,7 +26,7 @@ use Rattle.formats.specs.Format.{version, translations, entrySize}
 use Rattle.commands.specs.Bytes.{pairBytes}
 use Rattle.image.specs.Layout.{sides, shapeOk, sizeOf, entryPlace, entryEnd, bodyPlace}
 use Rattle.image.specs.Bytes.{magic, headerNumbers, header, entryMark, entryCounts, entryBytes, pad, countOf, roomOf, readEntry, entryAt}
-use Rattle.image.specs.Image.{Translation, Card, Cards, translationOf, view, sideText, withCard, noCard, noTranslation, cardEntry, bodies, encode, bodyAt, translationAt, cardAt, decode, tailZero, translationSound, cardSound, headerSound, sound, GoodCard, GoodCards}
+use Rattle.image.specs.Image.{Card, Cards, translationOf, view, sideText, withCard, noCard, noTranslation, cardEntry, bodies, encode, bodyAt, translationAt, cardAt, decode, tailZero, translationSound, cardSound, headerSound, sound, GoodCard, GoodCards}
 use Rattle.image.proofs.Bytes.{lengths}
 use Rattle.image.proofs.Shape.{shape, some-translation}
 use Rattle.image.proofs.Encode.{part-whole, length-entryBytes, length-encode, part-header, countOf-encode, roomOf-encode, part-entry, part-body}

@@ -7,7 +7,7 @@ use mathlib.Core.List.{List, _++_}
 use mathlib.Core.Bool.{true, false}
 use mathlib.Core.Logic.{_⊎_, inl, inr}
 use borrow.Author.Tests.{eqb-true, ltb-true, ltb-false}
-use lib.Dec.{T, ltb, lit≤, lit<}
+use lib.Dec.{T, ltb}
 use lib.ListN.{length, getD, replicate, List·getD-eq-default}
 use Rattle.lists.specs.Parts.{part, spread, table, every, zeros, Bytes}
 use Rattle.lists.specs.Le.{le, toLe, field}
@@ -20,11 +20,10 @@ use Rattle.lists.proofs.Tests.{and-left, and-right, all-out, cases, from-T, to-
 use Rattle.guard.specs.Entry.{entrySound, FitsEntry}
 use Rattle.guard.specs.declared.Entry.{Entry}
 use Rattle.formats.specs.declared.Format.{Format}
-use Rattle.formats.specs.declared.Format.the-variants.{V1, V2}
 use Rattle.formats.specs.Format.{version, translations, entrySize, fromsAt, originalAt, lengthsAt}
 use Rattle.image.specs.Layout.{sides, shapeOk, sizeOf, mostBytes, headerSize, entryPlace, entryEnd, bodyPlace}
-use Rattle.image.specs.Bytes.{magic, header, entryBytes, pad, countOf, roomOf, readEntry, entryAt}
-use Rattle.image.specs.Image.{Translation, Card, view, translationOf, noTranslation, noCard, sideText, cardEntry, bodies, encode, bodyAt, translationAt, cardAt, decode, tailZero, translationSound, cardSound, headerSound, sound, GoodCard, GoodCards}
+use Rattle.image.specs.Bytes.{magic, header, pad, countOf, roomOf, readEntry, entryAt}
+use Rattle.image.specs.Image.{Translation, view, translationOf, noTranslation, noCard, sideText, cardEntry, bodies, encode, bodyAt, translationAt, cardAt, decode, tailZero, translationSound, cardSound, headerSound, sound, GoodCard, GoodCards}
 use Rattle.image.proofs.Shape.{Shape, shape, some-translation, entry-within, body-within}
 use Rattle.image.proofs.Encode.{part-whole}
 use Rattle.image.proofs.Entry.{again, entryBytes-read, entryBytes-ext, pad-read}
@@ -219,7 +218,7 @@ module _ (f : Format) (image : List ℕ) (b : Bytes image) (holds : T (sound f i
         ∙ pad-read (bodyPlace f (countOf image) (roomOf image) k side) (sideLength f image holds k below side) (roomOf image) image
         (body-lies f image holds k below side h) (side-fits f image holds k below side h) (side-tail f image holds k below side h)
 
-    bodies-back : bodies f (roomOf image) (cardAt f image k)
+    pub bodies-back : bodies f (roomOf image) (cardAt f image k)
         ≡ part (headerSize + entrySize f * countOf image + k * (sides f * roomOf image)) (sides f * roomOf image) image
     unfolding bodies
     bodies-back =

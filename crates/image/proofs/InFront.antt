@@ -1,6 +1,6 @@
 -- The image in front of some bytes: how it goes by the tests, and what is known of a good one. Assumes nothing.
 use Prim.Native.Nat.{ℕ, _≤_, _<_}
-use mathlib.Core.Path.{_≡_, refl, sym, ap}
+use mathlib.Core.Path.{_≡_, refl, ap}
 use mathlib.Core.List.{List}
 use mathlib.Core.Bool.{Bool, true, false, _&&_}
 use lib.ListN.{length, take}
@@ -14,7 +14,6 @@ use Rattle.formats.specs.declared.Format.the-variants.{V1}
 use Rattle.image.specs.Layout.{headerSize, mostBytes, mostRoom}
 use Rattle.image.specs.Bytes.{countOf, roomOf}
 use Rattle.image.specs.Image.{sound, claimed, goodFront, frontSize, frontOf}
-use Rattle.image.specs.declared.Dimensions.{Dimensions}
 use Rattle.image.proofs.Decode.{shape-holds}
 use Rattle.image.proofs.Shape.{shape}
 

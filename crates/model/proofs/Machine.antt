@@ -7,7 +7,7 @@ use mathlib.Core.Logic.{_⊎_, inl, inr}
 use mathlib.Core.List.{List, [], _∷_}
 use mathlib.Core.Bool.{Bool, true, false, cond, _&&_, or-comm}
 use borrow.Author.Tests.{eqb-true, eqb-false, eq-eqb, ne-eqb, le-ltb, ltb-true, not-true, not-false}
-use lib.Dec.{eqb, ltb, eqb·suc-zero, lit<}
+use lib.Dec.{eqb, ltb, eqb·suc-zero}
 use lib.ListN.{length, getD, set, length-set, length-replicate}
 use lib.Seq.{getD-set-same, getD-set-other}
 use Rattle.lists.proofs.Tests.{cases, never-both, or-right, not-in, ltb-max}
@@ -17,7 +17,6 @@ use Rattle.stamps.specs.Stamp.{noMark}
 use Rattle.guard.specs.Judge.{behind, judgeRows, raise, judged}
 use Rattle.guard.specs.Replies.{replied}
 use Rattle.lists.specs.Table.{first, settled, applies}
-use Rattle.commands.specs.declared.Command.{Command}
 use Rattle.stamps.specs.declared.Pair.{Pair}
 use Rattle.guard.proofs.Judge.{Accepted, accepted as passes}
 use Rattle.commands.proofs.Rules.{CommandRules}
@@ -27,7 +26,7 @@ use Rattle.formats.specs.declared.Format.{Format}
 use Rattle.formats.specs.Format.{translations}
 use Rattle.commands.proofs.CommandBytes.{language-within}
 use Rattle.image.specs.Image.{Translation, Card, Cards, noTranslation, translationOf, text, noCard}
-use Rattle.image_claims.proofs.Claims.{no-translation}
+use Rattle.image.proofs.Empty.{no-translation}
 use Rattle.model.specs.Serve.{cardOf, entryOf, requestRows, stepped, cardsAfter, answerBy, replyBy}
 use Rattle.model.specs.Words.{Sent, Event, received, commandOf, accepted, outdated, lastText}
 use Rattle.lists.specs.Search.{any, last}

@@ -9,7 +9,7 @@ use borrow.Author.Tests.{not-true, not-false, ltb-true, lt-ltb, leb-false, lt-le
 use lib.Dec.{eqb, ltb, leb}
 use Rattle.lists.proofs.Tests.{never-both, cases, and-in, and-left, and-right, or-left, or-right, or-cases, or-fails, not-in}
 use Rattle.commands.specs.Command.{verifier, update}
-use Rattle.stamps.specs.Stamp.{shared, exclusive, stampT, deskNumber, deskStart, deskOf, mostAhead}
+use Rattle.stamps.specs.Stamp.{shared, exclusive, stampT, deskNumber, deskStart, mostAhead}
 use Rattle.commands.specs.declared.Command.{Command}
 use Rattle.stamps.specs.declared.Pair.{Pair}
 use Rattle.model.specs.Words.{Received, Event, commandOf, accepted, largerS, largerX, late, inReach, outOfReach, farAhead, formedFor, carries, under, breaks, premise, deskIn, intrudes}

@@ -3,17 +3,15 @@ use Prim.Native.Nat.{ℕ, zero, suc, _<_}
 use native.Mathlib.Omega.{arith}
 use mathlib.Core.Path.{_≡_, refl, sym, ap, subst, _∙_}
 use mathlib.Core.Logic.{_⊎_, inl, inr}
-use mathlib.Core.List.{List, [], _∷_, _++_, reverse}
-use mathlib.Core.Bool.{Bool, true, false, cond, not}
+use mathlib.Core.List.{List, [], _∷_, reverse}
+use mathlib.Core.Bool.{true, false, cond}
 use borrow.Author.Tests.{eqb-true, eqb-false, eq-eqb, ltb-true, ltb-false, not-false}
 use lib.Dec.{T, eqb, ltb}
 use lib.ListN.{length, getD, set, replicate, length-replicate, getD-replicate, List·getD-eq-default}
 use lib.Seq.{getD-set-same, getD-set-other}
-use Rattle.lists.specs.Table.{settled, applies}
 use Rattle.lists.proofs.Table.{none-applies}
 use Rattle.lists.proofs.Tests.{cases}
 use Rattle.stamps.specs.Stamp.{noPair}
-use Rattle.stamps.specs.declared.Pair.{Pair}
 use Rattle.commands.specs.Bytes.{fieldsOf, payload, formed}
 use Rattle.guard.specs.Judge.{raise}
 use Rattle.guard.specs.Replies.{replied, blankReply}
@@ -23,7 +21,7 @@ use Rattle.image.specs.Image.{Card, Cards, noCard, fresh}
 use Rattle.image.specs.Image.{freshCards}
 use Rattle.image_claims.proofs.Claims.{freshSound}
 use Rattle.model.specs.Serve.{cardOf, entryOf, stepped, serve, storeRows}
-use Rattle.model.specs.Words.{Sent, Event, history, commandOf, accepted, logOf}
+use Rattle.model.specs.Words.{Sent, Event, history, commandOf, logOf}
 use Rattle.model.specs.Claims.{AllBytes}
 use Rattle.model.specs.Pairs.{largestPair, PairShown}
 use Rattle.model.proofs.Demand.{Along, along-split, bytes-reverse}

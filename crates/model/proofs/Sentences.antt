@@ -1,5 +1,5 @@
 -- The sentences of demand 3 of one request on cards, from what ties the cards to the events before. Assumes nothing.
-use Prim.Native.Nat.{ℕ, zero, suc, _+_, _<_}
+use Prim.Native.Nat.{ℕ, _+_, _<_}
 use native.Mathlib.Omega.{arith}
 use mathlib.Core.Path.{_≡_, refl, sym, ap, subst, _∙_}
 use mathlib.Core.Logic.{_↔_, _⊎_, inl, inr}
@@ -15,7 +15,7 @@ use Rattle.lists.proofs.Tests.{to-T, from-T, cases}
 use Rattle.stamps.specs.Stamp.{stale, stampT, mostAhead, stampTooFar, tooFar, markFits}
 use Rattle.stamps.specs.declared.Pair.{Pair}
 use Rattle.stamps.proofs.Stamp.{edge, reach-above, far-below}
-use Rattle.commands.specs.Command.{Language, original, translation, readsTranslation, writesTranslation, reads, writes, verifier, update}
+use Rattle.commands.specs.Command.{Language, original, translation, writesTranslation, reads, writes, verifier, update}
 use Rattle.commands.specs.Bytes.{fieldsOf}
 use Rattle.guard.specs.Judge.{behind, raise}
 use Rattle.guard.specs.Replies.{readLength, replied}

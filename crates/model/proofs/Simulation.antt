@@ -6,7 +6,7 @@ use mathlib.Core.Logic.{_⊎_, inl, inr}
 use mathlib.Core.List.{List, [], _∷_}
 use mathlib.Core.Bool.{Bool, true, false, cond}
 use borrow.Author.Tests.{ltb-true}
-use lib.Dec.{T, lit<}
+use lib.Dec.{T}
 use lib.ListN.{length}
 use Rattle.lists.specs.Parts.{Bytes}
 use Rattle.lists.proofs.Tests.{cases, from-T}
@@ -30,7 +30,8 @@ use Rattle.model.specs.Words.{Sent, eventOf, imageAfter, history}
 use Rattle.model.specs.Claims.{SentBytes, AllBytes}
 use Rattle.commands.proofs.CommandBytes.{length-payload, fits-fields, language-within, Bytes-payload}
 use Rattle.model.proofs.Machine.{numberOn, eventBy, cardsBy, cardsFrom, eventsFrom, Passed, passed}
-use Rattle.model.proofs.Stepped.{count-step, text-step, seen-named, seen-other, mixed, mixed-fits, mixed-sound, edition-kept}
+use Rattle.model.proofs.Stepped.{count-step, text-step, seen-named, seen-other, edition-kept}
+use Rattle.image.proofs.Mixed.{mixed, mixed-fits, mixed-sound}
 
 -- ---- cards stay by the rules
 

@@ -5,6 +5,7 @@ use native.Mathlib.Nat.{le-of-suc-le-suc, not-suc-le-zero, add-zero}
 use mathlib.Core.Path.{_≡_, refl, sym, ap, _∙_}
 use mathlib.Core.List.{List, [], _∷_, _++_, append-assoc}
 use mathlib.Core.Bool.{Bool, true, false, cond}
+use borrow.Author.Tests.{le-ltb}
 use lib.Dec.{ltb, lit<}
 use lib.ListN.{length, take, drop, getD}
 use Rattle.formats.specs.declared.Format.the-variants.{V1}
@@ -12,9 +13,10 @@ use Rattle.guard.specs.declared.Answer.{Answer}
 use Rattle.model.specs.Serve.{serve}
 use Rattle.image.specs.Bytes.{countOf}
 use Rattle.image.specs.Image.{goodFront}
+use Rattle.image_claims.proofs.Claims.{noOldFront}
 use Rattle.program.specs.Text.{quoted}
 use Rattle.program.specs.Program.{lineOf, linesFrom, firstLine, printed, mostInput, imageOf, blankOf, streamOf, runs, outputOf}
-use Rattle.program_claims.specs.Claims.{NeverEmpty, ProgramClaims}
+use Rattle.program_claims.specs.Claims.{NeverEmpty, NoVersion2, ProgramClaims}
 use Rattle.program_claims.proofs.Log.{logs}
 use Rattle.program_claims.proofs.Served.{guarded, serves}
 use Rattle.program_claims.proofs.Prints.{prints}
@@ -70,6 +72,10 @@ never-empty input = go (ltb mostInput (length input)) (goodFront input)
     go false true = omega arith
     go false false = lit< tt
 
+no-version-2 : NoVersion2
+unfolding outputOf
+no-version-2 image rest holds h = rw (le-ltb mostInput (length (image ++ rest)) h, noOldFront image rest holds)
+
 pub claims : ProgramClaims
 claims =
     record {
@@ -85,4 +91,5 @@ claims =
       prints = prints;
       numerals = numerals;
       never-empty = never-empty;
+      no-version-2 = no-version-2;
     }

@@ -6,7 +6,7 @@ use mathlib.Core.List.{List, [], _∷_, _++_, map, reverse}
 use mathlib.Core.Bool.{true}
 use lib.Dec.{T, eqb}
 use lib.ListN.{length, take, drop, getD, replicate}
-use Rattle.formats.specs.declared.Format.the-variants.{V1}
+use Rattle.formats.specs.declared.Format.the-variants.{V1, V2}
 use Rattle.lists.specs.Parts.{Bytes}
 use Rattle.guard.specs.declared.Answer.{Answer}
 use Rattle.image.specs.Layout.{shapeOk}
@@ -18,7 +18,7 @@ use Rattle.lists.specs.Search.{none}
 use Rattle.model.specs.Claims.{Claim}
 use Rattle.stream.specs.Stream.{commands}
 use Rattle.image.specs.Image.{goodFront}
-use Rattle.program.specs.Text.{decimal}
+use Rattle.program.specs.Text.{decimal, quoted}
 use Rattle.program.specs.Program.{firstLine, lineOf, linesFrom, lastLine, leftOver, mostInput, runs, runOf, outputOf}
 
 -- The answers of a run are those of judging command by command: one for each command, and each is the store's, on the image and the reply
@@ -63,7 +63,7 @@ pub record Logged (image reply : List ℕ) (cs : List (List ℕ)) : Type 0 where
 abbrev pub Guarded : Type 0
 Guarded =
     (n c : ℕ) (stream : List ℕ) → T (shapeOk V1 n c) → Bytes stream
-    → Claim n (requests (fresh V1 n c) (replicate c 0) (commands stream)) (logged (fresh V1 n c) (replicate c 0) (commands stream))
+    → Claim n (requests (fresh V1 n c) (replicate c 0) (commands V1 stream)) (logged (fresh V1 n c) (replicate c 0) (commands V1 stream))
 
 -- ---- the program on a good store
 
@@ -95,11 +95,16 @@ pub record Numeral (n : ℕ) : Type 0 where
 abbrev pub Prints : Type 0
 Prints =
     (image stream : List ℕ) → sound V1 image ≡ true → length (image ++ stream) ≤ mostInput
-    → outputOf (image ++ stream) ≡ firstLine (countOf image) ++ (linesFrom 1 (runs image (replicate (roomOf image) 0) (commands stream) .answers) ++ lastLine (leftOver stream))
+    → outputOf (image ++ stream) ≡ firstLine (countOf image) ++ (linesFrom 1 (runs image (replicate (roomOf image) 0) (commands V1 stream) .answers) ++ lastLine (leftOver stream))
 
 -- No output is empty. So where nothing is written, because too few bytes were lent, the count tells it.
 abbrev pub NeverEmpty : Type 0
 NeverEmpty = (input : List ℕ) → 0 < length (outputOf input)
+
+-- An input that begins with an image of version 2 gets the line for a bad store, and no text.
+abbrev pub NoVersion2 : Type 0
+NoVersion2 =
+    (image rest : List ℕ) → T (sound V2 image) → length (image ++ rest) ≤ mostInput → outputOf (image ++ rest) ≡ quoted "bad store\n"
 
 pub record ProgramClaims : Type 0 where
   pub stepwise : (image reply : List ℕ) (cs : List (List ℕ)) → Stepwise image reply cs
@@ -109,3 +114,4 @@ pub record ProgramClaims : Type 0 where
   pub prints : Prints
   pub numerals : (n : ℕ) → Numeral n
   pub never-empty : NeverEmpty
+  pub no-version-2 : NoVersion2

@@ -6,14 +6,14 @@ use native.Mathlib.Numerals.{add-one}
 use mathlib.Core.Path.{_≡_, refl, sym, ap, subst, _∙_}
 use mathlib.Core.Logic.{_⊎_, inl, inr}
 use mathlib.Core.List.{List}
-use mathlib.Core.Bool.{Bool, true, false, cond, _&&_, and-false}
+use mathlib.Core.Bool.{Bool, true, false, cond, and-false}
 use borrow.Author.Tests.{eqb-true, eqb-false, eq-eqb, ne-eqb}
 use lib.Dec.{T, eqb}
-use lib.ListN.{length, getD, set, length-set}
-use Rattle.lists.specs.Parts.{part, splice, spread, table, Bytes}
+use lib.ListN.{length}
+use Rattle.lists.specs.Parts.{part, splice, spread, Bytes}
 use Rattle.lists.proofs.Spread.{table-ext, length-table}
 use Rattle.lists.proofs.Parts.{splice-before, length-splice}
-use Rattle.lists.proofs.Tests.{cases, to-T, never-both}
+use Rattle.lists.proofs.Tests.{cases, to-T}
 use Rattle.commands.specs.Command.{translation, original, writesTranslation, writes}
 use Rattle.commands.specs.declared.Command.{Command}
 use Rattle.guard.specs.Judge.{raise}
@@ -22,7 +22,7 @@ use Rattle.formats.specs.declared.Format.{Format}
 use Rattle.formats.specs.Format.{translations, entrySize}
 use Rattle.image.specs.Layout.{headerSize, sides, entryPlace, bodyPlace}
 use Rattle.image.specs.Bytes.{entryBytes, pad, countOf, roomOf, entryAt}
-use Rattle.image.specs.Image.{Card, Translation, translationOf, view, sideText, noCard, withCard, cardEntry, bodies, translationAt, cardAt, encode, decode, sound}
+use Rattle.image.specs.Image.{Card, view, sideText, withCard, cardEntry, bodies, translationAt, cardAt, encode, decode, sound}
 use Rattle.image.proofs.Encode.{length-pad}
 use Rattle.image.proofs.Entry.{entryBytes-ext}
 use Rattle.image.proofs.Decode.{count-decode, room-decode, card-decode, view-at, entry-lies, body-lies, entry-back, long, encode-decode}

@@ -28,7 +28,7 @@ use Rattle.store.specs.Carried.{judgedAt, carried}
 use Rattle.model.specs.Serve.{Outcome, cardOf, entryOf, textRead, stepped, storeRows, serveBy, serve}
 use Rattle.model.proofs.Formed.{formed-well}
 use Rattle.formats.specs.declared.Format.{Format}
-use Rattle.formats.specs.Format.{fixed, translations}
+use Rattle.formats.specs.Format.{fixed}
 use Rattle.image.specs.Bytes.{entryAt, countOf, roomOf}
 use Rattle.image.specs.Image.{view, Card, withCard, cardAt, encode, decode, sound}
 

@@ -1,8 +1,8 @@
 -- The text that a command reads on a sound image. Assumes nothing.
-use Prim.Native.Nat.{ℕ, zero, suc, _+_, _≤_, _<_}
+use Prim.Native.Nat.{ℕ, suc, _+_, _≤_, _<_}
 use native.Mathlib.Omega.{arith}
 use native.Mathlib.Numerals.{add-one}
-use mathlib.Core.Path.{_≡_, refl, sym, ap, subst, _∙_}
+use mathlib.Core.Path.{_≡_, sym, ap, _∙_}
 use mathlib.Core.List.{List}
 use mathlib.Core.Bool.{true, false}
 use lib.ListN.{length}
@@ -15,7 +15,7 @@ use Rattle.guard.specs.declared.Entry.{Entry}
 use Rattle.guard.specs.Replies.{readLength}
 use Rattle.formats.specs.declared.Format.{Format}
 use Rattle.formats.specs.Format.{translations}
-use Rattle.image.specs.Layout.{sides, bodyPlace}
+use Rattle.image.specs.Layout.{bodyPlace}
 use Rattle.image.specs.Bytes.{countOf, roomOf, readEntry, entryAt}
 use Rattle.image.specs.Image.{Card, Translation, cardAt, sound}
 use Rattle.image.proofs.Decode.{side-fits, body-lies, translation-at}

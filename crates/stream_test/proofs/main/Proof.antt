@@ -7,6 +7,7 @@ use borrow.Author.Tests.{eq-eqb}
 use lib.ListN.{set, replicate}
 use Rattle.lists.specs.Le.{le}
 use Rattle.lists.specs.Parts.{part}
+use Rattle.formats.specs.declared.Format.the-variants.{V1}
 use Rattle.stream.specs.Stream.{extent, whole, nextAt, onward, endWithin, endOf}
 use Rattle.stream_test.proofs.main.Statement.{statement}
 use Rattle.stream_test.proofs.main.Tie as tie
@@ -14,19 +15,19 @@ use Rattle.stream_test.proofs.main.Tie as tie
 abbrev bytes : List ℕ
 bytes = set (replicate 120 0) 50 3
 
-first : onward 0 (nextAt bytes 0) ≡ 55
+first : onward 0 (nextAt V1 bytes 0) ≡ 55
 unfolding le part extent whole nextAt
 first = refl
 
-second : onward 55 (nextAt bytes 55) ≡ 107
+second : onward 55 (nextAt V1 bytes 55) ≡ 107
 unfolding le part extent whole nextAt
 second = refl
 
-none : onward 107 (nextAt bytes 107) ≡ 107
+none : onward 107 (nextAt V1 bytes 107) ≡ 107
 unfolding le part extent whole nextAt
 none = refl
 
-end : endOf bytes ≡ 107
+end : endOf V1 bytes ≡ 107
 unfolding le part extent whole endWithin endOf
 end = refl
 

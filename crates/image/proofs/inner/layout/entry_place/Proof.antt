@@ -1,5 +1,5 @@
 use native.Mathlib.Omega.{arith}
-use Rattle.image.proofs.Shape.{small, placed, product, entry-small}
+use Rattle.image.proofs.Shape.{product, entry-small}
 use borrow.Author.Needs.{needs}
 use Rattle.image.proofs.inner.layout.entry_place.Statement.{statement}
 use Rattle.image.proofs.inner.layout.entry_place.Tie as tie

@@ -1,5 +1,5 @@
 use native.Mathlib.Omega.{arith}
-use Rattle.image.proofs.Shape.{small, placed, product, entry-small}
+use Rattle.image.proofs.Shape.{small}
 use borrow.Author.Needs.{needs}
 use Rattle.image.proofs.inner.layout.size_of.Statement.{statement}
 use Rattle.image.proofs.inner.layout.size_of.Tie as tie

@@ -1,12 +1,11 @@
 use native.Mathlib.Numerals.{add-one}
 use native.Mathlib.Omega.{arith}
-use mathlib.Core.Path.{_≡_, sym, _∙_}
+use mathlib.Core.Path.{sym, _∙_}
 use borrow.Author.Tests.{not-true, not-false}
 use Rattle.formats.proofs.Numbers.{numbers}
 use Rattle.image.proofs.Bytes.{lengths}
-use Rattle.image.specs.Bytes.{countOf, roomOf, entryAt}
-use Rattle.image.specs.Image.{tailZero, translationSound, cardSound}
-use Rattle.image.proofs.Bytes.{translation-fails, translation-holds, translations-fail, translations-hold, body-lies, entry-lies}
+use Rattle.image.specs.Image.{tailZero}
+use Rattle.image.proofs.Bytes.{translation-fails, translation-holds, body-lies, entry-lies}
 use borrow.Author.Needs.{needs}
 use Rattle.image.proofs.inner.rules.translation_sound.Statement.{statement}
 use Rattle.image.proofs.inner.rules.translation_sound.Tie as tie

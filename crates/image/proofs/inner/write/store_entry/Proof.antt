@@ -1,6 +1,5 @@
 use native.Mathlib.Omega.{arith}
 use Rattle.formats.proofs.Numbers.{numbers}
-use Rattle.lists.specs.Le.{toLe}
 use Rattle.image.specs.Write.{entryWith}
 use borrow.Author.Needs.{needs}
 use Rattle.image.proofs.inner.write.store_entry.Statement.{statement}

@@ -3,6 +3,7 @@ use Prim.Native.Nat.{_-_}
 use borrow.Author.Needs.{needs}
 use native.Mathlib.Omega.{arith}
 use lib.ListN.{length}
+use Rattle.formats.specs.declared.Format.the-variants.{V1}
 use Rattle.stream.proofs.Place.{went, stayed}
 use Rattle.program.proofs.Running.{Running, running-none, running-within, running-more, running-less, running-fits, running-done}
 use Rattle.program.proofs.inner.run.run.Statement.{statement}
@@ -22,17 +23,17 @@ next-from-requires c κs = search needs
 
 sub-answer : tie.Need-sub-answer Inv-loop μ-loop
 sub-answer c =
-    let w = running-within (c .before .before .before .loop .inv) _ (went _ _ (c .before .before .next-from .ensures) (c .before .if1 .left)) in
+    let w = running-within (c .before .before .before .loop .inv) _ (went V1 _ _ (c .before .before .next-from .ensures) (c .before .if1 .left)) in
     omega (arith, w .0, w .1, w .2, w .3)
 
 part-answer-start : tie.Need-part-answer-start Inv-loop μ-loop
 part-answer-start c =
-    let w = running-within (c .before .before .before .loop .inv) _ (went _ _ (c .before .before .next-from .ensures) (c .before .if1 .left)) in
+    let w = running-within (c .before .before .before .loop .inv) _ (went V1 _ _ (c .before .before .next-from .ensures) (c .before .if1 .left)) in
     omega (arith, w .0, w .1, w .2, w .3)
 
 part-answer-end : tie.Need-part-answer-end Inv-loop μ-loop
 part-answer-end c =
-    let w = running-within (c .before .before .before .loop .inv) _ (went _ _ (c .before .before .next-from .ensures) (c .before .if1 .left)) in
+    let w = running-within (c .before .before .before .loop .inv) _ (went V1 _ _ (c .before .before .next-from .ensures) (c .before .if1 .left)) in
     omega (arith, w .0, w .1, w .2, w .3)
 
 answer-requires : tie.Need-answer-requires Inv-loop μ-loop
@@ -40,26 +41,26 @@ answer-requires c κs = search needs
 
 put-line-requires : tie.Need-put-line-requires Inv-loop μ-loop
 put-line-requires c κs =
-    let w = running-within (c .before .before .before .before .before .before .before .before .before .before .before .loop .inv) _ (went _ _ (c .before .before .before .before .before .before .before .before .before .before .next-from .ensures) (c .before .before .before .before .before .before .before .before .before .if1 .left)) in
+    let w = running-within (c .before .before .before .before .before .before .before .before .before .before .before .loop .inv) _ (went V1 _ _ (c .before .before .before .before .before .before .before .before .before .before .next-from .ensures) (c .before .before .before .before .before .before .before .before .before .if1 .left)) in
     omega (arith, w .0, w .1, w .2, w .3)
 
 add-place : tie.Need-add-place Inv-loop μ-loop
 add-place c =
-    let w = running-within (c .before .before .before .before .before .before .before .before .before .before .before .before .before .before .loop .inv) _ (went _ _ (c .before .before .before .before .before .before .before .before .before .before .before .before .before .next-from .ensures) (c .before .before .before .before .before .before .before .before .before .before .before .before .if1 .left)) in
+    let w = running-within (c .before .before .before .before .before .before .before .before .before .before .before .before .before .before .loop .inv) _ (went V1 _ _ (c .before .before .before .before .before .before .before .before .before .before .before .before .before .next-from .ensures) (c .before .before .before .before .before .before .before .before .before .before .before .before .if1 .left)) in
     omega (arith, w .0, w .1, w .2, w .3)
 
 loop-less : tie.Need-loop-less Inv-loop μ-loop
-loop-less c = running-less (c .before .before .before .before .before .before .before .before .before .before .before .before .before .before .loop .inv) _ (went _ _ (c .before .before .before .before .before .before .before .before .before .before .before .before .before .next-from .ensures) (c .before .before .before .before .before .before .before .before .before .before .before .before .if1 .left))
+loop-less c = running-less (c .before .before .before .before .before .before .before .before .before .before .before .before .before .before .loop .inv) _ (went V1 _ _ (c .before .before .before .before .before .before .before .before .before .before .before .before .before .next-from .ensures) (c .before .before .before .before .before .before .before .before .before .before .before .before .if1 .left))
 
 loop-again : tie.Need-loop-again Inv-loop μ-loop
 loop-again c =
-    running-more (c .before .before .before .before .before .before .before .before .before .before .before .before .before .before .loop .inv) _ _ _ _ _ _ (went _ _ (c .before .before .before .before .before .before .before .before .before .before .before .before .before .next-from .ensures) (c .before .before .before .before .before .before .before .before .before .before .before .before .if1 .left)) (c .before .before .before .before .before .before .before .before .answer .ensures .0) (c .before .before .before .before .before .before .before .before .answer .ensures .1 .0) (c .before .before .before .before .before .before .before .before .answer .ensures .1 .1) (c .before .before .put-line .ensures) (search needs) (search needs)
+    running-more (c .before .before .before .before .before .before .before .before .before .before .before .before .before .before .loop .inv) _ _ _ _ _ _ (went V1 _ _ (c .before .before .before .before .before .before .before .before .before .before .before .before .before .next-from .ensures) (c .before .before .before .before .before .before .before .before .before .before .before .before .if1 .left)) (c .before .before .before .before .before .before .before .before .answer .ensures .0) (c .before .before .before .before .before .before .before .before .answer .ensures .1 .0) (c .before .before .before .before .before .before .before .before .answer .ensures .1 .1) (c .before .before .put-line .ensures) (search needs) (search needs)
 
 sub-put-last : tie.Need-sub-put-last Inv-loop μ-loop
 sub-put-last c = omega (arith, c .before .before .before .loop .inv .walked .within)
 
 put-last-requires : tie.Need-put-last-requires Inv-loop μ-loop
-put-last-requires c κs = running-fits (c .before .before .before .loop .inv) (stayed _ _ (c .before .before .next-from .ensures) (c .before .if1 .taken))
+put-last-requires c κs = running-fits (c .before .before .before .loop .inv) (stayed V1 _ _ (c .before .before .next-from .ensures) (c .before .if1 .taken))
 
 same-length : tie.Need-same-length Inv-loop μ-loop
 same-length c = search needs
@@ -71,7 +72,7 @@ same-length-3 : tie.Need-same-length-3 Inv-loop μ-loop
 same-length-3 c = search needs
 
 returns : tie.Need-returns Inv-loop μ-loop
-returns c = running-done (c .before .before .before .before .before .before .loop .inv) (stayed _ _ (c .before .before .before .before .before .next-from .ensures) (c .before .before .before .before .if1 .taken)) (search needs) (c .before .before .put-last .ensures)
+returns c = running-done (c .before .before .before .before .before .before .loop .inv) (stayed V1 _ _ (c .before .before .before .before .before .next-from .ensures) (c .before .before .before .before .if1 .taken)) (search needs) (c .before .before .put-last .ensures)
 
 pub run-spec : {M : Type 1} → statement M
 run-spec =
