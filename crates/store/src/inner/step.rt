@@ -2,6 +2,7 @@ ghost use mathlib.Core.Path.{_≡_};
 ghost use mathlib.Core.Bool.{true};
 ghost use Prim.Native.Nat.{_<_};
 ghost use lib.ListN.{length};
+ghost use Rattle.commands.specs.Command.{wellFormed};
 ghost use Rattle.formats.specs.Format.{translations};
 ghost use Rattle.image.specs.Bytes.{countOf};
 ghost use Rattle.image.specs.Image.{sound};
@@ -16,20 +17,20 @@ use guard::Answer;
 use guard::NO_CARD;
 use stamps::MALFORMED;
 
-// A command for a card that exists, on a sound image: its entry judges, and an accepted command is carried out.
+// A well-formed command for a card that exists, on a sound image: its entry judges, and an accepted command is carried out.
 pub fn carry(f: Format, image: &mut [u8], c: Command, text: &[u8], reply: &mut [u8]) -> Answer
-    requires { ⌜ (sound f (now image) ≡ true) × (c .card < countOf (now image)) × (c .language < translations f) × (length (now text) ≡ c .length) ⌝ }
+    requires { ⌜ (sound f (now image) ≡ true) × (c .card < countOf (now image)) × (c .language < translations f) × (length (now text) ≡ c .length) × (wellFormed c ≡ true) ⌝ }
     ensures answer { λ r. ⌜ r ≡ carried f (now (image .entry)) c (now (text .entry)) (now (reply .entry)) .answer ⌝ }
     ensures image { λ _. ⌜ now (image .exit) ≡ carried f (now (image .entry)) c (now (text .entry)) (now (reply .entry)) .image ⌝ }
     ensures reply { λ _. ⌜ now (reply .exit) ≡ carried f (now (image .entry)) c (now (text .entry)) (now (reply .entry)) .reply ⌝ }
 {
     let e = image::inner::read::entry_at(f, image, c.card, c.language);
-    let judged = e.judge(c, image::inner::read::room(image), reply.len());
+    let judged = e.judge_formed(c, image::inner::read::room(image), reply.len());
     if judged.number != ACCEPTED {
         return guard::reply(judged, c);
     }
     effects::show(f, image, c, e, reply);
-    effects::keep(f, image, c, judged.entry, text);
+    effects::keep(f, image, c, e, judged.entry, text);
     guard::reply(judged, c)
 }
 

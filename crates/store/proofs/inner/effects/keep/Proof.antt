@@ -3,7 +3,7 @@ use mathlib.Core.Path.{sym, _∙_}
 use Rattle.lists.proofs.Tests.{to-T}
 use Rattle.formats.proofs.Numbers.{numbers}
 use Rattle.image.proofs.Decode.{entry-lies}
-use Rattle.store.proofs.Kept.{keeps, header-in, body-in, written-original, written-translation, written-none}
+use Rattle.store.proofs.Kept.{keeps}
 use borrow.Author.Needs.{needs}
 use Rattle.store.proofs.inner.effects.keep.Statement.{statement}
 use Rattle.store.proofs.inner.effects.keep.Tie as tie
@@ -20,7 +20,7 @@ same-length c = search needs
 returns : tie.Need-returns
 returns c = let start = c .before .before .before .before .before .before .before .before .before .before in
     rw (c .before .before .store-entry .ensures, c .before .before .before .before .before .before .write .ensures)
-    (keeps (start .args .f) (start .args .image .now) (λ j. c .before .before .before .before .before .before .before .before .before .slice-known .given j .fits) (to-T (start .pre .0)) (start .args .c) (start .pre .1) (start .pre .2) (start .args .text .now) (start .pre .3) (start .pre .5))
+    (keeps (start .args .f) (start .args .image .now) (λ j. c .before .before .before .before .before .before .before .before .before .slice-known .given j .fits) (to-T (start .pre .0)) (start .args .c) (start .pre .1) (start .pre .2) (start .args .text .now) (start .pre .4) (start .pre .6))
 
 pub keep-spec : {M : Type 1} → statement M
 keep-spec = tie.close (tie.spec write-requires store-entry-requires same-length returns)
