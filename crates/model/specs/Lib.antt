@@ -1,4 +1,5 @@
 pub mod Serve
+pub mod Runs
 pub mod Words
 pub mod Claims
 pub mod Pairs

@@ -7,7 +7,7 @@ use Rattle.lists.specs.Parts.{spread}
 use Rattle.lists.proofs.Parts.{drop-left}
 use Rattle.program.specs.Text.{spaced}
 use Rattle.guard.specs.declared.Answer.{Answer}
-use Rattle.program.specs.Program.{numbersOf, perLine}
+use Rattle.model.specs.Runs.{numbersOf, perLine}
 
 pub per-line : (a : Answer) → length (numbersOf a) ≡ perLine
 unfolding numbersOf

@@ -10,7 +10,8 @@ use Rattle.program.specs.Text.{Put}
 use Rattle.program.proofs.Puts.{put-put, put-wide, Putting, putting-none, putting-more, putting-done}
 use Rattle.guard.specs.declared.Answer.{Answer}
 use Rattle.formats.specs.Format.{fixed}
-use Rattle.program.specs.Program.{lineOf, linesFrom, lastLine, mostLine, runs, printed, mostPrinted}
+use Rattle.program.specs.Program.{lineOf, linesFrom, lastLine, mostLine, printed, mostPrinted}
+use Rattle.model.specs.Runs.{runs}
 use Rattle.model.specs.Serve.{serve}
 use Rattle.stream.specs.Stream.{commands, nextAt, endOf}
 use Rattle.stream.specs.declared.Next.the-variants.{Whole, Cut}

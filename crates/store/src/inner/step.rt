@@ -15,6 +15,7 @@ use formats::Format;
 use guard::ACCEPTED;
 use guard::Answer;
 use guard::NO_CARD;
+use guard::UNSOUND;
 use stamps::MALFORMED;
 
 // A well-formed command for a card that exists, on a sound image: its entry judges, and an accepted command is carried out.
@@ -50,4 +51,18 @@ pub fn step(f: Format, image: &mut [u8], command: &[u8], reply: &mut [u8]) -> An
     }
     let start = formats::inner::fixed(f);
     carry(f, image, c, &command[start..], reply)
+}
+
+// One request on an image that has been checked: `checked` says whether it is sound, and does so still of what the request leaves.
+pub fn judge(f: Format, image: &mut [u8], command: &[u8], reply: &mut [u8], checked: bool) -> Answer
+    requires { ⌜ checked ≡ sound f (now image) ⌝ }
+    ensures answer { λ r. ⌜ r ≡ serve f (now (image .entry)) (now (command .entry)) (now (reply .entry)) .answer ⌝ }
+    ensures image { λ _. ⌜ now (image .exit) ≡ serve f (now (image .entry)) (now (command .entry)) (now (reply .entry)) .image ⌝ }
+    ensures reply { λ _. ⌜ now (reply .exit) ≡ serve f (now (image .entry)) (now (command .entry)) (now (reply .entry)) .reply ⌝ }
+    ensures kept { λ _. ⌜ checked ≡ sound f (now (image .exit)) ⌝ }
+{
+    if !checked {
+        return guard::refusal(UNSOUND);
+    }
+    step(f, image, command, reply)
 }

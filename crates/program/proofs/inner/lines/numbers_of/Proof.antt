@@ -1,6 +1,6 @@
 -- Field by field. Assumes nothing.
 use mathlib.Core.Path.{refl}
-use Rattle.program.specs.Program.{numbersOf}
+use Rattle.model.specs.Runs.{numbersOf}
 use borrow.Author.Needs.{needs}
 use Rattle.program.proofs.inner.lines.numbers_of.Statement.{statement}
 use Rattle.program.proofs.inner.lines.numbers_of.Tie as tie
