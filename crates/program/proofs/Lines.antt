@@ -9,10 +9,6 @@ use Rattle.program.specs.Text.{spaced}
 use Rattle.guard.specs.declared.Answer.{Answer}
 use Rattle.model.specs.Runs.{numbersOf, perLine}
 
-pub per-line : (a : Answer) → length (numbersOf a) ≡ perLine
-unfolding numbersOf
-per-line a = refl
-
 -- The numbers from place i on, by the first of them, and behind the last.
 pub numbers-left : (l : List ℕ) {i : ℕ} → i < length l → spread spaced (drop i l) ≡ spaced (getD l i 0) ++ spread spaced (drop (i + 1) l)
 unfolding spread

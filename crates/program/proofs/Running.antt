@@ -1,6 +1,6 @@
 -- Laws of a run: what the loop of `run` keeps. Assumes nothing.
 use Prim.Native.Nat.{ℕ, _+_, _-_, _*_, _/_, _≤_, _<_}
-use mathlib.Core.Path.{_≡_, refl, sym, ap, _∙_}
+use mathlib.Core.Path.{_≡_, refl, sym, ap, subst, _∙_}
 use mathlib.Core.List.{List, []}
 use lib.ListN.{length, take, drop}
 use native.Mathlib.Omega.{arith}
@@ -10,8 +10,8 @@ use Rattle.program.specs.Text.{Put}
 use Rattle.program.proofs.Puts.{put-put, put-wide, Putting, putting-none, putting-more, putting-done}
 use Rattle.guard.specs.declared.Answer.{Answer}
 use Rattle.formats.specs.Format.{fixed}
-use Rattle.program.specs.Program.{lineOf, linesFrom, lastLine, mostLine, printed, mostPrinted}
-use Rattle.model.specs.Runs.{runs}
+use Rattle.program.specs.Program.{lineBy, lineOf, linesFrom, lastLine, mostLine, printed, mostPrinted}
+use Rattle.model.specs.Runs.{runs, numbersOf}
 use Rattle.model.specs.Serve.{serve}
 use Rattle.stream.specs.Stream.{commands, nextAt, endOf}
 use Rattle.stream.specs.declared.Next.the-variants.{Whole, Cut}
@@ -82,3 +82,8 @@ module _ {start : ℕ} {image₀ reply₀ stream out₀ image reply out : List �
         let last : left ≡ length stream - endOf stream = omega (arith, k, at) in
         let done = putting-done (to - start) (r .lines) (rw (walk.stops stream from e)) (omega arith) in
         put-wide (omega (arith, r .walked .within, r .few, r .far)) (put-put (omega arith) done (rw last at p))
+
+-- A line written from the numbers of an answer is the answer's line.
+pub line-put : {to to′ : ℕ} {line out out′ : List ℕ} (place : ℕ) (a : Answer) → line ≡ numbersOf a → Put to mostLine (lineBy place line) out out′ to′ → Put to mostLine (lineOf place a) out out′ to′
+unfolding lineOf
+line-put {to} {to′} {out = out} {out′} place a e p = subst (λ (l : List ℕ). Put to mostLine (lineBy place l) out out′ to′) e p

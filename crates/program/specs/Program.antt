@@ -23,8 +23,11 @@ unfoldable pub firstLine : ℕ → List ℕ
 firstLine cards = quoted "cards" ++ spaced cards ++ quoted "\n"
 
 -- A command's line: its place, then the numbers of its answer.
+abbrev pub lineBy : ℕ → List ℕ → List ℕ
+lineBy place numbers = decimal place ++ spread spaced numbers ++ quoted "\n"
+
 unfoldable pub lineOf : ℕ → Answer → List ℕ
-lineOf place a = decimal place ++ spread spaced (numbersOf a) ++ quoted "\n"
+lineOf place a = lineBy place (numbersOf a)
 
 -- The lines of answers, counted on from a place.
 unfoldable pub linesFrom : ℕ → List Answer → List ℕ

@@ -42,11 +42,16 @@ returns c =
     let start = c .before .before .before .before .before .before .before .before .before .before .before .before .before .before .before .before .before in
     let e = c .before .before .before .before .before .before .before .run-checked .ensures in
     let chosen = sym (c .before .before .before .before .before .before .before .before .before .before .before .before .is-one .ensures) ∙ c .before .before .before .before .before .before .before .before .before .before .before .if1 .taken in
-    let after = c .before .before .before .before .before .before .before .run-checked .ensures .1 .1 .1 .0 ∙ one-line (start .args .image .now) (start .args .reply .now) (start .args .command .now) (start .args .line .now) chosen (start .pre .1) in
-    (ap (λ (l : List ℕ). getD l 0 0) after ∙ first-number _,
-    (e .1 .0 ∙ one-image (start .args .image .now) (start .args .reply .now) (start .args .command .now) (start .args .line .now) chosen (start .pre .1),
-    (e .1 .1 .0 ∙ one-reply (start .args .image .now) (start .args .reply .now) (start .args .command .now) (start .args .line .now) chosen (start .pre .1),
-    (after, e .1 .1 .1 .1))))
+    let after = c .before .before .before .before .before .before .before .run-checked .ensures .1 .1 .1 .0 ∙ one-line (start .args .image .now) (start .args .reply .now) (start .args .command .now) (start .args .line .now) chosen (start .pre .1) in (
+      ap (λ (l : List ℕ). getD l 0 0) after ∙ first-number _,
+      (
+        e .1 .0 ∙ one-image (start .args .image .now) (start .args .reply .now) (start .args .command .now) (start .args .line .now) chosen (start .pre .1),
+        (
+          e .1 .1 .0 ∙ one-reply (start .args .image .now) (start .args .reply .now) (start .args .command .now) (start .args .line .now) chosen (start .pre .1),
+          (after, e .1 .1 .1 .1),
+        ),
+      ),
+    )
 
 refusal-requires : tie.Need-refusal-requires
 refusal-requires c κs = search needs
