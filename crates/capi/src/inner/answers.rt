@@ -1,26 +1,8 @@
-// A reply's fields and the length of a text that a desk shows, as plain numbers.
+// The length of a text that a desk shows, as a plain number.
 ghost use mathlib.Core.Path.{_≡_};
 ghost use lib.ListN.{length};
 ghost use Rattle.desk.specs.Show.{heldText, shownNumber, shownPart};
-ghost use Rattle.guard.specs.Replies.{replyFields};
 use desk::Asked;
-
-// The seven reply fields as numbers.
-pub fn write_fields(fields: &mut [u64; 7], a: guard::Answer)
-    ensures { λ _. ⌜ now (fields .exit) ≡ replyFields a ⌝ }
-{
-    let pair = a.pair;
-    let mark = a.mark;
-    *fields = [
-        pair.s,
-        pair.x,
-        mark.desk as u64,
-        mark.transaction as u64,
-        a.edition as u64,
-        a.from as u64,
-        a.length as u64,
-    ];
-}
 
 // How many bytes of the text a desk shows, in the language that the caller names.
 pub fn length_shown<'a>(

@@ -1,7 +1,7 @@
 -- What the call ensures. Assumes nothing.
 use borrow.Author.Needs.{needs}
-use Rattle.capi.proofs.log.lupaniele_log_check.Statement.{statement}
-use Rattle.capi.proofs.log.lupaniele_log_check.Tie as tie
+use Rattle.capi_logs.proofs.log.lupaniele_log_check.Statement.{statement}
+use Rattle.capi_logs.proofs.log.lupaniele_log_check.Tie as tie
 
 check-requires : tie.Need-check-requires
 check-requires c κs = search needs

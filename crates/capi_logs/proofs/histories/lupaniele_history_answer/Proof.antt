@@ -3,8 +3,8 @@ use mathlib.Core.Path.{ap, _∙_}
 use Rattle.guard.specs.declared.Answer.{Answer}
 use Rattle.guard.specs.Replies.{replyFields}
 use borrow.Author.Needs.{needs}
-use Rattle.capi.proofs.histories.lupaniele_history_answer.Statement.{statement}
-use Rattle.capi.proofs.histories.lupaniele_history_answer.Tie as tie
+use Rattle.capi_logs.proofs.histories.lupaniele_history_answer.Statement.{statement}
+use Rattle.capi_logs.proofs.histories.lupaniele_history_answer.Tie as tie
 
 answer-requires : tie.Need-answer-requires
 answer-requires c κs = search needs

@@ -1,7 +1,7 @@
 -- What the call ensures. Assumes nothing.
 use borrow.Author.Needs.{needs}
-use Rattle.capi.proofs.log.lupaniele_log_append.Statement.{statement}
-use Rattle.capi.proofs.log.lupaniele_log_append.Tie as tie
+use Rattle.capi_logs.proofs.log.lupaniele_log_append.Statement.{statement}
+use Rattle.capi_logs.proofs.log.lupaniele_log_append.Tie as tie
 
 append-requires : tie.Need-append-requires
 append-requires c κs = search needs

@@ -1,10 +1,10 @@
 use mathlib.Core.Path.{ap}
 use Rattle.recovery.specs.declared.Recovered.{Recovered}
 use borrow.Author.Needs.{needs}
-use Rattle.capi.proofs.log.lupaniele_recover.Statement.{statement}
-use Rattle.capi.proofs.log.lupaniele_recover.Tie as tie
-use Rattle.capi.proofs.log.lupaniele_recover.Reads as reads
-use Rattle.capi.proofs.log.lupaniele_recover.Lts as lts
+use Rattle.capi_logs.proofs.log.lupaniele_recover.Statement.{statement}
+use Rattle.capi_logs.proofs.log.lupaniele_recover.Tie as tie
+use Rattle.capi_logs.proofs.log.lupaniele_recover.Reads as reads
+use Rattle.capi_logs.proofs.log.lupaniele_recover.Lts as lts
 use Rattle.recovery.proofs.recover.Reads as recover-reads
 
 recover-requires : tie.Need-recover-requires

@@ -2,7 +2,7 @@
 ghost use mathlib.Core.Path.{_≡_};
 ghost use Rattle.guard.specs.Replies.{replyFields};
 ghost use Rattle.history.specs.Lent.{historyServe};
-use crate::inner::answers::write_fields;
+use crate::inner::write_fields;
 
 // One request to the history engine, for `cards` cards with this room: the accepted commands stand in the first `used` bytes of `kept`. The answer's
 // number is returned and its seven reply fields are written to `fields`; the text of an accepted read stands in the first bytes of `reply`.
