@@ -5,7 +5,7 @@ use mathlib.Core.List.{List, [], _∷_}
 use lib.ListN.{getD}
 use Rattle.guard.specs.Replies.{replyFields}
 use Rattle.guard.specs.declared.Answer.{Answer}
-use Rattle.model.specs.Runs.{numbersOf}
+use Rattle.store.specs.Runs.{numbersOf}
 
 behind-first : (a : Answer) →
     (getD (numbersOf a) 1 0 ∷ getD (numbersOf a) 2 0 ∷ getD (numbersOf a) 3 0 ∷ getD (numbersOf a) 4 0 ∷ getD (numbersOf a) 5 0 ∷ getD (numbersOf a) 6 0 ∷ getD (numbersOf a) 7 0 ∷ [])

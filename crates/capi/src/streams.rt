@@ -2,7 +2,7 @@
 ghost use mathlib.Core.Path.{_≡_};
 ghost use lib.ListN.{length};
 ghost use Rattle.lists.specs.Parts.{splice};
-ghost use Rattle.model.specs.Runs.{runs};
+ghost use Rattle.store.specs.Runs.{runs};
 ghost use Rattle.store.specs.Ran.{judgedOf, ranOf, lined};
 ghost use Rattle.capi.specs.Numbers.{isWhole};
 ghost use Rattle.stream.specs.Stream.{nextAt, endOf, onward};

@@ -10,7 +10,7 @@ use Rattle.lists.specs.Parts.{part, splice, zeros}
 use Rattle.lists.proofs.Parts.{length-part, part-part, part-replicate, length-splice, splice-after, splice-adjacent, splice-part}
 use Rattle.lists.proofs.Bytes.{zeros-means}
 use Rattle.image.specs.Bytes.{pad}
-use Rattle.image.specs.Write.{over}
+use Rattle.image.specs.Write.{overOld}
 
 module _ {A : Type 0} where
   -- The first of many equal elements.
@@ -43,23 +43,23 @@ pad-text room t h =
 
 -- Writing the text, and then zeros over what is left of the old one.
 pub over-longer : (at old : ℕ) (t l : List ℕ) → at ≤ length l →
-    splice (at + length t) (replicate (old - length t) 0) (splice at t l) ≡ splice at (over old t) l
-unfolding over
+    splice (at + length t) (replicate (old - length t) 0) (splice at t l) ≡ splice at (overOld old t) l
+unfolding overOld
 over-longer at old t l g = splice-adjacent at t (replicate (old - length t) 0) l g
 
 -- An old text that is no longer leaves nothing.
-pub over-shorter : (old : ℕ) (t : List ℕ) → old ≤ length t → t ≡ over old t
-unfolding over
+pub over-shorter : (old : ℕ) (t : List ℕ) → old ≤ length t → t ≡ overOld old t
+unfolding overOld
 over-shorter old t h = let none : old - length t ≡ 0 = omega arith in rw none (sym (append-nil t))
 
-length-over : (old : ℕ) (t : List ℕ) → length (over old t) ≡ length t + (old - length t)
-unfolding over
+length-over : (old : ℕ) (t : List ℕ) → length (overOld old t) ≡ length t + (old - length t)
+unfolding overOld
 length-over old t = simp (length-append, length-replicate)
 
 -- A body is the text over an old one, and zeros behind both.
 pad-over : (room old : ℕ) (t : List ℕ) → length t ≤ room → old ≤ room →
-    pad room t ≡ over old t ++ replicate (room - (length t + (old - length t))) 0
-unfolding over
+    pad room t ≡ overOld old t ++ replicate (room - (length t + (old - length t))) 0
+unfolding overOld
 pad-over room old t h g =
     let whole : room - length t ≡ (old - length t) + (room - (length t + (old - length t))) = omega arith in
     pad-text room t h
@@ -69,12 +69,12 @@ pad-over room old t h g =
 
 -- Where a body is zero behind the old text, the text over the old one makes the whole body.
 pub over-body : (at room old : ℕ) (t l : List ℕ) → length t ≤ room → old ≤ room → at + room ≤ length l →
-    zeros (part (at + old) (room - old) l) ≡ true → splice at (over old t) l ≡ splice at (pad room t) l
+    zeros (part (at + old) (room - old) l) ≡ true → splice at (overOld old t) l ≡ splice at (pad room t) l
 over-body at room old t l h g k z =
-    sym (splice-part (at + n) (room - n) (splice at (over old t) l) (rw (length-splice at (over old t) l (rw (length-over old t) (omega arith))) (omega arith)))
-    ∙ ap (λ (v : List ℕ). splice (at + n) v (splice at (over old t) l)) (splice-after at (at + n) (room - n) (over old t) l (omega arith) (rw (length-over old t) (omega arith)) ∙ tail)
-    ∙ ap (λ (m : ℕ). splice (at + m) (replicate (room - n) 0) (splice at (over old t) l)) (sym (length-over old t))
-    ∙ splice-adjacent at (over old t) (replicate (room - n) 0) l (omega arith)
+    sym (splice-part (at + n) (room - n) (splice at (overOld old t) l) (rw (length-splice at (overOld old t) l (rw (length-over old t) (omega arith))) (omega arith)))
+    ∙ ap (λ (v : List ℕ). splice (at + n) v (splice at (overOld old t) l)) (splice-after at (at + n) (room - n) (overOld old t) l (omega arith) (rw (length-over old t) (omega arith)) ∙ tail)
+    ∙ ap (λ (m : ℕ). splice (at + m) (replicate (room - n) 0) (splice at (overOld old t) l)) (sym (length-over old t))
+    ∙ splice-adjacent at (overOld old t) (replicate (room - n) 0) l (omega arith)
     ∙ ap (λ (v : List ℕ). splice at v l) (sym (pad-over room old t h g))
   where
     n : ℕ

@@ -22,5 +22,5 @@ unfoldable pub entryWith : Format → ℕ → Entry → ℕ → List ℕ → Lis
 entryWith f t e at l = countsWith f t e at (splice (at + 16) (entryMark (e .mark)) (splice at (pairBytes (e .pair)) l))
 
 -- A text over an old one of this length: the text, and zeros in place of what is left of the old one.
-unfoldable pub over : ℕ → List ℕ → List ℕ
-over old text = text ++ replicate (old - length text) 0
+unfoldable pub overOld : ℕ → List ℕ → List ℕ
+overOld old text = text ++ replicate (old - length text) 0

@@ -1,5 +1,4 @@
 pub mod Serve
-pub mod Runs
 pub mod Words
 pub mod Claims
 pub mod Pairs

@@ -11,7 +11,7 @@ use Rattle.image.specs.Bytes.{countOf, roomOf}
 use Rattle.image.specs.Image.{goodFront, frontSize}
 use Rattle.guard.specs.declared.Answer.{Answer}
 use Rattle.lists.specs.Parts.{spread}
-use Rattle.model.specs.Runs.{Run, runs, numbersOf, perLine}
+use Rattle.store.specs.Runs.{Run, runs, numbersOf, perLine}
 use Rattle.formats.specs.Format.{fixed}
 use Rattle.stream.specs.Stream.{commands, endOf}
 use Rattle.program.specs.Text.{quoted, decimal, spaced, mostDigits}

@@ -20,7 +20,7 @@ use Rattle.model.specs.Serve.{stepped, serveBy, serve}
 use Rattle.stream.specs.Stream.{extent, whole, commandsWithin, commands, endWithin, endOf}
 use Rattle.image.specs.Image.{goodFront}
 use Rattle.program.specs.Program.{lineOf, linesFrom, firstLine, lastLine, outputOf}
-use Rattle.model.specs.Runs.{numbersOf, runs}
+use Rattle.store.specs.Runs.{numbersOf, runs}
 use Rattle.program.specs.Text.{quoted, decimalWithin, decimal}
 use Rattle.program_claims.specs.Cases.{CaseP, ShortCases, Decimals}
 

@@ -14,7 +14,7 @@ use Rattle.image.specs.Bytes.{countOf}
 use Rattle.image.specs.Image.{goodFront}
 use Rattle.program.specs.Text.{quoted}
 use Rattle.program.specs.Program.{lineOf, linesFrom, firstLine, printed, mostInput, imageOf, blankOf, streamOf, outputOf}
-use Rattle.model.specs.Runs.{runs}
+use Rattle.store.specs.Runs.{runs}
 use Rattle.program_claims.specs.Claims.{NeverEmpty, ProgramClaims}
 use Rattle.program_claims.proofs.Log.{logs}
 use Rattle.program_claims.proofs.Served.{guarded, serves}

@@ -8,7 +8,7 @@ use Rattle.model.specs.Serve.{serve}
 use Rattle.model.specs.Words.{Sent, Event, imageAfter}
 use Rattle.model.specs.Cases.{Got, run, shown}
 use Rattle.model.proofs.Cases.{run-logged, image-first}
-use Rattle.model.specs.Runs.{runs}
+use Rattle.store.specs.Runs.{runs}
 use Rattle.program_claims.specs.Claims.{requests, logged, Logged}
 
 -- What `f` says of what is shown is what it says of the events.

@@ -36,7 +36,7 @@ use Rattle.model.proofs.Machine.{numberOn, cardsBy, passed}
 use Rattle.model.proofs.Simulation.{good-more, same-event, same-image}
 use Rattle.stream.specs.Stream.{commands, commandsWithin, extent, whole}
 use Rattle.image.specs.Image.{claimed}
-use Rattle.model.specs.Runs.{runs}
+use Rattle.store.specs.Runs.{runs}
 use Rattle.image.proofs.InFront.{good-front}
 use Rattle.program_claims.specs.Claims.{requests, Guarded, Serves}
 

@@ -20,7 +20,7 @@ use Rattle.stream.specs.Stream.{commands}
 use Rattle.image.specs.Image.{goodFront}
 use Rattle.program.specs.Text.{decimal}
 use Rattle.program.specs.Program.{firstLine, lineOf, linesFrom, lastLine, leftOver, mostInput, runOf, outputOf}
-use Rattle.model.specs.Runs.{runs}
+use Rattle.store.specs.Runs.{runs}
 
 -- The answers of a run are those of judging command by command: one for each command, and each is the store's, on the image and the reply
 -- buffer as the commands before leave them.

@@ -27,7 +27,7 @@ use Rattle.image.proofs.Encode.{length-pad}
 use Rattle.image.proofs.Entry.{entryBytes-ext}
 use Rattle.image.proofs.Decode.{count-decode, room-decode, card-decode, view-at, entry-lies, body-lies, sideLength, side-fits, side-tail, places, entry-back, long, encode-decode}
 use Rattle.image.proofs.Put.{side-written, put-entry, put-text-entry}
-use Rattle.image.specs.Write.{entryWith, over}
+use Rattle.image.specs.Write.{entryWith, overOld}
 use Rattle.image.proofs.Written.{over-body}
 use Rattle.image.proofs.EntryWritten.{seenAfter, entry-written}
 use Rattle.model.specs.Serve.{stepped}
@@ -199,7 +199,7 @@ module _ (f : Format) (image : List ℕ) (s : sound f image ≡ true) (c : Comma
         (omega (arith, most, fits), omega (arith, lies, fits, place), omega (arith, lies, text, place, same))
 
     -- Over the old text it makes the whole body.
-    side-over : {after : List ℕ} → after ≡ splice at (over old t) image → after ≡ bodyWritten f image (c .card) side t
+    side-over : {after : List ℕ} → after ≡ splice at (overOld old t) image → after ≡ bodyWritten f image (c .card) side t
     unfolding tailZero
     side-over done =
         done
@@ -213,7 +213,7 @@ module _ (f : Format) (image : List ℕ) (s : sound f image ≡ true) (c : Comma
     pub original-room : (length t ≤ mostRoom) × (at + length t ≤ length image) × (at + e .original ≤ length image)
     original-room = side-room 0 (omega arith) place (one-original f image s c below known p)
 
-    pub written-original : {after : List ℕ} → after ≡ splice at (over (e .original) t) image → writes original c ≡ true → after ≡ textWritten f image c t
+    pub written-original : {after : List ℕ} → after ≡ splice at (overOld (e .original) t) image → writes original c ≡ true → after ≡ textWritten f image c t
     unfolding textWritten
     written-original done h = rw h (side-over 0 (omega arith) place (one-original f image s c below known p) done)
 
@@ -224,7 +224,7 @@ module _ (f : Format) (image : List ℕ) (s : sound f image ≡ true) (c : Comma
     pub translation-room : (length t ≤ mostRoom) × (at + length t ≤ length image) × (at + e .translation ≤ length image)
     translation-room = side-room (suc (c .language)) (omega arith) here (one-translation f image s c below known p)
 
-    pub written-translation : {after : List ℕ} → after ≡ splice at (over (e .translation) t) image → writes original c ≡ false → writesTranslation c ≡ true → after ≡ textWritten f image c t
+    pub written-translation : {after : List ℕ} → after ≡ splice at (overOld (e .translation) t) image → writes original c ≡ false → writesTranslation c ≡ true → after ≡ textWritten f image c t
     unfolding textWritten
     written-translation done g h = rw (g, h) (side-over (suc (c .language)) (omega arith) here (one-translation f image s c below known p) done)
 

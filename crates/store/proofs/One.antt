@@ -16,7 +16,7 @@ use Rattle.commands.specs.Bytes.{formed}
 use Rattle.guard.specs.Replies.{refused}
 use Rattle.guard.specs.declared.Answer.{Answer}
 use Rattle.model.specs.Serve.{Outcome, serve}
-use Rattle.model.specs.Runs.{runs, numbersOf, perLine}
+use Rattle.store.specs.Runs.{runs, numbersOf, perLine}
 use Rattle.model.proofs.Exact.{refusals}
 use Rattle.stream.specs.Stream.{commands, commandsWithin}
 use Rattle.stream.proofs.Walks as walk

@@ -11,7 +11,7 @@ use Rattle.lists.specs.Parts.{part, splice, spread}
 use Rattle.lists.proofs.Parts.{length-part, length-splice, splice-nil, splice-adjacent}
 use Rattle.guard.specs.declared.Answer.{Answer}
 use Rattle.model.specs.Serve.{serve}
-use Rattle.model.specs.Runs.{runs, numbersOf, perLine}
+use Rattle.store.specs.Runs.{runs, numbersOf, perLine}
 use Rattle.stream.specs.Stream.{commands, nextAt, endToEnd}
 use Rattle.stream.specs.declared.Next.the-variants.{Whole, Cut}
 use Rattle.stream.proofs.Commands.{Walked, walked-none, walked-more}

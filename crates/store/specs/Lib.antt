@@ -1,2 +1,3 @@
+pub mod Runs
 pub mod Carried
 pub mod Ran

@@ -9,7 +9,7 @@ use Rattle.formats.specs.declared.Format.the-variants.{V1}
 use Rattle.formats.specs.Format.{fixed}
 use Rattle.lists.specs.Le.{field}
 use Rattle.lists.specs.Parts.{spread}
-use Rattle.model.specs.Runs.{Run, perLine, numbersOf}
+use Rattle.store.specs.Runs.{Run, perLine, numbersOf}
 use Rattle.stream.specs.Stream.{commands, endToEnd}
 use Rattle.store.specs.declared.Ran.{Ran}
 

@@ -5,7 +5,7 @@ ghost use mathlib.Core.Path.{_≡_};
 ghost use lib.ListN.{length};
 ghost use Rattle.lists.specs.Parts.{splice};
 ghost use Rattle.model.specs.Serve.{serve};
-ghost use Rattle.model.specs.Runs.{runs};
+ghost use Rattle.store.specs.Runs.{runs};
 ghost use Rattle.store.specs.Ran.{judgedOf, ranOf, lined};
 ghost use Rattle.formats.specs.declared.Format.the-variants.{V1};
 use formats::Format;

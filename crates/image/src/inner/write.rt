@@ -7,7 +7,7 @@ ghost use Rattle.formats.specs.Format.{translations, entrySize, originalAt, fro
 ghost use Rattle.image.specs.Layout.{entryPlace, mostRoom};
 ghost use Rattle.commands.specs.Bytes.{pairBytes};
 ghost use Rattle.image.specs.Bytes.{entryMark};
-ghost use Rattle.image.specs.Write.{countsWith, entryWith, over};
+ghost use Rattle.image.specs.Write.{countsWith, entryWith, overOld};
 use crate::inner::layout;
 use formats::Format;
 use guard::Entry;
@@ -63,7 +63,7 @@ pub fn store_entry(f: Format, image: &mut [u8], k: u16, t: u8, e: Entry)
 // Writes a text at `at`, and makes zero what is left there of an old text of this length.
 pub fn store_text(image: &mut [u8], at: usize, old: u16, text: &[u8])
     requires { ⌜ (length (now text) ≤ mostRoom) × (at + length (now text) ≤ length (now image)) × (at + old ≤ length (now image)) ⌝ }
-    ensures { λ _. ⌜ now (image .exit) ≡ splice at (over old (now (text .entry))) (now (image .entry)) ⌝ }
+    ensures { λ _. ⌜ now (image .exit) ≡ splice at (overOld old (now (text .entry))) (now (image .entry)) ⌝ }
 {
     let old = old as usize;
     slices::inner::put_short(image, at, text);

@@ -4,7 +4,7 @@ ghost use Prim.Native.Nat.{_+_, _*_, _≤_};
 ghost use lib.ListN.{length};
 ghost use Rattle.lists.specs.Parts.{spread};
 ghost use Rattle.program.specs.Program.{lineBy, firstLine, lastLine, mostLine};
-ghost use Rattle.model.specs.Runs.{perLine};
+ghost use Rattle.store.specs.Runs.{perLine};
 ghost use Rattle.program.specs.Text.{spaced, mostDigits, Put};
 use crate::inner::text::put_decimal;
 use crate::inner::text::put_spaced;

@@ -6,7 +6,7 @@ ghost use Rattle.lists.specs.Parts.{splice};
 ghost use Rattle.formats.specs.declared.Format.the-variants.{V1};
 ghost use Rattle.image.specs.Image.{sound};
 ghost use Rattle.model.specs.Serve.{serve};
-ghost use Rattle.model.specs.Runs.{runs, numbersOf, perLine};
+ghost use Rattle.store.specs.Runs.{runs, numbersOf, perLine};
 ghost use Rattle.store.specs.Ran.{judgedOf, ranOf, lined, isOne};
 use crate::Ran;
 use crate::inner::step;

@@ -7,7 +7,7 @@ use Rattle.lists.specs.Parts.{spread}
 use Rattle.lists.proofs.Parts.{drop-left}
 use Rattle.program.specs.Text.{spaced, mostDigits}
 use Rattle.program.proofs.Puts.{Putting, putting-none, putting-more, putting-done}
-use Rattle.model.specs.Runs.{perLine}
+use Rattle.store.specs.Runs.{perLine}
 use Rattle.program.proofs.Lines.{numbers-left, numbers-end}
 use Rattle.program.proofs.inner.lines.put_numbers.Statement.{statement}
 use Rattle.program.proofs.inner.lines.put_numbers.Tie as tie

@@ -7,7 +7,7 @@ use native.Mathlib.Omega.{arith}
 use lib.ListN.{length}
 use Rattle.formats.specs.declared.Format.the-variants.{V1}
 use Rattle.image.specs.Image.{sound}
-use Rattle.model.specs.Runs.{perLine}
+use Rattle.store.specs.Runs.{perLine}
 use Rattle.stream.proofs.Place.{went, stayed}
 use Rattle.store.proofs.Running.{per-line}
 use Rattle.program.proofs.Running.{Running, running-none, running-within, running-more, running-less, running-fits, running-done, line-put}

@@ -1,6 +1,6 @@
 -- Field by field. Assumes nothing.
 use mathlib.Core.Path.{refl}
-use Rattle.model.specs.Runs.{numbersOf}
+use Rattle.store.specs.Runs.{numbersOf}
 use borrow.Author.Needs.{needs}
 use Rattle.store.proofs.inner.run.numbers_of.Statement.{statement}
 use Rattle.store.proofs.inner.run.numbers_of.Tie as tie

@@ -6,7 +6,7 @@ use borrow.Author.Needs.{needs}
 use lib.ListN.{length, drop, drop-of-length-le}
 use Rattle.lists.proofs.Parts.{drop-left}
 use Rattle.slices.proofs.Loops.{Writing, writing-none, writing-more, writing-done}
-use Rattle.model.specs.Runs.{perLine}
+use Rattle.store.specs.Runs.{perLine}
 use Rattle.store.proofs.Running.{per-line}
 use Rattle.store.proofs.inner.run.put_line.Statement.{statement}
 use Rattle.store.proofs.inner.run.put_line.Tie as tie

@@ -7,7 +7,7 @@ use native.Mathlib.Omega.{arith}
 use lib.ListN.{length}
 use Rattle.formats.specs.declared.Format.the-variants.{V1}
 use Rattle.image.specs.Image.{sound}
-use Rattle.model.specs.Runs.{perLine}
+use Rattle.store.specs.Runs.{perLine}
 use Rattle.store.proofs.Running.{Running, running-none, running-within, running-more, running-less, ended, full-none, cut-none}
 use Rattle.store.proofs.inner.run.run_checked.Statement.{statement}
 use Rattle.store.proofs.inner.run.run_checked.Tie as tie
