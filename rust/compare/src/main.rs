@@ -11,7 +11,7 @@ use compare::coverage::Run;
 use compare::run::Compared;
 use compare::{
     answers, desks, history, images, lapses, lists, logs, outputs, program, proposals, queues,
-    streams, swaps, systems, texts, trials, upgrades,
+    runs, streams, swaps, systems, texts, trials, upgrades,
 };
 use second::random::Random;
 
@@ -99,6 +99,7 @@ fn round(run: &mut Run, random: &mut Random) -> Compared<()> {
     proposals::any(run, random)?;
     systems::any(run, random)?;
     streams::any(run, random)?;
+    runs::any(run, random)?;
     texts::any(run, random)?;
     history::any(run, random)?;
     swaps::any(run, random)?;
