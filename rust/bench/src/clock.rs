@@ -42,7 +42,9 @@ fn times(workload: &Workload) -> Times {
         for turn in 0..3 {
             let side = (turn + round) % 3;
             lent.renew(workload);
-            best[side] = best[side].min(time(|| work(Side::ALL[side], black_box(workload), &mut lent)));
+            best[side] = best[side].min(time(|| {
+                work(Side::ALL[side], black_box(workload), &mut lent)
+            }));
         }
         if workload.work == Work::Check {
             at_once = at_once.min(time(|| {

@@ -35,14 +35,33 @@ pub fn drawn(all: &[Workload], times: &[Times]) -> String {
     let mut svg = format!(
         "<svg xmlns=\"http://www.w3.org/2000/svg\" viewBox=\"0 0 {width} {height}\" font-family=\"sans-serif\" font-size=\"12\">\n<rect width=\"{width}\" height=\"{height}\" fill=\"#ffffff\"/>\n"
     );
-    text(&mut svg, 12.0, 22.0, "start", true, "Time as a part of the straightforward Rust version's (the line at 1)");
+    text(
+        &mut svg,
+        12.0,
+        22.0,
+        "start",
+        true,
+        "Time as a part of the straightforward Rust version's (the line at 1)",
+    );
     key(&mut svg, 12.0, OURS, "the proved library");
-    key(&mut svg, 180.0, LIMIT, "a loop that touches the same bytes once");
+    key(
+        &mut svg,
+        180.0,
+        LIMIT,
+        "a loop that touches the same bytes once",
+    );
     for tenth in [0, 5, 10] {
         let x = LEFT + UNIT * f64::from(tenth) / 10.0;
         let width = if tenth == 10 { 1.5 } else { 0.5 };
         writeln!(svg, "<line x1=\"{x}\" y1=\"62\" x2=\"{x}\" y2=\"{}\" stroke=\"{INK}\" stroke-width=\"{width}\"/>", height - 12.0).unwrap();
-        text(&mut svg, x, 58.0, "middle", false, &format!("{:.1}", f64::from(tenth) / 10.0));
+        text(
+            &mut svg,
+            x,
+            58.0,
+            "middle",
+            false,
+            &format!("{:.1}", f64::from(tenth) / 10.0),
+        );
     }
     svg + &body + "</svg>\n"
 }
@@ -52,7 +71,14 @@ fn row(body: &mut String, top: f64, name: &str, times: &Times) {
     bar(body, top + 1.0, 8.0, times.ratio(), OURS);
     bar(body, top + 9.0, 4.0, times.limit / times.rust, LIMIT);
     let end = LEFT + UNIT * times.ratio().min(MOST) + 6.0;
-    text(body, end, top + 10.0, "start", false, &format!("{:.2}", times.ratio()));
+    text(
+        body,
+        end,
+        top + 10.0,
+        "start",
+        false,
+        &format!("{:.2}", times.ratio()),
+    );
 }
 
 fn bar(body: &mut String, top: f64, height: f64, ratio: f64, colour: &str) {
@@ -61,7 +87,11 @@ fn bar(body: &mut String, top: f64, height: f64, ratio: f64, colour: &str) {
 }
 
 fn key(svg: &mut String, x: f64, colour: &str, words: &str) {
-    writeln!(svg, "<rect x=\"{x}\" y=\"32\" width=\"12\" height=\"10\" fill=\"{colour}\"/>").unwrap();
+    writeln!(
+        svg,
+        "<rect x=\"{x}\" y=\"32\" width=\"12\" height=\"10\" fill=\"{colour}\"/>"
+    )
+    .unwrap();
     text(svg, x + 18.0, 41.0, "start", false, words);
 }
 

@@ -122,7 +122,16 @@ pub fn answer(image: &mut [u8], command: &[u8], reply: &mut [u8]) -> plain::Line
         )
     };
     let [s, x, desk, transaction, edition, from, length] = fields;
-    [number.into(), s, x, desk, transaction, edition, from, length]
+    [
+        number.into(),
+        s,
+        x,
+        desk,
+        transaction,
+        edition,
+        from,
+        length,
+    ]
 }
 
 fn run(workload: &Workload, lent: &mut Lent) {

@@ -27,12 +27,7 @@ pub fn print(all: &[Workload], times: &[Times], counts: Option<&[Count]>) {
             times.limit / 1e3
         );
         match counts.and_then(|counts| counts.get(at)) {
-            Some(count) => println!(
-                " {} | {} | {:.2} |",
-                count.rust,
-                count.ours,
-                count.ratio()
-            ),
+            Some(count) => println!(" {} | {} | {:.2} |", count.rust, count.ours, count.ratio()),
             None => println!(" | | |"),
         }
     }

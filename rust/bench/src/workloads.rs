@@ -102,10 +102,7 @@ fn image(cards: u64, texts: Texts, shared: bool, mark: Mark, random: &mut Random
     image[..16].copy_from_slice(&layout.header());
     for card in 0..cards as u16 {
         let mut entry = Entry {
-            pair: Pair::new(
-                stamp(START, 1),
-                if shared { 0 } else { stamp(START, 1) },
-            ),
+            pair: Pair::new(stamp(START, 1), if shared { 0 } else { stamp(START, 1) }),
             mark,
             edition: 1,
             translated_from: 1,
@@ -178,7 +175,11 @@ fn accepted(cards: u64, size: usize, acts: Acts, manner: Manner, random: &mut Ra
         let card = random.below(cards) as u16;
         let (edition, from) = &mut editions[usize::from(card)];
         // a translation that is behind is not read: the original is
-        let act = if act == 2 && *from != *edition { 1 } else { act };
+        let act = if act == 2 && *from != *edition {
+            1
+        } else {
+            act
+        };
         let writes = act == 3 || act == 4;
         let payload: Vec<u8> = (0..if writes { length } else { 0 })
             .map(|_| random.byte() | 1)
@@ -320,7 +321,12 @@ fn manners(all: &mut Vec<Workload>, random: &mut Random) {
     }
     let marked = image(CARDS, full, false, MARK, random);
     let stream = accepted(CARDS, STREAM, Acts::Mix, Manner::WithMarks, random);
-    all.push(run_of("manners", "mix, marks in use".into(), marked, stream));
+    all.push(run_of(
+        "manners",
+        "mix, marks in use".into(),
+        marked,
+        stream,
+    ));
     let start = image(CARDS, full, false, Mark::default(), random);
     let stream = accepted(CARDS, STREAM, Acts::Mix, Manner::WithUpdatePair, random);
     all.push(run_of("manners", "mix, update pairs".into(), start, stream));

@@ -59,7 +59,13 @@ fn main() {
     assert_eq!(made, 0);
     // a write; no act: answered, and passed over by its length; a read; and
     // five bytes that are no whole command
-    let stream = [command(3, b"205"), command(9, b"no"), command(1, b""), vec![0; 5]].concat();
+    let stream = [
+        command(3, b"205"),
+        command(9, b"no"),
+        command(1, b""),
+        vec![0; 5],
+    ]
+    .concat();
     let (mut reply, mut lines, mut at) = ([0; 16], [[0; 8]; 2], 0);
     loop {
         let (told, end) = run(&mut image, &stream[at..], &mut reply, &mut lines);

@@ -41,7 +41,16 @@ fn told(image: &mut [u8], stream: &[u8], reply: &mut [u8], most: usize) -> (Vec<
         };
         let given = answer(image, &stream[at..next], reply);
         let [s, x, desk, transaction, edition, from, length] = given.fields.numbers();
-        lines.push([given.number.into(), s, x, desk, transaction, edition, from, length]);
+        lines.push([
+            given.number.into(),
+            s,
+            x,
+            desk,
+            transaction,
+            edition,
+            from,
+            length,
+        ]);
         at = next;
     }
     (lines, at)
@@ -69,7 +78,12 @@ fn compared(
             + &bytes("reply", &before.1)
             + &format!("  room for {room} numbers\n")
     };
-    same("how many, and where it stopped", ran, (lines.len(), end), input)?;
+    same(
+        "how many, and where it stopped",
+        ran,
+        (lines.len(), end),
+        input,
+    )?;
     same("the lines of a run", &written, &expected, input)?;
     same("the image after a run", &*image, &image_told, input)?;
     same("the reply buffer after a run", &*reply, &reply_told, input)?;
@@ -88,7 +102,13 @@ fn whole(run: &mut Run, image: &[u8], stream: &[u8], reply: &[u8]) -> Compared<(
 
 /// The same stream with too little room, over and over from where it stopped:
 /// it comes to the same end.
-fn in_parts(run: &mut Run, random: &mut Random, image: &[u8], stream: &[u8], reply: &[u8]) -> Compared<()> {
+fn in_parts(
+    run: &mut Run,
+    random: &mut Random,
+    image: &[u8],
+    stream: &[u8],
+    reply: &[u8],
+) -> Compared<()> {
     let (mut image, mut reply, mut at) = (image.to_vec(), reply.to_vec(), 0);
     loop {
         let room = random.index(40);
