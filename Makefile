@@ -1,5 +1,5 @@
 # make run: the program's example. make test: exactly what the gate runs. make soak N=..: the comparison with a new seed, N cases
-# (500,000 at the least). make sim N=..: the town of desks with a new seed, N steps (1,000,000 at the least). make pictures: the pictures of
+# (2,000,000 at the least). make sim N=..: the town of desks with a new seed, N steps (1,000,000 at the least). make pictures: the pictures of
 # docs/pictures, from their texts. make bench: the store against a straightforward Rust version, and the picture of docs/PERFORMANCE.md. make audit: the further must-fail edits.
 .PHONY: run test soak sim pictures bench audit
 N = 20000000

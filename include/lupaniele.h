@@ -1,5 +1,6 @@
 /* The card store, proved: the functions of libcapi.a and, of logs, recovery and the history engine, of libcapi_logs.a
-   (x86-64). Rules are those of docs/RULES.md, numbers those of its section 5. Every function takes any values; what it writes is said, and a refusal writes nothing but what is said. */
+   (x86-64). Rules are those of docs/RULES.md, numbers those of its section 5. Every function takes any values; what it
+   writes is said, and a refusal writes nothing but what is said. */
 #ifndef LUPANIELE_H
 #define LUPANIELE_H
 
@@ -20,6 +21,18 @@ bool lupaniele_sound(const uint8_t *image, size_t image_length);
    lays it out, the verifier at 4, the update pair at 20 (rule 3.4). */
 uint8_t lupaniele_answer(uint8_t *image, size_t image_length, const uint8_t *command, size_t command_length,
                          uint8_t *reply, size_t reply_length, uint64_t fields[7]);
+
+/* Version 2: four translations (rules 15.1 to 15.8). As the three functions of the same names above, for images and commands
+   of version 2; each answers 9 (false) to an image of the other version (rule 15.13). command: as rule 15.6 lays it out, the
+   language at 20, the update pair at 52. fields: translated-from is that of the language which the command names. */
+uint8_t lupaniele_make_v2(uint8_t *image, size_t image_length, uint64_t cards, uint64_t room);
+bool lupaniele_sound_v2(const uint8_t *image, size_t image_length);
+uint8_t lupaniele_answer_v2(uint8_t *image, size_t image_length, const uint8_t *command, size_t command_length,
+                            uint8_t *reply, size_t reply_length, uint64_t fields[7]);
+
+/* Converts an image of version 1 into one of version 2 in the whole of target (rules 15.9 to 15.11): 0; or 9 or 14, and
+   nothing is written. image is only read; the two do not overlap. */
+uint8_t lupaniele_convert(const uint8_t *image, size_t image_length, uint8_t *target, size_t target_length);
 
 /* The lock queue of one card (rules 7.1 to 7.16). modes, s, x: the mode and the pair of each place (rule 7.2), of which the
    first `places` are lent; kept: count, largest s, largest x (rule 7.1). An empty queue is made by three zeros in kept,
@@ -57,6 +70,10 @@ bool lupaniele_next(const uint8_t *stream, size_t stream_length, uint64_t at, ui
 
 /* The byte where the first command of a stream that is not whole begins, or the stream's end (rule 8.2). */
 uint64_t lupaniele_end(const uint8_t *stream, size_t stream_length);
+
+/* The same two for a stream of commands of version 2 (rule 15.6). */
+bool lupaniele_next_v2(const uint8_t *stream, size_t stream_length, uint64_t at, uint64_t *end);
+uint64_t lupaniele_end_v2(const uint8_t *stream, size_t stream_length);
 
 /* A run (rule 8.5): the whole commands of a stream are judged in their order, each as lupaniele_answer judges it, with the image
    checked once, until the stream or the room in lines ends: how many there were. end: the byte where it stopped, from which

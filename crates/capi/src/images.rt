@@ -6,8 +6,8 @@ ghost use Rattle.lists.specs.Table.{settled};
 ghost use Rattle.image.specs.Image.{sound, makeNumber, fresh};
 ghost use Rattle.model.specs.Serve.{serve};
 ghost use Rattle.guard.specs.Replies.{replyFields};
-use store::inner::run::PER_LINE;
-use store::inner::run::one;
+use crate::inner::answers::answer;
+use formats::Format;
 
 // Makes a fresh image of `cards` cards with room `room`: 0, or 14 and nothing written.
 #[no_mangle]
@@ -41,17 +41,5 @@ pub extern "C" fn lupaniele_answer(
     ensures image { λ _. ⌜ now (image .exit) ≡ serve V1 (now (image .entry)) (now (command .entry)) (now (reply .entry)) .image ⌝ }
     ensures reply { λ _. ⌜ now (reply .exit) ≡ serve V1 (now (image .entry)) (now (command .entry)) (now (reply .entry)) .reply ⌝ }
 {
-    let checked = image::sound(image);
-    let mut line = [0u64; PER_LINE];
-    let number = one(image, command, reply, checked, &mut line);
-    *fields = [
-        line[1],
-        line[2],
-        line[3],
-        line[4],
-        line[5],
-        line[6],
-        line[7],
-    ];
-    number
+    answer(Format::V1, image, command, reply, fields)
 }

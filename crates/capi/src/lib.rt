@@ -8,3 +8,4 @@ pub mod outputs;
 pub mod queues;
 pub mod shown;
 pub mod streams;
+pub mod versions;

@@ -26,7 +26,7 @@ markAt at bytes = record { desk = field at 2 bytes; transaction = field (at + 2)
 abbrev pub pairAt : ℕ → List ℕ → Pair
 pairAt at bytes = record { s = field at 8 bytes; x = field (at + 8) 8 bytes }
 
--- The translation that a command names, by its number: version 1 has one, and no byte for it.
+-- The translation that a command names, by its number (rule 15.6): version 1 has one, and no byte for it.
 abbrev pub languageAt : Format → List ℕ → ℕ
 languageAt V1 bytes = 0
 languageAt V2 bytes = getD bytes 20 0

@@ -34,7 +34,7 @@ writes (translation t) c = writesTranslation c && eqb (c .language) t
 abbrev pub isWrite : Command → Bool
 isWrite c = writes original c || writesTranslation c
 
--- A translation is named by a number up to 3, and only by a command that reads or writes one; every other command has 0 there (rule 3.3).
+-- A translation is named by a number up to 3, and only by a command that reads or writes one; every other command has 0 there (rule 15.7).
 abbrev pub languageNamed : Command → Bool
 languageNamed c = leb (c .language) 3 && (readsTranslation c || writesTranslation c || eqb (c .language) 0)
 

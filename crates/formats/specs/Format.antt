@@ -4,17 +4,17 @@ use Prim.Native.Nat.{ℕ}
 use Rattle.formats.specs.declared.Format.{Format}
 use Rattle.formats.specs.declared.Format.the-variants.{V1, V2}
 
--- The number that a header has for its version (rule 2.3).
+-- The number that a header has for its version (rules 2.3 and 15.3).
 abbrev pub version : Format → ℕ
 version V1 = 1
 version V2 = 2
 
--- How many translations a card has.
+-- How many translations a card has (rules 2.5 and 15.1).
 abbrev pub translations : Format → ℕ
 translations V1 = 1
 translations V2 = 4
 
--- How long an entry is (rule 2.4), and where in it stand the length of the original, and of translation 0 the edition that it was made from and its
+-- How long an entry is (rules 2.4 and 15.3), and where in it stand the length of the original, and of translation 0 the edition that it was made from and its
 -- length. Those of the further translations follow, two bytes each; what stands behind the last length is zero.
 abbrev pub entrySize : Format → ℕ
 entrySize V1 = 32
@@ -32,7 +32,7 @@ abbrev pub lengthsAt : Format → ℕ
 lengthsAt V1 = 30
 lengthsAt V2 = 36
 
--- How long a command is in front of its payload (rule 3.1), where its update pair stands, and where the zeros in front of its expected mark, which
+-- How long a command is in front of its payload (rules 3.1 and 15.6), where its update pair stands, and where the zeros in front of its expected mark, which
 -- stands at 36, begin; version 1 has none.
 abbrev pub fixed : Format → ℕ
 fixed V1 = 52

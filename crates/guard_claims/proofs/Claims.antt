@@ -4,20 +4,24 @@ use native.Mathlib.Omega.{arith}
 use mathlib.Core.Path.{_≡_, refl, sym, subst}
 use mathlib.Core.Bool.{true, false}
 use mathlib.Core.Logic.{_⊎_, inl, inr}
-use lib.Dec.{T, T-not}
+use lib.Dec.{T, T-not, eqb}
+use lib.ListN.{length}
+use borrow.Author.Tests.{ne-eqb}
+use Rattle.lists.specs.Le.{field}
 use Rattle.lists.proofs.Tests.{to-T, from-T, from-false, cases}
 use Rattle.stamps.specs.Stamp.{stampT, mostAhead}
 use Rattle.commands.specs.Command.{wellFormed}
-use Rattle.commands.specs.Bytes.{formed}
+use Rattle.commands.specs.Bytes.{formed, fieldsOf}
+use Rattle.formats.specs.declared.Format.the-variants.{V1, V2}
 use Rattle.guard.specs.Entry.{entrySound, FitsEntry}
 use Rattle.guard.specs.Judge.{raise, judged}
-use Rattle.guard_claims.specs.Claims.{Judges, StaleStays, Parsing, Parses, CommandComesBack, BytesComeBack}
+use Rattle.guard_claims.specs.Claims.{Judges, StaleStays, Parsing, Parses, CommandComesBack, BytesComeBack, OneCommandVersion}
 use Rattle.commands.specs.declared.Command.{Command}
 use Rattle.guard.specs.declared.Entry.{Entry}
 use Rattle.stamps.proofs.Stamp.{stale-more}
 use Rattle.guard.proofs.Judge.{Accepted, exactly, accepted-exactly, accepted, refusal-leaves, accepted-raises, accepted-mode, raise-more, raise-near}
 use Rattle.guard.proofs.Raise.{raise-sound, raise-fits}
-use Rattle.commands.proofs.CommandBytes.{parsed-formed, parsed-malformed, payload-command, parsed-command, command-fields}
+use Rattle.commands.proofs.CommandBytes.{parsed-formed, parsed-malformed, payload-command, parsed-command, formedness, command-fields}
 
 -- What holds of the entry as it was and, where the command is accepted, of the raised one, holds of the entry as it now is.
 judged-keeps : (P : Entry → Type 0) (e : Entry) (c : Command) (room lent : ℕ) → P e → (Accepted e c room lent → P (raise e c)) → P (judged e c room lent .entry)
@@ -72,3 +76,10 @@ command-comes-back f c text g h w l = (parsed-command c text f g h (from-T (well
 
 pub bytes-come-back : BytesComeBack
 bytes-come-back f bytes h t = command-fields f bytes h (from-T (formed f bytes) t)
+
+pub oneCommandVersion : OneCommandVersion
+unfolding formed fieldsOf
+oneCommandVersion bytes holds =
+    let long : length bytes ≡ 68 + field 50 2 bytes = formedness V2 bytes (from-T (formed V2 bytes) holds) .whole in
+    let other : eqb (length bytes) (52 + field 50 2 bytes) ≡ false = ne-eqb (length bytes) (52 + field 50 2 bytes) (λ e. omega arith) in
+    rw other

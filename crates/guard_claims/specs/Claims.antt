@@ -10,6 +10,7 @@ use lib.ListN.{length}
 use Rattle.lists.specs.Parts.{Bytes}
 use Rattle.stamps.specs.Stamp.{shared, exclusive, stale, stampT, mostAhead, tooFar}
 use Rattle.formats.specs.declared.Format.{Format}
+use Rattle.formats.specs.declared.Format.the-variants.{V1, V2}
 use Rattle.formats.specs.Format.{translations}
 use Rattle.commands.specs.Command.{verifier, update, wellFormed, FitsCommand}
 use Rattle.commands.specs.Bytes.{fieldsOf, payload, formed, parsed, parsedNumber, parsedCommand, commandBytes}
@@ -68,3 +69,7 @@ CommandComesBack =
 -- Bytes that are a command are the bytes of that command and its payload.
 abbrev pub BytesComeBack : Type 0
 BytesComeBack = (f : Format) (bytes : List ℕ) → Bytes bytes → T (formed f bytes) → commandBytes f (fieldsOf f bytes) (payload f bytes) ≡ bytes
+
+-- Rule 15.7: no bytes are a command of both versions. Both have the payload's length at 50, and other bytes before the payload.
+abbrev pub OneCommandVersion : Type 0
+OneCommandVersion = (bytes : List ℕ) → T (formed V2 bytes) → formed V1 bytes ≡ false

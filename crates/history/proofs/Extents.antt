@@ -24,12 +24,12 @@ use Rattle.history.specs.Lent.{historySize}
 use Rattle.history.specs.Steps.{Measured, overWith}
 
 -- A whole command in front: its payload is what its extent leaves.
-payload-first : (s : List ℕ) → whole s ≡ true → length (payload V1 (take (extent s) s)) + fixed V1 ≡ extent s
+payload-first : (s : List ℕ) → whole V1 s ≡ true → length (payload V1 (take (extent V1 s) s)) + fixed V1 ≡ extent V1 s
 unfolding payload
 payload-first s h =
-    let long = length-take-le (extent s) s (whole-out s h) in
-    let rest = length-drop (fixed V1) (take (extent s) s) in
-    omega (arith, long, rest, extent-fixed s)
+    let long = length-take-le (extent V1 s) s (whole-out V1 s h) in
+    let rest = length-drop (fixed V1) (take (extent V1 s) s) in
+    omega (arith, long, rest, extent-fixed V1 s)
 
 -- ---- the kept commands are as long as they say
 
@@ -41,20 +41,20 @@ sized-reverse : (l kept : List (List ℕ)) → Sized l → Sized kept → Sized 
 sized-reverse [] kept h k = k
 sized-reverse (b ∷ l) kept h k = sized-reverse l (b ∷ kept) (h .1) (h .0, k)
 
-sized-first : (s : List ℕ) → whole s ≡ true → length (payload V1 (take (extent s) s)) ≡ fieldsOf V1 (take (extent s) s) .length
+sized-first : (s : List ℕ) → whole V1 s ≡ true → length (payload V1 (take (extent V1 s) s)) ≡ fieldsOf V1 (take (extent V1 s) s) .length
 unfolding fieldsOf extent
 sized-first s h =
     let front = payload-first s h in
-    let named = extent-take (extent s) s (extent-fixed s) in
+    let named = extent-take V1 (extent V1 s) s (extent-fixed V1 s) in
     omega (arith, front, named)
 
-pub sized-commands : (s : List ℕ) → Sized (reverse (commands s))
-sized-commands s = sized-reverse (commands s) [] (forwards s) tt
+pub sized-commands : (s : List ℕ) → Sized (reverse (commands V1 s))
+sized-commands s = sized-reverse (commands V1 s) [] (forwards s) tt
   where
-    forwards : (s : List ℕ) → Sized (commands s)
+    forwards : (s : List ℕ) → Sized (commands V1 s)
     forwards =
-        along (λ (s : List ℕ). Sized (commands s)) (λ s h. subst Sized (sym (commands-cut s h)) tt)
-        (λ s h rest. subst Sized (sym (commands-whole s h)) (sized-first s h, rest))
+        along V1 (λ (s : List ℕ). Sized (commands V1 s)) (λ s h. subst Sized (sym (commands-cut V1 s h)) tt)
+        (λ s h rest. subst Sized (sym (commands-whole V1 s h)) (sized-first s h, rest))
 
 pub sized-last : (p : List ℕ → Bool) (kept : List (List ℕ)) → Sized kept → length (last p (payload V1) [] kept) ≡ last p (λ (b : List ℕ). fieldsOf V1 b .length) 0 kept
 sized-last p [] h = refl
@@ -79,21 +79,21 @@ paid-reverse (b ∷ l) kept =
     let other = length-append (payload V1 b) (spread (payload V1) l) in
     omega (arith, one, other))
 
-sum : (s : List ℕ) → endOf s ≡ length (commands s) * fixed V1 + paid (commands s)
+sum : (s : List ℕ) → endOf V1 s ≡ length (commands V1 s) * fixed V1 + paid (commands V1 s)
 unfolding spread
 sum =
-    along (λ (s : List ℕ). endOf s ≡ length (commands s) * fixed V1 + paid (commands s))
-    (λ s h. rw (end-cut s h, commands-cut s h))
+    along V1 (λ (s : List ℕ). endOf V1 s ≡ length (commands V1 s) * fixed V1 + paid (commands V1 s))
+    (λ s h. rw (end-cut V1 s h, commands-cut V1 s h))
     (λ s h rest.
     let front = payload-first s h in
-    rw (end-whole s h, commands-whole s h, length-append) (omega (arith, front, rest)))
+    rw (end-whole V1 s h, commands-whole V1 s h, length-append) (omega (arith, front, rest)))
 
-pub measured : (s : List ℕ) → Measured s (endOf s) (length (reverse (commands s))) (paid (reverse (commands s)))
+pub measured : (s : List ℕ) → Measured s (endOf V1 s) (length (reverse (commands V1 s))) (paid (reverse (commands V1 s)))
 unfolding spread
 measured s =
-    let count = length-reverse (commands s) in
-    let all = paid-reverse (commands s) [] in
-    record { ends = refl; counts = refl; pays = refl; sum = omega (arith, sum s, count, all); within = walk.within s }
+    let count = length-reverse (commands V1 s) in
+    let all = paid-reverse (commands V1 s) [] in
+    record { ends = refl; counts = refl; pays = refl; sum = omega (arith, sum s, count, all); within = walk.within V1 s }
 
 -- The limits, by the command's own length.
 pub over-is : (command : List ℕ) (kept : List (List ℕ)) → formed V1 command ≡ true → overLimits (command ∷ kept) ≡ overWith kept (fieldsOf V1 command)

@@ -116,13 +116,13 @@ module _ (kept : List (List ℕ)) (c : Command) where
 -- ---- reading
 
 -- The text that an accepted command reads fits the lent buffer.
-pub read-fits : (s : List ℕ) (c : Command) (room lent : ℕ) → weighedNumber (reverse (commands s)) c room lent ≡ 0
-    → length (readFrom (reverse (commands s)) c) ≤ lent
+pub read-fits : (s : List ℕ) (c : Command) (room lent : ℕ) → weighedNumber (reverse (commands V1 s)) c room lent ≡ 0
+    → length (readFrom (reverse (commands V1 s)) c) ≤ lent
 unfolding judged textFrom entryFrom
 read-fits s c room lent h = go (cases (reads original c)) (cases (readsTranslation c))
   where
     kept : List (List ℕ)
-    kept = reverse (commands s)
+    kept = reverse (commands V1 s)
 
     sized : Sized kept
     sized = sized-commands s
@@ -189,34 +189,34 @@ take-min used bytes h = go (cases (ltb used historySize))
 
 -- ---- the exits of `weigh`
 
-module _ (bytes : List ℕ) (c : Command) (room lent : ℕ) (e : Entry) (x : Totals) (j : Judged) (he : e ≡ entryFrom (reverse (commands bytes)) (c .card))
+module _ (bytes : List ℕ) (c : Command) (room lent : ℕ) (e : Entry) (x : Totals) (j : Judged) (he : e ≡ entryFrom (reverse (commands V1 bytes)) (c .card))
     (hx : Measured bytes (x .end) (x .count) (x .payloads)) (hj : j ≡ judged e c room lent) where
   abbrev Weighs : Judged → Type 0
   Weighs d =
-      (d ≡ weighed (reverse (commands bytes)) c room lent)
-      × ((x .end ≡ endOf bytes) × (d .number ≡ 0 → x .end + fixed V1 + c .length ≤ historySize))
+      (d ≡ weighed (reverse (commands V1 bytes)) c room lent)
+      × ((x .end ≡ endOf V1 bytes) × (d .number ≡ 0 → x .end + fixed V1 + c .length ≤ historySize))
 
   abbrev passes : Bool
   passes = ltb mostKept (x .count + 1) || ltb mostPayload (c .length + x .payloads)
 
-  passes-is : passes ≡ overWith (reverse (commands bytes)) c
+  passes-is : passes ≡ overWith (reverse (commands V1 bytes)) c
   passes-is = rw (hx .counts, hx .pays)
 
-  by-entry : j ≡ judged (entryFrom (reverse (commands bytes)) (c .card)) c room lent
+  by-entry : j ≡ judged (entryFrom (reverse (commands V1 bytes)) (c .card)) c room lent
   by-entry = hj ∙ rw he
 
   pub weigh-refused : j .number ≢ 0 → Weighs j
-  weigh-refused h = (weighs-refused (reverse (commands bytes)) c room lent j by-entry h, (hx .ends, λ z. absurd (h z)))
+  weigh-refused h = (weighs-refused (reverse (commands V1 bytes)) c room lent j by-entry h, (hx .ends, λ z. absurd (h z)))
 
   pub weigh-full : (b : Bool) → b ≡ passes → b ≡ true → j .number ≡ 0 → Weighs (record { number = HISTORY-FULL; entry = e })
   weigh-full b hb t h = (
-    weighs-full (reverse (commands bytes)) c room lent e he (sym (ap (λ (d : Judged). d .number) by-entry) ∙ h) (sym passes-is ∙ sym hb ∙ t),
+    weighs-full (reverse (commands V1 bytes)) c room lent e he (sym (ap (λ (d : Judged). d .number) by-entry) ∙ h) (sym passes-is ∙ sym hb ∙ t),
     (hx .ends, λ z. absurd (omega (arith, z))),
   )
 
   pub weigh-accepted : (b : Bool) → b ≡ passes → b ≡ false → j .number ≡ 0 → Weighs j
   weigh-accepted b hb t h = (
-    weighs-accepted (reverse (commands bytes)) c room lent j by-entry h (sym passes-is ∙ sym hb ∙ t),
+    weighs-accepted (reverse (commands V1 bytes)) c room lent j by-entry h (sym passes-is ∙ sym hb ∙ t),
     (hx .ends, λ z. fits-behind bytes (x .end) (x .count) (x .payloads) (c .length) hx (sym hb ∙ t)),
   )
 
@@ -242,13 +242,13 @@ pub low : (used count : ℕ) (bytes : List ℕ) → length bytes ≡ historySize
 low used count bytes h e = omega (arith, h, e)
 
 module _ (room : ℕ) (bytes : List ℕ) (used : ℕ) (c : Command) (command reply : List ℕ) (long : length bytes ≡ historySize) (count : ℕ) (hc : count ≡ min used historySize)
-    (j : Judged) (hj : j ≡ weighed (reverse (commands (take count bytes))) c room (length reply)) where
+    (j : Judged) (hj : j ≡ weighed (reverse (commands V1 (take count bytes))) c room (length reply)) where
   standing-is : take count bytes ≡ take used bytes
   standing-is = ap (λ (n : ℕ). take n bytes) hc ∙ take-min used bytes long
 
-  kept-is : keptIn bytes used ≡ reverse (commands (take count bytes))
+  kept-is : keptIn bytes used ≡ reverse (commands V1 (take count bytes))
   unfolding keptIn
-  kept-is = ap (λ (s : List ℕ). reverse (commands s)) (sym standing-is)
+  kept-is = ap (λ (s : List ℕ). reverse (commands V1 s)) (sym standing-is)
 
   judged-is : weighed (keptIn bytes used) c room (length reply) ≡ j
   judged-is = ap (λ (kept : List (List ℕ)). weighed kept c room (length reply)) kept-is ∙ sym hj
@@ -262,8 +262,8 @@ module _ (room : ℕ) (bytes : List ℕ) (used : ℕ) (c : Command) (command rep
           → _≡_ {A = HistoryOutcome}
           (record {
             answer = replied m (j .entry) c;
-            bytes = settled m (splice (endOf (take used bytes)) command bytes) bytes;
-            used = settled m (endOf (take used bytes) + length command) used;
+            bytes = settled m (splice (endOf V1 (take used bytes)) command bytes) bytes;
+            used = settled m (endOf V1 (take used bytes) + length command) used;
             reply = settled m (splice 0 (readFrom (keptIn bytes used) c) reply) reply;
           })
           (record { answer = replied m (j .entry) c; bytes = bytes; used = used; reply = reply })
@@ -271,19 +271,19 @@ module _ (room : ℕ) (bytes : List ℕ) (used : ℕ) (c : Command) (command rep
       go (suc k) h = refl
 
   module _ (h : j .number ≡ 0) where
-    pub number-zero : weighedNumber (reverse (commands (take count bytes))) c room (length reply) ≡ 0
+    pub number-zero : weighedNumber (reverse (commands V1 (take count bytes))) c room (length reply) ≡ 0
     unfolding weighed
     number-zero = sym (ap (λ (d : Judged). d .number) hj) ∙ h
 
-    pub carry-accepted : (end : ℕ) → end ≡ endOf (take count bytes)
+    pub carry-accepted : (end : ℕ) → end ≡ endOf V1 (take count bytes)
         → historyCarried room bytes used c command reply
         ≡ record {
           answer = replied (j .number) (j .entry) c;
           bytes = splice end command bytes;
           used = end + length command;
-          reply = splice 0 (readFrom (reverse (commands (take count bytes))) c) reply;
+          reply = splice 0 (readFrom (reverse (commands V1 (take count bytes))) c) reply;
         }
     unfolding historyCarried bytesBy usedBy
     carry-accepted end he =
-        let place : endOf (take used bytes) ≡ end = ap endOf (sym standing-is) ∙ sym he in
+        let place : endOf V1 (take used bytes) ≡ end = ap (endOf V1) (sym standing-is) ∙ sym he in
         rw (judged-is, h, place, kept-is)

@@ -45,32 +45,32 @@ module _ {B : Type 0} (step : B → List ℕ → B) where
 
   -- A walk that has come to a place with a value.
   pub record Working (goal : B) (s : List ℕ) (at : ℕ) (b : B) : Type 0 where
-    pub walked : Walked s at
-    pub left : over b (commands (drop at s)) ≡ goal
+    pub walked : Walked V1 s at
+    pub left : over b (commands V1 (drop at s)) ≡ goal
 
   pub working-none : (f : List (List ℕ) → B) → ((command : List ℕ) (kept : List (List ℕ)) → f (command ∷ kept) ≡ step (f kept) command)
-      → (s : List ℕ) (b : B) → b ≡ f [] → Working (f (reverse (commands s))) s 0 b
+      → (s : List ℕ) (b : B) → b ≡ f [] → Working (f (reverse (commands V1 s))) s 0 b
   working-none f h s b e =
-      record { walked = walked-none s; left = ap (λ (d : B). over d (commands s)) e ∙ over-is f h (commands s) [] }
+      record { walked = walked-none V1 s; left = ap (λ (d : B). over d (commands V1 s)) e ∙ over-is f h (commands V1 s) [] }
 
   module _ (goal : B) (s : List ℕ) (at : ℕ) (b : B) (w : Working goal s at b) where
-    pub working-more : (end : ℕ) (d : B) → nextAt s at ≡ Whole end → d ≡ step b (part at (end - at) s) → Working goal s end d
+    pub working-more : (end : ℕ) (d : B) → nextAt V1 s at ≡ Whole end → d ≡ step b (part at (end - at) s) → Working goal s end d
     unfolding over
     working-more end d e h =
         record {
-          walked = walked-more s at end (w .walked) e .0;
-          left = rw h (rw (walk.passes s at end e .2) at (w .left));
+          walked = walked-more V1 s at end (w .walked) e .0;
+          left = rw h (rw (walk.passes V1 s at end e .2) at (w .left));
         }
 
-    pub working-done : nextAt s at ≡ Cut → b ≡ goal
+    pub working-done : nextAt V1 s at ≡ Cut → b ≡ goal
     unfolding over
-    working-done e = rw (walk.stops s at e) at (w .left)
+    working-done e = rw (walk.stops V1 s at e) at (w .left)
 
 -- Each step goes on by a whole command, within the bytes.
-pub within : (s : List ℕ) (at end : ℕ) → nextAt s at ≡ Whole end → (at + fixed V1 ≤ end) × (end ≤ length s)
-within s at end e = let p = walk.passes s at end e in (p .0, p .1)
+pub within : (s : List ℕ) (at end : ℕ) → nextAt V1 s at ≡ Whole end → (at + fixed V1 ≤ end) × (end ≤ length s)
+within s at end e = let p = walk.passes V1 s at end e in (p .0, p .1)
 
-pub less : (s : List ℕ) (at end : ℕ) → nextAt s at ≡ Whole end → length s - end < length s - at
+pub less : (s : List ℕ) (at end : ℕ) → nextAt V1 s at ≡ Whole end → length s - end < length s - at
 less s at end e = let w = within s at end e in omega (arith, w .0, w .1)
 
 -- The payload of the command at a place.
@@ -87,8 +87,8 @@ unfoldable pub paid : ℕ → List ℕ → ℕ
 paid n command = n + length (payload V1 command)
 
 pub record Extending (s : List ℕ) (at count payloads : ℕ) : Type 0 where
-  pub counting : Working counted (length (reverse (commands s))) s at count
-  pub paying : Working paid (length (spread (payload V1) (reverse (commands s)))) s at payloads
+  pub counting : Working counted (length (reverse (commands V1 s))) s at count
+  pub paying : Working paid (length (spread (payload V1) (reverse (commands V1 s)))) s at payloads
   pub sum : at ≡ count * fixed V1 + payloads
 
 count-goes : (command : List ℕ) (kept : List (List ℕ)) → length (command ∷ kept) ≡ counted (length kept) command
@@ -109,10 +109,10 @@ extending-none s =
     }
 
 module _ (s : List ℕ) (at count payloads : ℕ) (x : Extending s at count payloads) where
-  pub extending-within : (end : ℕ) → nextAt s at ≡ Whole end → (at + fixed V1 ≤ end) × (end ≤ length s) × (count + payloads ≤ at)
+  pub extending-within : (end : ℕ) → nextAt V1 s at ≡ Whole end → (at + fixed V1 ≤ end) × (end ≤ length s) × (count + payloads ≤ at)
   extending-within end e = let w = within s at end e in (w .0, w .1, omega (arith, x .sum))
 
-  pub extending-more : (end : ℕ) → nextAt s at ≡ Whole end → Extending s end (count + 1) (payloads + (end - at - fixed V1))
+  pub extending-more : (end : ℕ) → nextAt V1 s at ≡ Whole end → Extending s end (count + 1) (payloads + (end - at - fixed V1))
   unfolding counted paid
   extending-more end e =
       let w = within s at end e in
@@ -126,10 +126,10 @@ module _ (s : List ℕ) (at count payloads : ℕ) (x : Extending s at count payl
         sum = omega (arith, x .sum, w .0);
       }
 
-  pub extending-done : nextAt s at ≡ Cut → Measured s at count payloads
+  pub extending-done : nextAt V1 s at ≡ Cut → Measured s at count payloads
   extending-done e =
       record {
-        ends = walked-done s at (x .counting .walked) e;
+        ends = walked-done V1 s at (x .counting .walked) e;
         counts = working-done counted _ s at count (x .counting) e;
         pays = working-done paid _ s at payloads (x .paying) e;
         sum = x .sum;
@@ -188,7 +188,7 @@ put-other act k t command e = rw e
 
 -- The walk for an entry: the edition stays far below the last one.
 pub record Entering (s : List ℕ) (k at : ℕ) (e : Entry) : Type 0 where
-  pub working : Working (takes k) (entryFrom (reverse (commands s)) k) s at e
+  pub working : Working (takes k) (entryFrom (reverse (commands V1 s)) k) s at e
   pub few : e .edition * fixed V1 ≤ at
   pub short : length s ≤ historySize
 
@@ -204,7 +204,7 @@ module _ (s : List ℕ) (k at : ℕ) (e : Entry) (w : Entering s k at e) where
   pub entering-low : e .edition < lastEdition
   entering-low = omega (arith, w .few, w .short, w .working .walked .within)
 
-  pub entering-more : (end : ℕ) (d : Entry) → nextAt s at ≡ Whole end
+  pub entering-more : (end : ℕ) (d : Entry) → nextAt V1 s at ≡ Whole end
       → d ≡ cond (eqb (fieldsOf V1 (part at (end - at) s) .card) k) (raise e (fieldsOf V1 (part at (end - at) s))) e → Entering s k end d
   unfolding takes
   entering-more end d h z =
@@ -217,7 +217,7 @@ module _ (s : List ℕ) (k at : ℕ) (e : Entry) (w : Entering s k at e) where
 
 -- The walk for a text: a part of the bytes.
 pub record Finding (s : List ℕ) (act k at start end : ℕ) : Type 0 where
-  pub working : Working (puts act k) (writtenBy act (reverse (commands s)) k) s at (part start (end - start) s)
+  pub working : Working (puts act k) (writtenBy act (reverse (commands V1 s)) k) s at (part start (end - start) s)
   pub orderly : start ≤ end
   pub inside : end ≤ length s
 
@@ -231,7 +231,7 @@ finding-none s act k =
     }
 
 module _ (s : List ℕ) (act k at : ℕ) (p : Span) (f : Finding s act k at (p .start) (p .end)) where
-  pub finding-more : (end : ℕ) (d : Span) → nextAt s at ≡ Whole end
+  pub finding-more : (end : ℕ) (d : Span) → nextAt V1 s at ≡ Whole end
       → d ≡ cond (eqb (fieldsOf V1 (part at (end - at) s) .card) k && eqb (fieldsOf V1 (part at (end - at) s) .act) act) (record { start = at + fixed V1; end = end }) p
       → Finding s act k end (d .start) (d .end)
   finding-more end d h z =

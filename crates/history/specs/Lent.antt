@@ -18,14 +18,14 @@ historySize = mostKept * fixed V1 + mostPayload
 -- The commands that lent bytes keep, latest first: the whole commands of the used ones. Any bytes and any number say which these are; what stands
 -- behind the last whole command is not looked at. Rules 14.3 and 14.4.
 unfoldable pub keptIn : List ℕ → ℕ → List (List ℕ)
-keptIn bytes used = reverse (commands (take used bytes))
+keptIn bytes used = reverse (commands V1 (take used bytes))
 
 -- An accepted command is written behind the others, and the used bytes end behind it. Rule 14.8.
 unfoldable pub bytesBy : ℕ → List ℕ → ℕ → List ℕ → List ℕ
-bytesBy number bytes used command = settled number (splice (endOf (take used bytes)) command bytes) bytes
+bytesBy number bytes used command = settled number (splice (endOf V1 (take used bytes)) command bytes) bytes
 
 unfoldable pub usedBy : ℕ → List ℕ → ℕ → List ℕ → ℕ
-usedBy number bytes used command = settled number (endOf (take used bytes) + length command) used
+usedBy number bytes used command = settled number (endOf V1 (take used bytes) + length command) used
 
 -- What a request leaves: its answer, the lent bytes, how many of them are used, and the reply buffer.
 pub record HistoryOutcome : Type 0 where

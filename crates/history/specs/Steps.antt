@@ -24,9 +24,9 @@ use Rattle.history.specs.Lent.{keptIn, bytesBy, usedBy, HistoryOutcome}
 
 -- How far the commands of some bytes go, how many they are, and their payload bytes in all.
 pub record Measured (bytes : List ℕ) (end count payloads : ℕ) : Type 0 where
-  pub ends : end ≡ endOf bytes
-  pub counts : count ≡ length (reverse (commands bytes))
-  pub pays : payloads ≡ length (spread (payload V1) (reverse (commands bytes)))
+  pub ends : end ≡ endOf V1 bytes
+  pub counts : count ≡ length (reverse (commands V1 bytes))
+  pub pays : payloads ≡ length (spread (payload V1) (reverse (commands V1 bytes)))
   pub sum : end ≡ count * fixed V1 + payloads
   pub within : end ≤ length bytes
 

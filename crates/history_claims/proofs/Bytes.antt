@@ -29,48 +29,48 @@ use Rattle.history.proofs.Extents.{measured, over-is, fits-behind}
 use Rattle.history_claims.specs.Lent.{BytesKeep, BytesKept}
 
 -- Where neither limit is passed, the command fits behind the others.
-fits : (s command : List ℕ) → formed V1 command ≡ true → overLimits (command ∷ reverse (commands s)) ≡ false → endOf s + length command ≤ historySize
+fits : (s command : List ℕ) → formed V1 command ≡ true → overLimits (command ∷ reverse (commands V1 s)) ≡ false → endOf V1 s + length command ≤ historySize
 fits s command f h =
-    let behind = fits-behind s _ _ _ (fieldsOf V1 command .length) (measured s) (sym (over-is command (reverse (commands s)) f) ∙ h) in
+    let behind = fits-behind s _ _ _ (fieldsOf V1 command .length) (measured s) (sym (over-is command (reverse (commands V1 s)) f) ∙ h) in
     let long = formedness V1 command f .whole in
     omega (arith, behind, long)
 
 -- ---- one more command
 
-one-command : (command : List ℕ) → formed V1 command ≡ true → OneCommand command
+one-command : (command : List ℕ) → formed V1 command ≡ true → OneCommand V1 command
 unfolding fieldsOf
 one-command command f = let whole = formedness V1 command f .whole in (omega (arith, whole), whole)
 
-one-more : (l : List (List ℕ)) (command : List ℕ) → ((i : ℕ) → i < length l → OneCommand (getD l i [])) → OneCommand command
-    → (i : ℕ) → i < length (l ++ (command ∷ [])) → OneCommand (getD (l ++ (command ∷ [])) i [])
+one-more : (l : List (List ℕ)) (command : List ℕ) → ((i : ℕ) → i < length l → OneCommand V1 (getD l i [])) → OneCommand V1 command
+    → (i : ℕ) → i < length (l ++ (command ∷ [])) → OneCommand V1 (getD (l ++ (command ∷ [])) i [])
 one-more l command each own i h = go (cases (ltb i (length l)))
   where
-    go : (ltb i (length l) ≡ true) ⊎ (ltb i (length l) ≡ false) → OneCommand (getD (l ++ (command ∷ [])) i [])
+    go : (ltb i (length l) ≡ true) ⊎ (ltb i (length l) ≡ false) → OneCommand V1 (getD (l ++ (command ∷ [])) i [])
     go (inl t) =
         let less = ltb-true i (length l) t in
-        subst OneCommand (sym (List·getD-append l (command ∷ []) [] i less)) (each i less)
+        subst (OneCommand V1) (sym (List·getD-append l (command ∷ []) [] i less)) (each i less)
     go (inr f) =
         let more = ltb-false i (length l) f in
         let long = length-append l (command ∷ []) in
         let last : length l ≡ i = omega (arith, more, long, h) in
-        subst (λ (j : ℕ). OneCommand (getD (l ++ (command ∷ [])) j [])) last (subst OneCommand (sym (getD-append-seam l command [] [])) own)
+        subst (λ (j : ℕ). OneCommand V1 (getD (l ++ (command ∷ [])) j [])) last (subst (OneCommand V1) (sym (getD-append-seam l command [] [])) own)
 
-front : (s : List ℕ) → take (endOf s) s ≡ endToEnd (commands s)
+front : (s : List ℕ) → take (endOf V1 s) s ≡ endToEnd (commands V1 s)
 front s =
-    ap (λ (n : ℕ). take n s) (end-length s)
-    ∙ ap (take (length (endToEnd (commands s)))) (sym (walk.joined s))
-    ∙ take-append-seam (endToEnd (commands s)) (drop (endOf s) s)
+    ap (λ (n : ℕ). take n s) (end-length V1 s)
+    ∙ ap (take (length (endToEnd (commands V1 s)))) (sym (walk.joined V1 s))
+    ∙ take-append-seam (endToEnd (commands V1 s)) (drop (endOf V1 s) s)
 
 spread-one : (command : List ℕ) → endToEnd (command ∷ []) ≡ command
 unfolding spread
 spread-one command = append-nil command
 
-commands-more : (s command : List ℕ) → OneCommand command → commands (take (endOf s) s ++ command) ≡ commands s ++ (command ∷ [])
+commands-more : (s command : List ℕ) → OneCommand V1 command → commands V1 (take (endOf V1 s) s ++ command) ≡ commands V1 s ++ (command ∷ [])
 commands-more s command own =
-    ap (λ (l : List ℕ). commands (l ++ command)) (front s)
-    ∙ ap (λ (l : List ℕ). commands (endToEnd (commands s) ++ l)) (sym (spread-one command))
-    ∙ ap commands (sym (spread-append (λ (c : List ℕ). c) (commands s) (command ∷ [])) ∙ sym (append-nil (endToEnd (commands s ++ (command ∷ [])))))
-    ∙ walk.back (commands s ++ (command ∷ [])) [] (one-more (commands s) command (walk.each s) own) (cut-short [] (omega arith))
+    ap (λ (l : List ℕ). commands V1 (l ++ command)) (front s)
+    ∙ ap (λ (l : List ℕ). commands V1 (endToEnd (commands V1 s) ++ l)) (sym (spread-one command))
+    ∙ ap (commands V1) (sym (spread-append (λ (c : List ℕ). c) (commands V1 s) (command ∷ [])) ∙ sym (append-nil (endToEnd (commands V1 s ++ (command ∷ [])))))
+    ∙ walk.back V1 (commands V1 s ++ (command ∷ [])) [] (one-more (commands V1 s) command (walk.each V1 s) own) (cut-short V1 [] (omega arith))
 
 -- ---- the bytes
 
@@ -79,21 +79,21 @@ module _ (bytes : List ℕ) (used : ℕ) (command : List ℕ) (long : length byt
   abbrev s : List ℕ
   s = take used bytes
 
-  room : endOf s + length command ≤ length bytes
+  room : endOf V1 s + length command ≤ length bytes
   unfolding keptIn
   room = let low = fits s command f h in omega (arith, low, long)
 
   -- What stands before the place.
-  take-take : take (endOf s) bytes ≡ take (endOf s) s
+  take-take : take (endOf V1 s) bytes ≡ take (endOf V1 s) s
   take-take =
-      let within = walk.within s in
+      let within = walk.within V1 s in
       let short = length-take used bytes in
-      sym (lib.Seq.take-take (endOf s) used bytes (omega (arith, within, short)))
+      sym (lib.Seq.take-take (endOf V1 s) used bytes (omega (arith, within, short)))
 
-  after : take (endOf s + length command) (splice (endOf s) command bytes) ≡ take (endOf s) s ++ command
+  after : take (endOf V1 s + length command) (splice (endOf V1 s) command bytes) ≡ take (endOf V1 s) s ++ command
   unfolding splice
   after =
-      let n : ℕ = endOf s in
+      let n : ℕ = endOf V1 s in
       let front-long : length (take n bytes) ≡ n = length-take-le n bytes (omega (arith, room)) in
       ap (λ (l : List ℕ). take (n + length command) l) (sym (append-assoc (take n bytes) command (drop (n + length command) bytes)))
       ∙ ap (λ (m : ℕ). take m ((take n bytes ++ command) ++ drop (n + length command) bytes))
@@ -101,15 +101,15 @@ module _ (bytes : List ℕ) (used : ℕ) (command : List ℕ) (long : length byt
       ∙ take-append-seam (take n bytes ++ command) (drop (n + length command) bytes)
       ∙ ap (λ (l : List ℕ). l ++ command) take-take
 
-  pub kept-more : keptIn (splice (endOf s) command bytes) (endOf s + length command) ≡ command ∷ keptIn bytes used
+  pub kept-more : keptIn (splice (endOf V1 s) command bytes) (endOf V1 s + length command) ≡ command ∷ keptIn bytes used
   unfolding keptIn
   kept-more =
-      ap (λ (l : List ℕ). reverse (commands l)) after
+      ap (λ (l : List ℕ). reverse (commands V1 l)) after
       ∙ ap reverse (commands-more s command (one-command command f))
-      ∙ reverse-append (commands s) (command ∷ [])
+      ∙ reverse-append (commands V1 s) (command ∷ [])
 
-  pub long-more : length (splice (endOf s) command bytes) ≡ historySize
-  long-more = length-splice (endOf s) command bytes room ∙ long
+  pub long-more : length (splice (endOf V1 s) command bytes) ≡ historySize
+  long-more = length-splice (endOf V1 s) command bytes room ∙ long
 
 -- ---- by the number
 

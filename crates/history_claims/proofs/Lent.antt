@@ -20,7 +20,7 @@ use Rattle.history_claims.proofs.Bytes.{bytes-kept}
 
 none-kept : (bytes : List ℕ) → keptIn bytes 0 ≡ []
 unfolding keptIn
-none-kept bytes = rw (commands-cut [] (cut-short [] (lib.Dec.lit< tt)))
+none-kept bytes = rw (commands-cut V1 [] (cut-short V1 [] (lib.Dec.lit< tt)))
 
 -- What a request over bytes shows is what the engine shows.
 event-is : (n c : ℕ) (bytes : List ℕ) (used : ℕ) (kept : List (List ℕ)) (s : Sent) → keptIn bytes used ≡ kept

@@ -219,7 +219,7 @@ module _ (f : Format) (image : List ℕ) (b : Bytes image) (holds : T (sound f i
         ∙ pad-read (bodyPlace f (countOf image) (roomOf image) k side) (sideLength f image holds k below side) (roomOf image) image
         (body-lies f image holds k below side h) (side-fits f image holds k below side h) (side-tail f image holds k below side h)
 
-    bodies-back : bodies f (roomOf image) (cardAt f image k)
+    pub bodies-back : bodies f (roomOf image) (cardAt f image k)
         ≡ part (headerSize + entrySize f * countOf image + k * (sides f * roomOf image)) (sides f * roomOf image) image
     unfolding bodies
     bodies-back =

@@ -45,7 +45,7 @@ module _ {A B : Type 0} (f : A → List B) (w : ℕ) (wide : (a : A) → length 
       ∙ splice-part (k * w) w (spread f l) piece-fits
 
 -- A table with one element changed.
-table-set : {A : Type 0} (g h : ℕ → A) (n i : ℕ) (a d : A) → i < n → h i ≡ a → ((j : ℕ) → (j ≡ i → ⊥) → h j ≡ g j) → table h n ≡ set (table g n) i a
+pub table-set : {A : Type 0} (g h : ℕ → A) (n i : ℕ) (a d : A) → i < n → h i ≡ a → ((j : ℕ) → (j ≡ i → ⊥) → h j ≡ g j) → table h n ≡ set (table g n) i a
 table-set g h n i a d below here others =
     ext-getD d (table h n) (set (table g n) i a) (length-table h n ∙ sym (length-set (table g n) i a ∙ length-table g n))
     (λ j small. each j (subst (λ (m : ℕ). j < m) (length-table h n) small) (cases (eqb j i)))
@@ -110,18 +110,22 @@ module _ (f : Format) (cs : Cards) (k : ℕ) (below : k < length (cs .cards)) (c
       (sym (same-piece (bodies f room) (sides f * room) (length-bodies f room) (cs .cards) k below card (noCard f) same))
       ∙ whole
 
+  -- Another card with something of its bodies changed: that part of them and the entry written.
+  pub put-part-entry : (side : ℕ) (v : List ℕ) → side * room + length v ≤ sides f * room → bodies f room card ≡ splice (side * room) v (bodies f room old)
+      → splice (entryPlace f k) (cardEntry f card) (splice (bodyPlace f (length (cs .cards)) room k side) v (encode f cs)) ≡ encode f (withCard k card cs)
+  unfolding encode
+  put-part-entry side v fits changed =
+      let place : bodyPlace f (length (cs .cards)) room k side ≡ headerSize + entrySize f * length (cs .cards) + (k * (sides f * room) + side * room) = omega arith in
+      ap (splice (entryPlace f k) (cardEntry f card))
+      (ap (λ (at : ℕ). splice at v (first ++ entries ++ spread (bodies f room) (cs .cards))) place
+      ∙ splice-append-right (headerSize + entrySize f * length (cs .cards)) (k * (sides f * room) + side * room) v (first ++ entries) (spread (bodies f room) (cs .cards))
+      (length-front f (length (cs .cards)) room (cs .cards))
+      ∙ ap (λ (u : List ℕ). first ++ entries ++ u)
+      (splice-piece (bodies f room) (sides f * room) (length-bodies f room) (cs .cards) k below (side * room) v card (noCard f) fits changed))
+      ∙ put-front (spread (bodies f room) (set (cs .cards) k card))
+      ∙ whole
+
   -- Another card with one text changed: that text and the entry written.
   pub put-text-entry : (side : ℕ) (t : List ℕ) → side < sides f → bodies f room card ≡ splice (side * room) (pad room t) (bodies f room old)
       → splice (entryPlace f k) (cardEntry f card) (splice (bodyPlace f (length (cs .cards)) room k side) (pad room t) (encode f cs)) ≡ encode f (withCard k card cs)
-  unfolding encode
-  put-text-entry side t h changed =
-      let place : bodyPlace f (length (cs .cards)) room k side ≡ headerSize + entrySize f * length (cs .cards) + (k * (sides f * room) + side * room) = omega arith in
-      let fits : side * room + length (pad room t) ≤ sides f * room = rw length-pad (omega (arith, mul-le-mul-right room h)) in
-      ap (splice (entryPlace f k) (cardEntry f card))
-      (ap (λ (at : ℕ). splice at (pad room t) (first ++ entries ++ spread (bodies f room) (cs .cards))) place
-      ∙ splice-append-right (headerSize + entrySize f * length (cs .cards)) (k * (sides f * room) + side * room) (pad room t) (first ++ entries) (spread (bodies f room) (cs .cards))
-      (length-front f (length (cs .cards)) room (cs .cards))
-      ∙ ap (λ (u : List ℕ). first ++ entries ++ u)
-      (splice-piece (bodies f room) (sides f * room) (length-bodies f room) (cs .cards) k below (side * room) (pad room t) card (noCard f) fits changed))
-      ∙ put-front (spread (bodies f room) (set (cs .cards) k card))
-      ∙ whole
+  put-text-entry side t h changed = put-part-entry side (pad room t) (rw length-pad (omega (arith, mul-le-mul-right room h))) changed

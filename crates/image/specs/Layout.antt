@@ -46,7 +46,7 @@ shapeOk f n c =
     ∷ leb (sizeOf f n c) mostBytes
     ∷ [])
 
--- Where an entry stands, where its numbers end in it, and where the body of a card's side stands.
+-- Where an entry stands, where its numbers end in it, and where the body of a card's side stands (rules 2.4, 2.5, 15.3 and 15.4).
 abbrev pub entryPlace : Format → ℕ → ℕ
 entryPlace f k = headerSize + entrySize f * k
 

@@ -3,10 +3,12 @@ pub mod inner;
 
 ghost use mathlib.Core.Path.{_≡_};
 ghost use Rattle.image.specs.Image.{sound, frontOf, makeNumber, fresh};
+ghost use Rattle.image.specs.Convert.{converted, convertNumber};
 ghost use lib.ListN.{length};
 ghost use Rattle.lists.specs.Table.{settled};
 ghost use Rattle.formats.specs.declared.Format.the-variants.{V1};
 use formats::Format;
+use guard::UNSOUND;
 
 // ---- The image: the bytes of a store's cards.
 
@@ -109,4 +111,28 @@ pub fn make(image: &mut [u8], cards: usize, room: usize) -> u8
         ≡ settled (makeNumber V1 cards room (length (now (image .entry)))) (fresh V1 cards room) (now (image .entry)) ⌝ }
 {
     make_as(Format::V1, image, cards, room)
+}
+
+// ---- From version 1 to version 2.
+
+// Converts an image of version 1 into one of version 2 in the whole of target, and answers MADE; or answers UNSOUND or NOT_MADE and writes nothing.
+pub fn convert(image: &[u8], target: &mut [u8]) -> u8
+    ensures number { λ r. ⌜ r ≡ convertNumber (now (image .entry)) (length (now (target .entry))) ⌝ }
+    ensures bytes { λ r. ⌜ now (target .exit)
+        ≡ settled (convertNumber (now (image .entry)) (length (now (target .entry)))) (converted (now (image .entry))) (now (target .entry)) ⌝ }
+{
+    if !sound(image) {
+        return UNSOUND;
+    }
+    let n = inner::read::count(image);
+    let c = inner::read::room(image);
+    if make_as(Format::V2, target, n as usize, c as usize) == NOT_MADE {
+        return NOT_MADE;
+    }
+    let mut k: u16 = 0;
+    while k < n {
+        inner::convert::widen(image, target, k);
+        k += 1;
+    }
+    MADE
 }

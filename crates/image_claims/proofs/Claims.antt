@@ -2,16 +2,18 @@
 use Prim.Native.Nat.{ℕ, zero, suc, _+_, _*_, _-_, _/_, _<_}
 use native.Mathlib.Omega.{arith}
 use mathlib.Core.Path.{_≡_, refl, sym, ap, _∙_, subst}
-use mathlib.Core.List.{List, [], append-assoc}
-use mathlib.Core.Bool.{Bool, true, false}
+use mathlib.Core.Logic.{_⊎_, inl, inr}
+use mathlib.Core.List.{List, [], _++_, append-assoc}
+use mathlib.Core.Bool.{Bool, true, false, _&&_}
 use borrow.Author.Tests.{eqb-true, ne-eqb}
-use lib.Dec.{T, eqb, lit<, leb·zero}
-use lib.ListN.{length, drop, getD, replicate, length-replicate, getD-replicate, replicate-append-replicate, List·getD-eq-default}
+use lib.Dec.{T, eqb, leb, lit<, leb·zero}
+use lib.ListN.{length, take, drop, getD, replicate, length-replicate, getD-replicate, replicate-append-replicate}
 use lib.Seq.{drop-at}
 use Rattle.lists.specs.Parts.{spread, table, Bytes}
-use Rattle.lists.specs.Le.{toLe, field}
+use Rattle.lists.specs.Le.{le, toLe, field}
+use Rattle.lists.proofs.Parts.{part-take, part-append-left}
 use Rattle.lists.proofs.Spread.{table-ext, table-is, spread-replicate}
-use Rattle.lists.proofs.Tests.{to-T, from-T, all-out, all-fails-at}
+use Rattle.lists.proofs.Tests.{to-T, from-T, cases, all-out, all-fails-at}
 use Rattle.lists.specs.Table.{all, allFrom, listed}
 use Rattle.lists.proofs.Bytes.{Bytes-nil, zeros-at, zeros-replicate}
 use Rattle.guard.specs.Entry.{entrySound, noEntry, FitsEntry}
@@ -21,13 +23,13 @@ use Rattle.formats.specs.declared.Format.the-variants.{V1, V2}
 use Rattle.formats.specs.Format.{version, entrySize, translations}
 use Rattle.image.specs.Layout.{sides, shapeOk, sizeOf, headerSize}
 use Rattle.image.specs.Bytes.{header, entryBytes, pad, countOf}
-use Rattle.image.specs.Image.{Card, Translation, translationOf, noTranslation, view, sideText, noCard, cardEntry, bodies, encode, cardAt, decode, headerSound, sound, fresh, GoodCard, GoodCards, freshCards, makes, makeNumber}
-use Rattle.image_claims.specs.Claims.{SoundReadsBack, GoodEncodes, OneImage, OneVersion, FreshSound, LargestImage, makeNumbers, MakeListed}
+use Rattle.image.specs.Image.{Card, Translation, translationOf, noTranslation, view, sideText, noCard, cardEntry, bodies, encode, cardAt, decode, headerSound, sound, fresh, GoodCard, GoodCards, freshCards, makes, makeNumber, claimed, goodFront}
+use Rattle.image_claims.specs.Claims.{SoundReadsBack, GoodEncodes, OneImage, OneVersion, NoOldFront, FreshSound, LargestImage, makeNumbers, MakeListed}
 use Rattle.image.proofs.Shape.{shape}
 use Rattle.image.proofs.Cards.{Bytes-encode, sound-encode, decode-encode}
 use Rattle.image.proofs.Encode.{length-header, length-encode}
-use Rattle.image.proofs.Written.{take-replicate}
-use Rattle.image.proofs.Decode.{encode-decode, decode-good, header-holds}
+use Rattle.image.proofs.Empty.{no-translation, side-empty, fresh-cards}
+use Rattle.image.proofs.Decode.{encode-decode, decode-good, header-holds, long}
 
 pub soundReadsBack : SoundReadsBack
 soundReadsBack f image b holds = record { good = decode-good f image b holds; same = encode-decode f image b holds }
@@ -41,55 +43,46 @@ oneImage f x y bx by sx sy n c same =
     let cards : decode f x ≡ decode f y = rw (← n, ← c, table-ext (cardAt f x) (cardAt f y) (countOf x) same) in
     sym (encode-decode f x bx sx) ∙ ap (encode f) cards ∙ encode-decode f y by sy
 
-pub oneVersion : OneVersion
+-- The number of an image's version.
+version-is : (f : Format) (image : List ℕ) → T (sound f image) → field 4 2 image ≡ version f
+unfolding headerSound
+version-is f image holds = eqb-true (field 4 2 image) (version f) (all-out _ (header-holds f image holds) 1)
+
+other-fails : (g : Format) (image : List ℕ) → (field 4 2 image ≡ version g → ⊥) → sound g image ≡ false
 unfolding headerSound sound
-oneVersion image holds =
-    let two : field 4 2 image ≡ 2 = eqb-true (field 4 2 image) 2 (all-out _ (header-holds V2 image holds) 1) in
-    let other : headerSound V1 image ≡ false = all-fails-at _ 1 (ne-eqb (field 4 2 image) 1 (λ one. omega arith)) in
-    rw other
+other-fails g image other =
+    let fails : headerSound g image ≡ false = all-fails-at _ 1 (ne-eqb (field 4 2 image) (version g) other) in
+    rw fails
+
+versions-apart : (f g : Format) → (f ≡ g → ⊥) → version f ≡ version g → ⊥
+versions-apart V1 V1 apart e = apart refl
+versions-apart V1 V2 apart e = absurd (omega arith)
+versions-apart V2 V1 apart e = absurd (omega arith)
+versions-apart V2 V2 apart e = apart refl
+
+pub oneVersion : OneVersion
+oneVersion f g apart image holds = other-fails g image (λ e. versions-apart f g apart (sym (version-is f image holds) ∙ e))
+
+pub noOldFront : NoOldFront
+unfolding goodFront
+noOldFront image rest holds = go (cases (leb headerSize (length (image ++ rest)) && leb (claimed (image ++ rest)) (length (image ++ rest))))
+  where
+    bytes : List ℕ
+    bytes = image ++ rest
+
+    -- The version stands in the header, which both have.
+    says-2 : field 4 2 (take (claimed bytes) bytes) ≡ 2
+    says-2 =
+        ap le (part-take 4 2 (claimed bytes) bytes (omega arith))
+        ∙ ap le (part-append-left 4 2 image rest (omega (arith, long V2 image holds)))
+        ∙ version-is V2 image holds
+
+    go : ((leb headerSize (length bytes) && leb (claimed bytes) (length bytes)) ≡ true) ⊎ ((leb headerSize (length bytes) && leb (claimed bytes) (length bytes)) ≡ false)
+        → (leb headerSize (length bytes) && leb (claimed bytes) (length bytes) && sound V1 (take (claimed bytes) bytes)) ≡ false
+    go (inl e) = rw e (other-fails V1 (take (claimed bytes) bytes) (λ one. absurd (omega (arith, says-2, one))))
+    go (inr e) = rw e
 
 -- ---- a fresh image
-
--- A card with nothing on it, seen in any language.
-pub no-translation : (f : Format) (t : ℕ) → translationOf t (noCard f) ≡ noTranslation
-no-translation f t = go (translations f) t
-  where
-    go : (n t : ℕ) → getD (replicate n noTranslation) t noTranslation ≡ noTranslation
-    go zero t = refl
-    go (suc n) zero = refl
-    go (suc n) (suc t) = go n t
-
-entry-zero : (f : Format) → cardEntry f (noCard f) ≡ replicate (entrySize f) 0
-unfolding entryBytes toLe spread table
-entry-zero V1 = refl
-entry-zero V2 = refl
-
-side-empty : (f : Format) (side : ℕ) → sideText side (noCard f) ≡ []
-side-empty f zero = refl
-side-empty f (suc t) = ap (λ (u : Translation). u .text) (no-translation f t)
-
-bodies-zero : (f : Format) (c : ℕ) → bodies f c (noCard f) ≡ replicate (sides f * c) 0
-unfolding bodies pad
-bodies-zero f c =
-    let texts : ℕ → List ℕ = λ (side : ℕ). sideText side (noCard f) in
-    let none : List (List ℕ) = replicate (sides f) [] in
-    let empty : table texts (sides f) ≡ none =
-    ap (table texts) (sym (length-replicate (sides f) []))
-    ∙ table-is texts none [] (λ i h. side-empty f i ∙ sym (getD-replicate (sides f) i [] [] (subst (λ (n : ℕ). i < n) (length-replicate (sides f) []) h))) in
-    ap (spread (pad c)) empty ∙ spread-replicate (pad c) [] c 0 (take-replicate {A = ℕ} c c 0 (omega arith)) (sides f)
-
-fresh-cards : (f : Format) (n c : ℕ) → encode f (freshCards f n c) ≡ fresh f n c
-unfolding encode freshCards fresh
-fresh-cards f n c =
-    let rest : n * entrySize f + n * (sides f * c) ≡ sizeOf f n c - headerSize = omega arith in
-    rw (
-      length-replicate n (noCard f),
-      spread-replicate (cardEntry f) (noCard f) (entrySize f) 0 (entry-zero f) n,
-      spread-replicate (bodies f c) (noCard f) (sides f * c) 0 (bodies-zero f c) n,
-      append-assoc (header f n c) (replicate (n * entrySize f) 0) (replicate (n * (sides f * c)) 0),
-      replicate-append-replicate {A = ℕ} (n * entrySize f) (n * (sides f * c)) 0,
-      rest,
-    )
 
 no-view : (f : Format) (t : ℕ) → view t (noCard f) ≡ noEntry
 no-view f t = rw (no-translation f t)

@@ -6,7 +6,7 @@ use mathlib.Core.Path.{_≡_}
 use mathlib.Core.List.{List, [], _∷_, map}
 use mathlib.Core.Bool.{Bool, true, false}
 use lib.ListN.{set}
-use Rattle.formats.specs.declared.Format.the-variants.{V1}
+use Rattle.formats.specs.declared.Format.the-variants.{V1, V2}
 use Rattle.image.specs.Image.{Cards, encode, sound, makeNumber}
 
 -- N, C, the lent length, and the number that making a fresh image gives.
@@ -56,6 +56,37 @@ limits =
 
 abbrev pub Limits : Type 0
 Limits = map (λ (a : MakeCase). makeNumber V1 (a .n) (a .c) (a .lent)) limits ≡ map (λ (a : MakeCase). a .number) limits
+
+-- The same of version 2 (rules 15.2 and 15.5).
+abbrev pub secondLimits : List MakeCase
+secondLimits =
+    -- at room 1,024 twelve cards fit, thirteen do not
+    asked 12 1024 62032 0
+    ∷ asked 13 1024 67200 14
+    -- the limits of N and C are those of version 1
+    ∷ asked 0 16 16 14
+    ∷ asked 1 16 144 0
+    ∷ asked 128 16 16400 0
+    ∷ asked 129 16 16528 14
+    ∷ asked 1 0 64 14
+    ∷ asked 1 1024 5184 0
+    ∷ asked 1 1040 5264 14
+    ∷ asked 1 24 184 14
+    -- two shapes have exactly as many bytes as an image may have, the next ones 65,552
+    ∷ asked 15 864 65536 0
+    ∷ asked 65 192 65536 0
+    ∷ asked 32 400 65552 14
+    -- the most cards, with the most room that they can have
+    ∷ asked 128 80 57360 0
+    ∷ asked 128 96 67600 14
+    -- the lent length, and that of version 1
+    ∷ asked 1 16 143 14
+    ∷ asked 1 16 145 14
+    ∷ asked 1 16 80 14
+    ∷ []
+
+abbrev pub SecondLimits : Type 0
+SecondLimits = map (λ (a : MakeCase). makeNumber V2 (a .n) (a .c) (a .lent)) secondLimits ≡ map (λ (a : MakeCase). a .number) secondLimits
 
 -- One card with both stamps 1.1.0, the mark of desk 1 and transaction 7, edition 2, a translation from edition 1, and texts of 3 and 2 bytes.
 abbrev pub oneCard : Cards

@@ -2,7 +2,7 @@
 -- Assumes nothing.
 use Prim.Native.Nat.{ℕ, _%_, _<_, _≤_}
 use mathlib.Core.Path.{_≡_}
-use mathlib.Core.List.{List, [], _∷_}
+use mathlib.Core.List.{List, [], _∷_, _++_}
 use lib.ListN.{length, drop, getD, replicate}
 use mathlib.Core.Bool.{false}
 use lib.Dec.{T}
@@ -10,7 +10,7 @@ use Rattle.lists.specs.Parts.{Bytes}
 use Rattle.lists.specs.Table.{listed}
 use Rattle.formats.specs.declared.Format.{Format}
 use Rattle.formats.specs.declared.Format.the-variants.{V1, V2}
-use Rattle.image.specs.Image.{Card, Cards, GoodCards, encode, decode, sound, cardAt, fresh, freshCards, makeNumber}
+use Rattle.image.specs.Image.{Card, Cards, GoodCards, encode, decode, sound, cardAt, fresh, freshCards, makeNumber, goodFront}
 use Rattle.image.specs.Layout.{shapeOk, sizeOf, headerSize}
 use Rattle.image.specs.Bytes.{countOf, roomOf}
 
@@ -40,9 +40,12 @@ OneImage =
     → ((k : ℕ) → k < countOf a → cardAt f a k ≡ cardAt f b k)
     → a ≡ b
 
--- No bytes are a sound image of both versions.
+-- No bytes are a sound image of two versions, and none that begin with a sound image of version 2 begin with one of version 1.
 abbrev pub OneVersion : Type 0
-OneVersion = (image : List ℕ) → T (sound V2 image) → sound V1 image ≡ false
+OneVersion = (f g : Format) → (f ≡ g → ⊥) → (image : List ℕ) → T (sound f image) → sound g image ≡ false
+
+abbrev pub NoOldFront : Type 0
+NoOldFront = (image rest : List ℕ) → T (sound V2 image) → goodFront (image ++ rest) ≡ false
 
 -- A fresh image is the bytes of empty cards by the rules, is sound, and is all zero after its header.
 pub record Fresh (f : Format) (n c : ℕ) : Type 0 where

@@ -15,12 +15,16 @@ use Rattle.image.specs.Layout.{shapeOk}
 use Rattle.image.specs.Bytes.{header, entryBytes, pad, readEntry, entryAt}
 use Rattle.image.specs.Image.{bodies, encode, cardAt, decode, tailZero, translationSound, cardSound, headerSound, sound, fresh}
 use Rattle.model.specs.Serve.{stepped, serveBy, serve}
-use Rattle.model.specs.Cases.{run, RunLogged, Trials}
+use Rattle.model.specs.Cases.{run, RunLogged, Trials, BytesOf2}
 use Rattle.model.specs.Words.{Sent, eventOf, imageAfter, history}
 
 pub trials-hold : Trials
 unfolding run serve serveBy stepped sound headerSound cardSound translationSound tailZero decode cardAt entryAt readEntry encode bodies pad entryBytes header shapeOk fresh replied raise entrySound commandBytes formed payload fieldsOf wellFormed all allFrom le toLe part splice table spread every zeros
 trials-hold = refl
+
+pub bytes-of-2 : BytesOf2
+unfolding commandBytes toLe
+bytes-of-2 = refl
 
 -- ---- a run and the log of the same requests
 

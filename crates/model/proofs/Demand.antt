@@ -3,7 +3,7 @@ use Prim.Native.Nat.{ℕ, _<_}
 use native.Mathlib.Omega.{arith}
 use mathlib.Core.Path.{_≡_, refl, sym, ap, subst, _∙_}
 use mathlib.Core.Logic.{_⊎_, inl, inr}
-use mathlib.Core.List.{List, [], _∷_, _++_, map, reverse, reverseAux}
+use mathlib.Core.List.{List, [], _∷_, _++_, map, reverse, reverseAux, append-nil}
 use mathlib.Core.Bool.{true, false}
 use lib.Dec.{T}
 use lib.ListN.{length, length-replicate, getD-replicate}
@@ -42,32 +42,32 @@ unfolding freshCards
 ties-fresh f n c k b =
     rw (getD-replicate n k (noCard f) (noCard f) (subst (λ (m : ℕ). k < m) (length-replicate n (noCard f)) b)) (tied-fresh f k)
 
-module _ (f : Format) (start : Cards) (first : Ties f start []) where
-  ties-all : (sent : List Sent) → Ties f (cardsFrom f start sent) (eventsFrom f start sent)
+pub count-all : (f : Format) (start : Cards) (sent : List Sent) → length (cardsFrom f start sent .cards) ≡ length (start .cards)
+unfolding cardsFrom
+count-all f start [] = refl
+count-all f start (s ∷ earlier) =
+    count-kept f (numberOn f (cardsFrom f start earlier) s) (cardsFrom f start earlier) s ∙ count-all f start earlier
+
+module _ (f : Format) (start : Cards) (past : List Event) (first : Ties f start past) where
+  ties-all : (sent : List Sent) → Ties f (cardsFrom f start sent) (eventsFrom f start sent ++ past)
   unfolding cardsFrom eventsFrom
   ties-all [] = first
   ties-all (s ∷ earlier) =
-      ties-more f (cardsFrom f start earlier) s (eventsFrom f start earlier) (ties-all earlier) (numberOn f (cardsFrom f start earlier) s) refl
+      ties-more f (cardsFrom f start earlier) s (eventsFrom f start earlier ++ past) (ties-all earlier) (numberOn f (cardsFrom f start earlier) s) refl
 
-  count-all : (sent : List Sent) → length (cardsFrom f start sent .cards) ≡ length (start .cards)
-  unfolding cardsFrom
-  count-all [] = refl
-  count-all (s ∷ earlier) =
-      count-kept f (numberOn f (cardsFrom f start earlier) s) (cardsFrom f start earlier) s ∙ count-all earlier
-
-  told-all : (sent : List Sent) → Along (Told (length (start .cards))) (eventsFrom f start sent)
+  pub told-all : Along (Told (length (start .cards))) past → (sent : List Sent) → Along (Told (length (start .cards))) (eventsFrom f start sent ++ past)
   unfolding eventsFrom
-  told-all [] = tt
-  told-all (s ∷ earlier) = (
-    subst (λ (n : ℕ). Told n (eventBy f (numberOn f (cardsFrom f start earlier) s) (cardsFrom f start earlier) s) (eventsFrom f start earlier)) (count-all earlier)
-        (told f (cardsFrom f start earlier) s (eventsFrom f start earlier) (ties-all earlier)),
-    told-all earlier,
+  told-all a [] = a
+  told-all a (s ∷ earlier) = (
+    subst (λ (n : ℕ). Told n (eventBy f (numberOn f (cardsFrom f start earlier) s) (cardsFrom f start earlier) s) (eventsFrom f start earlier ++ past)) (count-all f start earlier)
+        (told f (cardsFrom f start earlier) s (eventsFrom f start earlier ++ past) (ties-all earlier)),
+    told-all a earlier,
   )
 
 -- ---- the log
 
 -- Each event of the log has what was sent.
-whole-history : (f : Format) (start : List ℕ) (sent : List Sent) → map (λ (e : Event). e .sent) (history f start sent) ≡ sent
+pub whole-history : (f : Format) (start : List ℕ) (sent : List Sent) → map (λ (e : Event). e .sent) (history f start sent) ≡ sent
 unfolding history
 whole-history f start [] = refl
 whole-history f start (s ∷ earlier) = ap (λ (l : List Sent). s ∷ l) (whole-history f start earlier)
@@ -84,7 +84,7 @@ timely n e before t z = record { proper = t .proper z; rules = t .rules (t .prop
     go (inl h) = let stale : e .answer .number ≡ 3 = t .staleness (t .proper z) .1 h in absurd (omega arith)
     go (inr h) = h
 
-claim : (n : ℕ) (sent : List Sent) (log : List Event) → map (λ (e : Event). e .sent) log ≡ reverse sent → Along (Told n) log → Claim n sent log
+pub claim : (n : ℕ) (sent : List Sent) (log : List Event) → map (λ (e : Event). e .sent) log ≡ reverse sent → Along (Told n) log → Claim n sent log
 claim n sent log whole a =
     record {
       whole = whole;
@@ -105,17 +105,28 @@ same-log f n c shape sent b =
     ap (λ (image : List ℕ). history f image (reverse sent)) (sym (freshSound f n c shape .cards))
     ∙ same-events f (freshCards f n c) (reverse sent) (freshSound f n c shape .good) (bytes-reverse sent [] b tt)
 
-count-fresh : (f : Format) (n c : ℕ) → length (freshCards f n c .cards) ≡ n
+pub count-fresh : (f : Format) (n c : ℕ) → length (freshCards f n c .cards) ≡ n
 unfolding freshCards
 count-fresh f n c = length-replicate n (noCard f)
+
+-- The run on cards from fresh ones.
+pub fresh-told : (f : Format) (n c : ℕ) (sent : List Sent) → Along (Told n) (eventsFrom f (freshCards f n c) sent)
+fresh-told f n c sent =
+    subst (λ (m : ℕ). Along (Told m) (eventsFrom f (freshCards f n c) sent)) (count-fresh f n c)
+    (subst (Along (Told (length (freshCards f n c .cards)))) (append-nil (eventsFrom f (freshCards f n c) sent))
+    (told-all f (freshCards f n c) [] (ties-fresh f n c) tt sent))
+
+pub fresh-ties : (f : Format) (n c : ℕ) (sent : List Sent) → Ties f (cardsFrom f (freshCards f n c) sent) (eventsFrom f (freshCards f n c) sent)
+fresh-ties f n c sent =
+    subst (Ties f (cardsFrom f (freshCards f n c) sent)) (append-nil (eventsFrom f (freshCards f n c) sent))
+    (ties-all f (freshCards f n c) [] (ties-fresh f n c) sent)
 
 pub demand3 : Demand3
 unfolding logOf
 demand3 f n c shape sent b =
     claim n sent (logOf f n c sent) (whole-history f (fresh f n c) (reverse sent))
     (subst (Along (Told n)) (sym (same-log f n c shape sent b))
-    (subst (λ (m : ℕ). Along (Told m) (eventsFrom f (freshCards f n c) (reverse sent))) (count-fresh f n c)
-    (told-all f (freshCards f n c) (ties-fresh f n c) (reverse sent))))
+    (fresh-told f n c (reverse sent)))
 
 -- ---- the premise on what is sent, and on the log
 

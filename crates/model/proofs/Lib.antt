@@ -12,3 +12,5 @@ pub mod Premise
 pub mod Sound
 pub mod Cases
 pub mod Words
+pub mod Conversion
+pub mod Versions

@@ -27,7 +27,7 @@ use Rattle.formats.specs.declared.Format.{Format}
 use Rattle.formats.specs.Format.{translations}
 use Rattle.commands.proofs.CommandBytes.{language-within}
 use Rattle.image.specs.Image.{Translation, Card, Cards, noTranslation, translationOf, text, noCard}
-use Rattle.image_claims.proofs.Claims.{no-translation}
+use Rattle.image.proofs.Empty.{no-translation}
 use Rattle.model.specs.Serve.{cardOf, entryOf, requestRows, stepped, cardsAfter, answerBy, replyBy}
 use Rattle.model.specs.Words.{Sent, Event, received, commandOf, accepted, outdated, lastText}
 use Rattle.lists.specs.Search.{any, last}

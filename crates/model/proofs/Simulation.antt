@@ -30,7 +30,8 @@ use Rattle.model.specs.Words.{Sent, eventOf, imageAfter, history}
 use Rattle.model.specs.Claims.{SentBytes, AllBytes}
 use Rattle.commands.proofs.CommandBytes.{length-payload, fits-fields, language-within, Bytes-payload}
 use Rattle.model.proofs.Machine.{numberOn, eventBy, cardsBy, cardsFrom, eventsFrom, Passed, passed}
-use Rattle.model.proofs.Stepped.{count-step, text-step, seen-named, seen-other, mixed, mixed-fits, mixed-sound, edition-kept}
+use Rattle.model.proofs.Stepped.{count-step, text-step, seen-named, seen-other, edition-kept}
+use Rattle.image.proofs.Mixed.{mixed, mixed-fits, mixed-sound}
 
 -- ---- cards stay by the rules
 

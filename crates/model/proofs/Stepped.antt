@@ -5,18 +5,17 @@ use mathlib.Core.Path.{_≡_, refl, sym, ap, subst, _∙_}
 use mathlib.Core.Logic.{_⊎_, inl, inr}
 use mathlib.Core.List.{List}
 use mathlib.Core.Bool.{Bool, true, false, cond, _&&_}
-use borrow.Author.Tests.{eqb-true, eqb-false, le-leb, leb-true}
-use lib.Dec.{T, eqb, leb}
+use borrow.Author.Tests.{eqb-true, eqb-false}
+use lib.Dec.{eqb}
 use lib.ListN.{length, getD, set, length-set}
 use lib.Seq.{getD-set-same, getD-set-other}
-use Rattle.lists.specs.Table.{all, allFrom}
-use Rattle.lists.proofs.Tests.{cases, from-T, to-T, all-out}
+use Rattle.lists.proofs.Tests.{cases}
 use Rattle.commands.specs.Command.{Language, original, translation, writesTranslation, writes}
 use Rattle.commands.specs.declared.Command.{Command}
 use Rattle.commands.proofs.Languages.{writes-own}
-use Rattle.guard.specs.Entry.{entryChecks, entrySound, FitsEntry}
 use Rattle.guard.specs.Judge.{raise}
 use Rattle.guard.specs.declared.Entry.{Entry}
+use Rattle.image.proofs.Mixed.{mixed}
 use Rattle.image.specs.Image.{Card, Translation, noTranslation, translationOf, view, text}
 use Rattle.model.specs.Serve.{stepped}
 
@@ -88,11 +87,6 @@ module _ (card : Card) (c : Command) (written : List ℕ) where
           let size : length (translationOf (c .language) now .text) ≡ lifted .translation = length-step (translation (c .language)) ∙ rw (writes-own c) in
           λ i. record { pair = lifted .pair; mark = lifted .mark; edition = lifted .edition; from = from i; original = originals i; translation = size i }
 
--- An entry with the translated-from and the length of the translation of another.
-abbrev pub mixed : Entry → Entry → Entry
-mixed old new =
-    record { pair = new .pair; mark = new .mark; edition = new .edition; from = old .from; original = new .original; translation = old .translation }
-
 -- As seen in a translation that the command does not write, the entry is the raised one with that translation as it was.
 pub seen-other : (card : Card) (c : Command) (written : List ℕ) → c .language < length (card .translated) → length written ≡ c .length
     → (t : ℕ) → writes (translation t) c ≡ false → view t (stepped card c written) ≡ mixed (view t card) (raise (view (c .language) card) c)
@@ -104,20 +98,6 @@ seen-other card c written known long t other =
     length-step card c written known long (translation t) ∙ rw other in
     let lifted = raise (view (c .language) card) c in
     λ i. record { pair = lifted .pair; mark = lifted .mark; edition = lifted .edition; from = from i; original = originals i; translation = size i }
-
--- Such an entry keeps the rules, and the widths of its fields, if both do and the edition did not fall.
-pub mixed-fits : {old new : Entry} → FitsEntry old → FitsEntry new → FitsEntry (mixed old new)
-mixed-fits a b =
-    record { pair = b .pair; mark = b .mark; edition = b .edition; from = a .from; original = b .original; translation = a .translation }
-
-pub mixed-sound : (room : ℕ) (old new : Entry) → T (entrySound room old) → T (entrySound room new) → old .edition ≤ new .edition → T (entrySound room (mixed old new))
-unfolding entrySound all allFrom
-mixed-sound room old new a b h =
-    let was = all-out (entryChecks room old) (from-T (all (entryChecks room old)) a) in
-    let is = all-out (entryChecks room new) (from-T (all (entryChecks room new)) b) in
-    let from : leb (old .from) (new .edition) ≡ true = le-leb (old .from) (new .edition) (omega (arith, leb-true (old .from) (old .edition) (was 5))) in
-    let holds : all (entryChecks room (mixed old new)) ≡ true = rw (is 0, is 1, is 2, is 3, was 4, from, is 6, was 7) in
-    to-T holds
 
 pub edition-kept : (e : Entry) (c : Command) → e .edition ≤ raise e c .edition
 unfolding raise

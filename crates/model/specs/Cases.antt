@@ -1,10 +1,10 @@
 -- Trials, the four commands of case P, the three slips, commit marks, stamps from far ahead, commands with two pairs, and the numbers 1, 2 and 9, as one
 -- table: a start, requests in the order in which they are sent, and what each must get. Where no act is named it is verify.
 -- Assumes nothing.
-use Prim.Native.Nat.{ℕ}
+use Prim.Native.Nat.{ℕ, suc, _+_}
 use mathlib.Core.Path.{_≡_}
 use mathlib.Core.List.{List, [], _∷_, _++_, map, reverse}
-use lib.ListN.{length, replicate}
+use lib.ListN.{length, replicate, set}
 use Rattle.commands.specs.Bytes.{commandBytes}
 use Rattle.stamps.specs.Stamp.{stamp, shared, exclusive, noMark, noPair}
 use Rattle.guard.specs.declared.Answer.{Answer}
@@ -12,7 +12,7 @@ use Rattle.stamps.specs.declared.Pair.{Pair}
 use Rattle.stamps.specs.declared.Mark.{Mark}
 use Rattle.commands.specs.declared.Command.{Command}
 use Rattle.formats.specs.declared.Format.{Format}
-use Rattle.formats.specs.declared.Format.the-variants.{V1}
+use Rattle.formats.specs.declared.Format.the-variants.{V1, V2}
 use Rattle.image.specs.Image.{noTranslation, encode, fresh}
 use Rattle.model.specs.Serve.{serve}
 use Rattle.model.specs.Words.{Sent, Event, history}
@@ -38,6 +38,7 @@ RunLogged = (f : Format) (start : List ℕ) (sent : List Sent) → run f start s
 
 -- One row of the table.
 pub record Trial : Type 0 where
+  pub version : Format
   pub start : List ℕ
   pub sent : List Sent
   pub expected : List Got
@@ -182,12 +183,13 @@ gotA =
     ∷ []
 
 abbrev pub trialA : Trial
-trialA = record { start = empty; sent = sentA; expected = gotA }
+trialA = record { version = V1; start = empty; sent = sentA; expected = gotA }
 
 -- b: after them the first session's exclusive command comes late.
 abbrev pub trialB : Trial
 trialB =
     record {
+      version = V1;
       start = empty;
       sent = sentA ++ (verify exclusive stamp1 stamp1 ∷ []);
       expected = gotA ++ (got 3 stamp2 stamp2 0 0 0 0 0 [] ∷ []);
@@ -197,6 +199,7 @@ trialB =
 abbrev pub trialC : Trial
 trialC =
     record {
+      version = V1;
       start = empty;
       sent = verify shared stamp1 0 ∷ verify shared stamp2 0 ∷ verify shared stamp1 0 ∷ verify exclusive stamp1 stamp1 ∷ [];
       expected =
@@ -214,6 +217,7 @@ sentD = verify exclusive stamp1 stamp1 ∷ verify shared (stamp 0 2 0) stamp1 �
 abbrev pub trialD : Trial
 trialD =
     record {
+      version = V1;
       start = empty;
       sent = sentD;
       expected =
@@ -238,27 +242,28 @@ sentLifted = verify exclusive stamp1 stamp1 ∷ verifyOpening shared (pair (stam
 -- e: an original that was never written is read as empty.
 abbrev pub trialE : Trial
 trialE =
-    record { start = empty; sent = readOriginal (long 2) ∷ []; expected = got 0 stamp2 stamp1 0 0 0 0 0 (long 2) ∷ [] }
+    record { version = V1; start = empty; sent = readOriginal (long 2) ∷ []; expected = got 0 stamp2 stamp1 0 0 0 0 0 (long 2) ∷ [] }
 
 -- f: a translation that was never written is behind.
 abbrev pub trialF : Trial
 trialF =
-    record { start = empty; sent = readTranslation (long 2) ∷ []; expected = got 6 0 0 0 0 0 0 0 (long 2) ∷ [] }
+    record { version = V1; start = empty; sent = readTranslation (long 2) ∷ []; expected = got 6 0 0 0 0 0 0 0 (long 2) ∷ [] }
 
 -- g: a payload of C bytes.
 abbrev pub trialG : Trial
 trialG =
-    record { start = empty; sent = writeOriginal stamp1 stamp1 (long 16) ∷ []; expected = got 0 stamp1 stamp1 0 0 1 0 0 [] ∷ [] }
+    record { version = V1; start = empty; sent = writeOriginal stamp1 stamp1 (long 16) ∷ []; expected = got 0 stamp1 stamp1 0 0 1 0 0 [] ∷ [] }
 
 -- h: one byte more;
 abbrev pub trialH : Trial
 trialH =
-    record { start = empty; sent = writeOriginal stamp1 stamp1 (long 17) ∷ []; expected = got 5 0 0 0 0 0 0 0 [] ∷ [] }
+    record { version = V1; start = empty; sent = writeOriginal stamp1 stamp1 (long 17) ∷ []; expected = got 5 0 0 0 0 0 0 0 [] ∷ [] }
 
 -- stale comes first.
 abbrev pub trialHStale : Trial
 trialHStale =
     record {
+      version = V1;
       start = empty;
       sent = verify exclusive stamp2 stamp2 ∷ writeOriginal stamp1 stamp1 (long 17) ∷ [];
       expected = got 0 stamp2 stamp2 0 0 0 0 0 [] ∷ got 3 stamp2 stamp2 0 0 0 0 0 [] ∷ [];
@@ -267,12 +272,13 @@ trialHStale =
 -- i: the last edition but one is written;
 abbrev pub trialI : Trial
 trialI =
-    record { start = nearlyLast; sent = writeOriginal stamp1 stamp1 text205 ∷ []; expected = got 0 stamp1 stamp1 0 0 65535 0 0 [] ∷ [] }
+    record { version = V1; start = nearlyLast; sent = writeOriginal stamp1 stamp1 text205 ∷ []; expected = got 0 stamp1 stamp1 0 0 65535 0 0 [] ∷ [] }
 
 -- j: and no further.
 abbrev pub trialJ : Trial
 trialJ =
     record {
+      version = V1;
       start = nearlyLast;
       sent = writeOriginal stamp1 stamp1 text205 ∷ writeOriginal stamp1 stamp1 text205 ∷ [];
       expected = got 0 stamp1 stamp1 0 0 65535 0 0 [] ∷ got 7 stamp1 stamp1 0 0 65535 0 0 [] ∷ [];
@@ -282,6 +288,7 @@ trialJ =
 abbrev pub trialKOriginal : Trial
 trialKOriginal =
     record {
+      version = V1;
       start = empty;
       sent = bothWritten ++ (readOriginal (long 3) ∷ []);
       expected = bothGot ++ (got 0 stamp2 stamp1 0 0 1 1 3 text205 ∷ []);
@@ -290,6 +297,7 @@ trialKOriginal =
 abbrev pub trialKTranslation : Trial
 trialKTranslation =
     record {
+      version = V1;
       start = empty;
       sent = bothWritten ++ (readTranslation (long 3) ∷ []);
       expected = bothGot ++ (got 0 stamp2 stamp1 0 0 1 1 3 text401 ∷ []);
@@ -299,6 +307,7 @@ trialKTranslation =
 abbrev pub trialLOriginal : Trial
 trialLOriginal =
     record {
+      version = V1;
       start = empty;
       sent = bothWritten ++ (readOriginal (long 2) ∷ []);
       expected = bothGot ++ (got 8 stamp1 stamp1 0 0 1 1 0 (long 2) ∷ []);
@@ -307,6 +316,7 @@ trialLOriginal =
 abbrev pub trialLTranslation : Trial
 trialLTranslation =
     record {
+      version = V1;
       start = empty;
       sent = bothWritten ++ (readTranslation (long 2) ∷ []);
       expected = bothGot ++ (got 8 stamp1 stamp1 0 0 1 1 0 (long 2) ∷ []);
@@ -317,6 +327,7 @@ trialLTranslation =
 abbrev pub caseP : Trial
 caseP =
     record {
+      version = V1;
       start = empty;
       sent =
           writeOriginal stamp1 stamp1 text205
@@ -337,6 +348,7 @@ caseP =
 abbrev pub slipByLength : Trial
 slipByLength =
     record {
+      version = V1;
       start = empty;
       sent = bothWritten ++ (writeOriginal stamp1 stamp1 text205 ∷ readTranslation (long 3) ∷ []);
       expected = bothGot ++ (got 0 stamp1 stamp1 0 0 2 1 0 [] ∷ got 6 stamp1 stamp1 0 0 2 1 0 (long 3) ∷ []);
@@ -347,6 +359,7 @@ slipByLength =
 abbrev pub slipCommandPair : Trial
 slipCommandPair =
     record {
+      version = V1;
       start = empty;
       sent = verify exclusive stamp2 stamp1 ∷ verify shared (stamp 0 2 0) stamp1 ∷ verify exclusive stamp1 stamp1 ∷ [];
       expected =
@@ -360,6 +373,7 @@ slipCommandPair =
 abbrev pub slipRaised : Trial
 slipRaised =
     record {
+      version = V1;
       start = empty;
       sent = bothWritten ++ (readOriginal (long 2) ∷ verify exclusive stamp1 stamp1 ∷ []);
       expected = bothGot ++ (got 8 stamp1 stamp1 0 0 1 1 0 (long 2) ∷ got 0 stamp1 stamp1 0 0 1 1 0 [] ∷ []);
@@ -370,6 +384,7 @@ slipRaised =
 abbrev pub trialMark : Mark → Got → Trial
 trialMark expected then =
     record {
+      version = V1;
       start = empty;
       sent = verifyMarked noMark (markOf 5 7) ∷ verifyMarked expected (markOf 5 7) ∷ [];
       expected = got 0 stamp1 stamp1 5 7 0 0 0 [] ∷ then ∷ [];
@@ -382,7 +397,7 @@ abbrev pub refused57 : Got
 refused57 = got 4 stamp1 stamp1 5 7 0 0 0 []
 
 abbrev pub trialNoMark : Trial
-trialNoMark = record { start = empty; sent = verifyMarked (markOf 5 7) noMark ∷ []; expected = got 4 0 0 0 0 0 0 0 [] ∷ [] }
+trialNoMark = record { version = V1; start = empty; sent = verifyMarked (markOf 5 7) noMark ∷ []; expected = got 4 0 0 0 0 0 0 0 [] ∷ [] }
 
 -- Stamps from far ahead (rule 4.9), all of desk 1.
 abbrev pub ahead : ℕ → ℕ
@@ -396,6 +411,7 @@ verifyAhead mode p expected = sends (withNumbers 5 mode 0 p expected (markOf 5 7
 abbrev pub trialAhead : List Sent → List Got → Trial
 trialAhead then gets =
     record {
+      version = V1;
       start = empty;
       sent = verifyAhead exclusive (pair (ahead 3) (ahead 1)) noMark ∷ then;
       expected = got 0 (ahead 3) (ahead 1) 5 7 0 0 0 [] ∷ gets;
@@ -411,10 +427,10 @@ passedAhead mode s x = trialAhead (verifyAhead mode (pair s x) (markOf 5 7) ∷ 
 -- One command on a fresh card: a read of the translation, with a reply buffer of two bytes, gets 6 or 17; a verify is accepted or gets 17.
 abbrev pub freshRead : ℕ → ℕ → Trial
 freshRead t number =
-    record { start = empty; sent = request 2 shared (pair (ahead t) 0) 0 [] (long 2) ∷ []; expected = got number 0 0 0 0 0 0 0 (long 2) ∷ [] }
+    record { version = V1; start = empty; sent = request 2 shared (pair (ahead t) 0) 0 [] (long 2) ∷ []; expected = got number 0 0 0 0 0 0 0 (long 2) ∷ [] }
 
 abbrev pub freshVerify : ℕ → ℕ → ℕ → Got → Trial
-freshVerify mode s x then = record { start = empty; sent = verify mode s x ∷ []; expected = then ∷ [] }
+freshVerify mode s x then = record { version = V1; start = empty; sent = verify mode s x ∷ []; expected = then ∷ [] }
 
 -- A refusal raises nothing, so the same command is refused again; the next T in reach passes, and from there the one after it.
 abbrev pub trialClimb : Trial
@@ -451,6 +467,7 @@ trialAheadMark =
 abbrev pub trialAheadWritten : Trial
 trialAheadWritten =
     record {
+      version = V1;
       start = empty;
       sent = bothWritten ++ (verify exclusive stamp1 (ahead 1000002) ∷ []);
       expected = bothGot ++ (got 17 stamp1 stamp1 0 0 1 1 0 [] ∷ []);
@@ -461,6 +478,7 @@ trialAheadWritten =
 abbrev pub trialOpens : Trial
 trialOpens =
     record {
+      version = V1;
       start = empty;
       sent =
           requestOpening 3 exclusive noPair (pair stamp1 stamp1) 0 text205 []
@@ -482,6 +500,7 @@ trialOpens =
 abbrev pub trialNoS : Trial
 trialNoS =
     record {
+      version = V1;
       start = empty;
       sent =
           verify exclusive stamp1 stamp1
@@ -499,6 +518,7 @@ trialNoS =
 abbrev pub trialLateVerifier : Trial
 trialLateVerifier =
     record {
+      version = V1;
       start = empty;
       sent =
           verify exclusive stamp2 stamp2
@@ -518,6 +538,7 @@ trialLateVerifier =
 abbrev pub trialFarUpdate : Trial
 trialFarUpdate =
     record {
+      version = V1;
       start = empty;
       sent =
           verifyOpening exclusive noPair (pair (ahead 1000000) (ahead 1))
@@ -535,11 +556,12 @@ trialFarUpdate =
 
 -- A verifier and an update pair on a fresh card: accepted, and stored as told; or malformed, and the command after it meets a card without stamps.
 abbrev pub trialPairs : ℕ → Pair → Pair → ℕ → ℕ → Trial
-trialPairs mode p opened s x = record { start = empty; sent = verifyOpening mode p opened ∷ []; expected = got 0 s x 0 0 0 0 0 [] ∷ [] }
+trialPairs mode p opened s x = record { version = V1; start = empty; sent = verifyOpening mode p opened ∷ []; expected = got 0 s x 0 0 0 0 0 [] ∷ [] }
 
 abbrev pub trialNoPairs : ℕ → Pair → Pair → Trial
 trialNoPairs mode p opened =
     record {
+      version = V1;
       start = empty;
       sent = verifyOpening mode p opened ∷ verify shared stamp1 0 ∷ [];
       expected = got 1 0 0 0 0 0 0 0 [] ∷ got 0 stamp1 0 0 0 0 0 0 [] ∷ [];
@@ -572,18 +594,206 @@ trialsOfPairs =
 
 -- Number 1: no act has number 0. Number 2: with one card there is no card 1. Number 9: an image that is not there.
 abbrev pub trialMalformed : Trial
-trialMalformed = record { start = empty; sent = request 0 shared (pair stamp1 0) 0 [] (long 2) ∷ []; expected = got 1 0 0 0 0 0 0 0 (long 2) ∷ [] }
+trialMalformed = record { version = V1; start = empty; sent = request 0 shared (pair stamp1 0) 0 [] (long 2) ∷ []; expected = got 1 0 0 0 0 0 0 0 (long 2) ∷ [] }
 
 abbrev pub trialNoCard : Trial
 trialNoCard =
     record {
+      version = V1;
       start = empty;
       sent = sends (withNumbers 5 shared 1 (pair stamp1 0) noMark noMark 0 0) [] (long 2) ∷ [];
       expected = got 2 0 0 0 0 0 0 0 (long 2) ∷ [];
     }
 
 abbrev pub trialUnsound : Trial
-trialUnsound = record { start = []; sent = verify shared stamp1 0 ∷ []; expected = got 9 0 0 0 0 0 0 0 [] ∷ [] }
+trialUnsound = record { version = V1; start = []; sent = verify shared stamp1 0 ∷ []; expected = got 9 0 0 0 0 0 0 0 [] ∷ [] }
+
+-- ---- version 2
+
+-- N 1, C 16.
+abbrev pub emptyOf2 : List ℕ
+emptyOf2 = fresh V2 1 16
+
+-- A command of version 2 for card 0 by A', and one that opens a pair.
+abbrev pub opens : ℕ → ℕ → Pair → ℕ → List ℕ → List ℕ → Sent
+opens act language opened edition text lent =
+    record {
+      command =
+          commandBytes V2
+          (record {
+            act = act;
+            mode = exclusive;
+            language = language;
+            card = 0;
+            pair = pair stamp1 stamp1;
+            opened = opened;
+            expected = noMark;
+            next = noMark;
+            edition = edition;
+            length = length text;
+          })
+          text;
+      lent = lent;
+    }
+
+abbrev pub names : ℕ → ℕ → ℕ → List ℕ → List ℕ → Sent
+names act language edition text lent = opens act language noPair edition text lent
+
+abbrev pub gotIn : ℕ → ℕ → ℕ → ℕ → List ℕ → Got
+gotIn number edition from count reply = got number stamp1 stamp1 0 0 edition from count reply
+
+-- The text of language t, as long as no other's.
+abbrev pub letters : ℕ → List ℕ
+letters t = replicate (suc t) (65 + t)
+
+abbrev pub writesIn : ℕ → ℕ → Sent
+writesIn edition t = names 4 t edition (letters t) []
+
+abbrev pub readsIn : ℕ → Sent
+readsIn t = names 2 t 0 [] (long 4)
+
+abbrev pub languages : List ℕ
+languages = 0 ∷ 1 ∷ 2 ∷ 3 ∷ []
+
+-- An original, and a translation of it in each language.
+abbrev pub allWritten : List Sent
+allWritten = names 3 0 0 text205 [] ∷ map (writesIn 1) languages
+
+abbrev pub allGot : List Got
+allGot = gotIn 0 1 0 0 [] ∷ map (λ (t : ℕ). gotIn 0 1 1 0 []) languages
+
+-- Each language is read as it was written, and the original as well.
+abbrev pub trialLanguages : Trial
+trialLanguages =
+    record {
+      version = V2;
+      start = emptyOf2;
+      sent = allWritten ++ (map readsIn languages ++ (names 1 0 0 [] (long 4) ∷ []));
+      expected =
+          allGot
+          ++ (gotIn 0 1 1 1 (65 ∷ 97 ∷ 97 ∷ 97 ∷ [])
+          ∷ gotIn 0 1 1 2 (66 ∷ 66 ∷ 97 ∷ 97 ∷ [])
+          ∷ gotIn 0 1 1 3 (67 ∷ 67 ∷ 67 ∷ 97 ∷ [])
+          ∷ gotIn 0 1 1 4 (68 ∷ 68 ∷ 68 ∷ 68 ∷ [])
+          ∷ gotIn 0 1 1 3 (50 ∷ 48 ∷ 53 ∷ 97 ∷ [])
+          ∷ []);
+    }
+
+-- One language is written and can be read, another is behind and cannot; an act without a language is answered with the edition of language 0.
+abbrev pub trialOneBehind : Trial
+trialOneBehind =
+    record {
+      version = V2;
+      start = emptyOf2;
+      sent = names 3 0 0 text205 [] ∷ writesIn 1 2 ∷ readsIn 2 ∷ readsIn 1 ∷ names 5 0 0 [] [] ∷ writesIn 1 0 ∷ names 5 0 0 [] [] ∷ [];
+      expected =
+          gotIn 0 1 0 0 []
+          ∷ gotIn 0 1 1 0 []
+          ∷ gotIn 0 1 1 3 (67 ∷ 67 ∷ 67 ∷ 97 ∷ [])
+          ∷ gotIn 6 1 0 0 (long 4)
+          ∷ gotIn 0 1 0 0 []
+          ∷ gotIn 0 1 1 0 []
+          ∷ gotIn 0 1 1 0 []
+          ∷ [];
+    }
+
+-- The original is written again: all four are behind. One of them is brought up to it, and the others stay behind.
+abbrev pub trialAllBehind : Trial
+trialAllBehind =
+    record {
+      version = V2;
+      start = emptyOf2;
+      sent = allWritten ++ (names 3 0 0 text401 [] ∷ (map readsIn languages ++ (writesIn 2 3 ∷ map readsIn languages)));
+      expected =
+          allGot
+          ++ (gotIn 0 2 1 0 []
+          ∷ (map (λ (t : ℕ). gotIn 6 2 1 0 (long 4)) languages
+          ++ (gotIn 0 2 2 0 []
+          ∷ gotIn 6 2 1 0 (long 4)
+          ∷ gotIn 6 2 1 0 (long 4)
+          ∷ gotIn 6 2 1 0 (long 4)
+          ∷ gotIn 0 2 2 4 (68 ∷ 68 ∷ 68 ∷ 68 ∷ [])
+          ∷ [])));
+    }
+
+-- A command of version 2 that is malformed.
+abbrev pub malformedSecond : List ℕ → Trial
+malformedSecond command =
+    record { version = V2; start = emptyOf2; sent = record { command = command; lent = [] } ∷ []; expected = got 1 0 0 0 0 0 0 0 [] ∷ [] }
+
+abbrev pub trialsMalformed : List Trial
+trialsMalformed =
+    -- a language that there is not, read and written
+    malformedSecond (names 2 4 0 [] [] .command)
+    ∷ malformedSecond (names 4 4 1 text401 [] .command)
+    -- a language named by an act that has none
+    ∷ malformedSecond (names 1 1 0 [] [] .command)
+    ∷ malformedSecond (names 3 1 0 text205 [] .command)
+    ∷ malformedSecond (names 5 1 0 [] [] .command)
+    -- the zeros behind the language: the first and the last of them
+    ∷ malformedSecond (set (names 5 0 0 [] [] .command) 21 1)
+    ∷ malformedSecond (set (names 5 0 0 [] [] .command) 35 1)
+    -- a command of version 1, which is 52 bytes long
+    ∷ malformedSecond (verify exclusive stamp1 stamp1 .command)
+    ∷ []
+
+-- With 16 zeros behind it, it is one of version 2.
+abbrev pub trialLengthened : Trial
+trialLengthened =
+    record {
+      version = V2;
+      start = emptyOf2;
+      sent = record { command = verify exclusive stamp1 stamp1 .command ++ replicate 16 0; lent = [] } ∷ [];
+      expected = gotIn 0 0 0 0 [] ∷ [];
+    }
+
+-- The update pair stands behind the length: the stored pair is raised by it.
+abbrev pub trialOpensAt52 : Trial
+trialOpensAt52 =
+    record {
+      version = V2;
+      start = emptyOf2;
+      sent = opens 5 0 (pair stamp2 stamp2) 0 [] [] ∷ names 5 0 0 [] [] ∷ [];
+      expected = got 0 stamp2 stamp2 0 0 0 0 0 [] ∷ got 3 stamp2 stamp2 0 0 0 0 0 [] ∷ [];
+    }
+
+-- An image of the other version is no sound one.
+abbrev pub trialsOtherVersion : List Trial
+trialsOtherVersion =
+    record { version = V1; start = emptyOf2; sent = verify exclusive stamp1 stamp1 ∷ []; expected = got 9 0 0 0 0 0 0 0 [] ∷ [] }
+    ∷ record { version = V2; start = empty; sent = names 5 0 0 [] [] ∷ []; expected = got 9 0 0 0 0 0 0 0 [] ∷ [] }
+    ∷ []
+
+abbrev pub trialsOf2 : List Trial
+trialsOf2 = trialLanguages ∷ trialOneBehind ∷ trialAllBehind ∷ trialOpensAt52 ∷ trialLengthened ∷ (trialsMalformed ++ trialsOtherVersion)
+
+-- A command of version 2 in bytes: the language at 20 and 15 zeros behind it, the marks at 36 and 42, the edition and the length, then the update pair.
+abbrev pub BytesOf2 : Type 0
+BytesOf2 =
+    commandBytes V2
+    (record {
+      act = 4;
+      mode = 2;
+      language = 3;
+      card = 7;
+      pair = pair 1 2;
+      opened = pair 3 4;
+      expected = markOf 5 6;
+      next = markOf 8 9;
+      edition = 10;
+      length = 1;
+    })
+    (255 ∷ [])
+    ≡ (4 ∷ 2 ∷ 7 ∷ 0 ∷ [])
+    ++ (1 ∷ 0 ∷ 0 ∷ 0 ∷ 0 ∷ 0 ∷ 0 ∷ 0 ∷ [])
+    ++ (2 ∷ 0 ∷ 0 ∷ 0 ∷ 0 ∷ 0 ∷ 0 ∷ 0 ∷ [])
+    ++ (3 ∷ replicate 15 0)
+    ++ (5 ∷ 0 ∷ 6 ∷ 0 ∷ 0 ∷ 0 ∷ [])
+    ++ (8 ∷ 0 ∷ 9 ∷ 0 ∷ 0 ∷ 0 ∷ [])
+    ++ (10 ∷ 0 ∷ 1 ∷ 0 ∷ [])
+    ++ (3 ∷ 0 ∷ 0 ∷ 0 ∷ 0 ∷ 0 ∷ 0 ∷ 0 ∷ [])
+    ++ (4 ∷ 0 ∷ 0 ∷ 0 ∷ 0 ∷ 0 ∷ 0 ∷ 0 ∷ [])
+    ++ (255 ∷ [])
 
 abbrev pub trials : List Trial
 trials =
@@ -641,8 +851,8 @@ trials =
     ∷ trialNoS
     ∷ trialLateVerifier
     ∷ trialFarUpdate
-    ∷ trialsOfPairs
+    ∷ (trialsOfPairs ++ trialsOf2)
 
 -- The claim: each row gets exactly what it must, whole lists of answers, fields and reply buffers.
 abbrev pub Trials : Type 0
-Trials = map (λ (t : Trial). run V1 (t .start) (t .sent)) trials ≡ map (λ (t : Trial). t .expected) trials
+Trials = map (λ (t : Trial). run (t .version) (t .start) (t .sent)) trials ≡ map (λ (t : Trial). t .expected) trials

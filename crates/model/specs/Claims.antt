@@ -8,7 +8,7 @@ use mathlib.Core.Bool.{true, false}
 use lib.ListN.{length, take}
 use lib.Dec.{T}
 use Rattle.lists.specs.Parts.{Bytes}
-use Rattle.commands.specs.Command.{Language, translation, reads}
+use Rattle.commands.specs.Command.{Language, translation, reads, writes}
 use Rattle.lists.specs.Table.{applies, earlier, noRow}
 use Rattle.formats.specs.declared.Format.{Format}
 use Rattle.formats.specs.declared.Format.the-variants.{V1}
@@ -139,3 +139,21 @@ abbrev pub StaysSound : Type 0
 StaysSound =
     (f : Format) (image command reply : List ℕ) → Bytes image → Bytes command → Bytes reply → sound f image ≡ true
     → sound f (serve f image command reply .image) ≡ true
+
+-- Rule 15.13: an image of another version is answered 9, whatever is asked, and nothing changes.
+pub record Turned (g : Format) (image command reply : List ℕ) : Type 0 where
+  pub number : serve g image command reply .answer .number ≡ 9
+  pub kept : serve g image command reply .image ≡ image
+  pub silent : serve g image command reply .reply ≡ reply
+
+abbrev pub OtherVersion : Type 0
+OtherVersion = (f g : Format) → (f ≡ g → ⊥) → (image command reply : List ℕ) → T (sound f image) → Turned g image command reply
+
+-- Rule 15.8, each language by itself: a command that writes one leaves the text of every other as it was, and one that writes a translation leaves it as it was
+-- whether another translation is behind.
+pub record ByItself (e : Event) (before : List Event) (k : ℕ) : Type 0 where
+  pub texts : (l m : Language) → (l ≡ m → ⊥) → writes l (commandOf e) ≡ true → lastText m (e ∷ before) k ≡ lastText m before k
+  pub behind : (t u : ℕ) → (t ≡ u → ⊥) → writes (translation t) (commandOf e) ≡ true → outdated u (e ∷ before) k ≡ outdated u before k
+
+abbrev pub EachByItself : Type 0
+EachByItself = (e : Event) (before : List Event) (k : ℕ) → ByItself e before k

@@ -4,3 +4,4 @@ pub mod Claims
 pub mod Pairs
 pub mod Cases
 pub mod Meaning
+pub mod Conversion

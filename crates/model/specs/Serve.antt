@@ -22,7 +22,7 @@ use Rattle.image.specs.Image.{Card, Cards, view, text, withCard, noCard, encode
 abbrev pub cardOf : Format → Cards → Command → Card
 cardOf f cs c = getD (cs .cards) (c .card) (noCard f)
 
--- The entry that judges a command: its card's, as seen in the translation that the command names.
+-- The entry that judges a command: its card's, as seen in the translation that the command names (rule 15.8).
 abbrev pub entryOf : Format → Cards → Command → Entry
 entryOf f cs c = view (c .language) (cardOf f cs c)
 

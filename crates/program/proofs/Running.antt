@@ -21,18 +21,18 @@ use Rattle.stream.proofs.Walks as walk
 -- A run that has come to a byte of the stream: the lines that are left to write are those of what is left to run.
 pub record Running (start : ℕ) (image₀ reply₀ stream out₀ image reply out : List ℕ) (from place to : ℕ) : Type 0 where
   pub room : start + mostPrinted stream ≤ length out₀
-  pub walked : Walked stream from
+  pub walked : Walked V1 stream from
   pub few : place * fixed V1 ≤ from + fixed V1
   pub far : to + mostLine ≤ start + place * mostLine
   pub wide : length image ≡ length image₀
   pub deep : length reply ≡ length reply₀
-  pub lines : Putting start to (linesFrom 1 (runs image₀ reply₀ (commands stream) .answers)) (linesFrom place (runs image reply (commands (drop from stream)) .answers)) out₀ out
+  pub lines : Putting start to (linesFrom 1 (runs V1 image₀ reply₀ (commands V1 stream) .answers)) (linesFrom place (runs V1 image reply (commands V1 (drop from stream)) .answers)) out₀ out
 
 pub running-none : (start : ℕ) (image reply stream out : List ℕ) → start + mostPrinted stream ≤ length out → Running start image reply stream out image reply out 0 1 start
 running-none start image reply stream out h =
     record {
       room = h;
-      walked = walked-none stream;
+      walked = walked-none V1 stream;
       few = omega arith;
       far = omega arith;
       wide = refl;
@@ -41,12 +41,12 @@ running-none start image reply stream out h =
     }
 
 module _ {start : ℕ} {image₀ reply₀ stream out₀ image reply out : List ℕ} {from place to : ℕ} (r : Running start image₀ reply₀ stream out₀ image reply out from place to) where
-  pub running-within : (end : ℕ) → nextAt stream from ≡ Whole end → (from < end) × (end ≤ length stream) × (place < end) × (to + mostLine ≤ length out)
+  pub running-within : (end : ℕ) → nextAt V1 stream from ≡ Whole end → (from < end) × (end ≤ length stream) × (place < end) × (to + mostLine ≤ length out)
   running-within end e =
-      let s = walk.passes stream from end e in
+      let s = walk.passes V1 stream from end e in
       (omega (arith, s .0), s .1, omega (arith, s .0, r .few), omega (arith, s .0, s .1, r .few, r .far, r .room, r .lines .long))
 
-  pub running-more : (end : ℕ) (a : Answer) (image′ reply′ out′ : List ℕ) (to′ : ℕ) → nextAt stream from ≡ Whole end →
+  pub running-more : (end : ℕ) (a : Answer) (image′ reply′ out′ : List ℕ) (to′ : ℕ) → nextAt V1 stream from ≡ Whole end →
       a ≡ serve V1 image (take (end - from) (drop from stream)) reply .answer →
       image′ ≡ serve V1 image (take (end - from) (drop from stream)) reply .image →
       reply′ ≡ serve V1 image (take (end - from) (drop from stream)) reply .reply →
@@ -56,11 +56,11 @@ module _ {start : ℕ} {image₀ reply₀ stream out₀ image reply out : List �
       Running start image₀ reply₀ stream out₀ image′ reply′ out′ end (place + 1) to′
   unfolding runs part linesFrom
   running-more end a image′ reply′ out′ to′ e l p q o wide deep =
-      let s = walk.passes stream from end e in
+      let s = walk.passes V1 stream from end e in
       let w = running-within end e in
       record {
         room = r .room;
-        walked = walked-more stream from end (r .walked) e .0;
+        walked = walked-more V1 stream from end (r .walked) e .0;
         few = omega (arith, s .0, r .few);
         far = omega (arith, o .few, r .far);
         wide = wide ∙ r .wide;
@@ -68,19 +68,19 @@ module _ {start : ℕ} {image₀ reply₀ stream out₀ image reply out : List �
         lines = putting-more (lineOf place a) _ (r .lines) (rw (s .2, l, p, q)) o (w .3);
       }
 
-  pub running-less : (end : ℕ) → nextAt stream from ≡ Whole end → length stream - end < length stream - from
-  running-less end e = walked-more stream from end (r .walked) e .1
+  pub running-less : (end : ℕ) → nextAt V1 stream from ≡ Whole end → length stream - end < length stream - from
+  running-less end e = walked-more V1 stream from end (r .walked) e .1
 
-  module _ (e : nextAt stream from ≡ Cut) where
+  module _ (e : nextAt V1 stream from ≡ Cut) where
     pub running-fits : to + mostLine ≤ length out
     running-fits = omega (arith, r .walked .within, r .few, r .far, r .room, r .lines .long)
 
     pub running-done : {out′ : List ℕ} {to′ left : ℕ} → left ≡ length stream - from → Put to mostLine (lastLine left) out out′ to′ → Put start (mostPrinted stream) (printed image₀ reply₀ stream) out₀ out′ to′
     unfolding runs linesFrom
     running-done {left = left} k p =
-        let at = walked-done stream from (r .walked) e in
-        let last : left ≡ length stream - endOf stream = omega (arith, k, at) in
-        let done = putting-done (to - start) (r .lines) (rw (walk.stops stream from e)) (omega arith) in
+        let at = walked-done V1 stream from (r .walked) e in
+        let last : left ≡ length stream - endOf V1 stream = omega (arith, k, at) in
+        let done = putting-done (to - start) (r .lines) (rw (walk.stops V1 stream from e)) (omega arith) in
         put-wide (omega (arith, r .walked .within, r .few, r .far)) (put-put (omega arith) done (rw last at p))
 
 -- A line written from the numbers of an answer is the answer's line.

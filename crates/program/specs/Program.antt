@@ -40,11 +40,11 @@ lastLine left = cond (eqb left 0) (quoted "end\n") (quoted "cut" ++ spaced left 
 
 -- The bytes behind a stream's last whole command.
 abbrev pub leftOver : List ℕ → ℕ
-leftOver stream = length stream - endOf stream
+leftOver stream = length stream - endOf V1 stream
 
 -- The lines of a stream that is run over an image with a reply buffer: one for each whole command, counted from 1, and the last.
 abbrev pub printed : List ℕ → List ℕ → List ℕ → List ℕ
-printed image reply stream = linesFrom 1 (runs image reply (commands stream) .answers) ++ lastLine (leftOver stream)
+printed image reply stream = linesFrom 1 (runs V1 image reply (commands V1 stream) .answers) ++ lastLine (leftOver stream)
 
 -- ---- The whole output for an input (rule 8.3).
 
@@ -64,7 +64,7 @@ blankOf input = replicate (roomOf input) 0
 
 -- The run of an input.
 abbrev pub runOf : List ℕ → Run
-runOf input = runs (imageOf input) (blankOf input) (commands (streamOf input))
+runOf input = runs V1 (imageOf input) (blankOf input) (commands V1 (streamOf input))
 
 -- From the bytes of standard input to the bytes of standard output.
 unfoldable pub outputOf : List ℕ → List ℕ

@@ -151,9 +151,9 @@ EachBytes (c ∷ cs) = Bytes c × EachBytes cs
 
 -- What a run from an image with a reply buffer keeps.
 record Kept (image reply : List ℕ) (cs : List (List ℕ)) : Type 0 where
-  no-9 : none (λ (a : Answer). eqb (a .number) 9) (runs image reply cs .answers) ≡ true
-  no-8 : none (λ (a : Answer). eqb (a .number) 8) (runs image reply cs .answers) ≡ true
-  stays : sound V1 (runs image reply cs .image) ≡ true
+  no-9 : none (λ (a : Answer). eqb (a .number) 9) (runs V1 image reply cs .answers) ≡ true
+  no-8 : none (λ (a : Answer). eqb (a .number) 8) (runs V1 image reply cs .answers) ≡ true
+  stays : sound V1 (runs V1 image reply cs .image) ≡ true
   bytes : AllBytes (requests image reply cs)
 
 none-more : {A : Type 0} (p : A → Bool) (a : A) (l : List A) → p a ≡ false → none p l ≡ true → none p (a ∷ l) ≡ true
@@ -170,7 +170,7 @@ kept cards reply (c ∷ cs) fit b =
     rw (leaves-by cards c reply fit, replies-by cards c reply fit)
     (kept (cardsBy V1 n cards s) (replyBy V1 n cards c reply) cs (fit-by cards c reply fit (b .0) n refl) (b .1)) in
     let answer = serve V1 (encode V1 cards) c reply .answer in
-    let rest = runs (serve V1 (encode V1 cards) c reply .image) (serve V1 (encode V1 cards) c reply .reply) cs .answers in
+    let rest = runs V1 (serve V1 (encode V1 cards) c reply .image) (serve V1 (encode V1 cards) c reply .reply) cs .answers in
     record {
       no-9 =
           none-more (λ (a : Answer). eqb (a .number) 9) answer rest
@@ -186,17 +186,17 @@ kept cards reply (c ∷ cs) fit b =
 
 -- ---- the commands of a stream of bytes
 
-each-within : (steps : ℕ) (l : List ℕ) → Bytes l → EachBytes (commandsWithin steps l)
+each-within : (steps : ℕ) (l : List ℕ) → Bytes l → EachBytes (commandsWithin V1 steps l)
 unfolding commandsWithin
 each-within zero l b = tt
-each-within (suc steps) l b = go (whole l) (each-within steps (drop (extent l) l) (Bytes-drop (extent l) l b))
+each-within (suc steps) l b = go (whole V1 l) (each-within steps (drop (extent V1 l) l) (Bytes-drop (extent V1 l) l b))
   where
-    go : (w : Bool) → EachBytes (commandsWithin steps (drop (extent l) l)) →
-        EachBytes (cond w (take (extent l) l ∷ commandsWithin steps (drop (extent l) l)) [])
-    go true later = (Bytes-take (extent l) l b, later)
+    go : (w : Bool) → EachBytes (commandsWithin V1 steps (drop (extent V1 l) l)) →
+        EachBytes (cond w (take (extent V1 l) l ∷ commandsWithin V1 steps (drop (extent V1 l) l)) [])
+    go true later = (Bytes-take (extent V1 l) l b, later)
     go false later = tt
 
-each-bytes : (stream : List ℕ) → Bytes stream → EachBytes (commands stream)
+each-bytes : (stream : List ℕ) → Bytes stream → EachBytes (commands V1 stream)
 unfolding commands
 each-bytes stream b = each-within (length stream) stream b
 
@@ -208,10 +208,10 @@ guarded n c stream shape b =
     let f = freshSound V1 n c shape in
     let fit : Fit (freshCards V1 n c) (replicate c 0) =
     record { good = f .good; bytes = Bytes-replicate c (omega arith); long = length-replicate c 0 } in
-    let k : Kept (fresh V1 n c) (replicate c 0) (commands stream) =
-    subst (λ (image : List ℕ). Kept image (replicate c 0) (commands stream)) (f .cards)
-    (kept (freshCards V1 n c) (replicate c 0) (commands stream) fit (each-bytes stream b)) in
-    demand3 V1 n c shape (requests (fresh V1 n c) (replicate c 0) (commands stream)) (k .bytes)
+    let k : Kept (fresh V1 n c) (replicate c 0) (commands V1 stream) =
+    subst (λ (image : List ℕ). Kept image (replicate c 0) (commands V1 stream)) (f .cards)
+    (kept (freshCards V1 n c) (replicate c 0) (commands V1 stream) fit (each-bytes stream b)) in
+    demand3 V1 n c shape (requests (fresh V1 n c) (replicate c 0) (commands V1 stream)) (k .bytes)
 
 pub serves : Serves
 serves input b g =
@@ -224,8 +224,8 @@ serves input b g =
       bytes = Bytes-replicate (roomOf input) (omega arith);
       long = length-replicate (roomOf input) 0 ∙ sym (room-decode V1 image ∙ f .same);
     } in
-    let k : Kept image (replicate (roomOf input) 0) (commands (drop (claimed input) input)) =
-    subst (λ (i : List ℕ). Kept i (replicate (roomOf input) 0) (commands (drop (claimed input) input))) (back .same)
-    (kept (decode V1 image) (replicate (roomOf input) 0) (commands (drop (claimed input) input)) fit
+    let k : Kept image (replicate (roomOf input) 0) (commands V1 (drop (claimed input) input)) =
+    subst (λ (i : List ℕ). Kept i (replicate (roomOf input) 0) (commands V1 (drop (claimed input) input))) (back .same)
+    (kept (decode V1 image) (replicate (roomOf input) 0) (commands V1 (drop (claimed input) input)) fit
     (each-bytes (drop (claimed input) input) (Bytes-drop (claimed input) input b))) in
     record { never-9 = rw (f .size) (k .no-9); never-8 = rw (f .size) (k .no-8); stays = rw (f .size) (k .stays) }

@@ -4,3 +4,4 @@ pub mod Pairs
 pub mod Never
 pub mod Texts
 pub mod Cases
+pub mod Versions

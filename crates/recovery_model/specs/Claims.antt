@@ -7,7 +7,7 @@ use mathlib.Core.List.{List, [], _∷_, _++_, reverse}
 use mathlib.Core.Bool.{Bool, true, false, cond, not, _&&_}
 use lib.ListN.{length, getD}
 use lib.Dec.{T, eqb}
-use Rattle.formats.specs.declared.Format.the-variants.{V1}
+use Rattle.formats.specs.declared.Format.the-variants.{V1, V2}
 use Rattle.lists.specs.Parts.{Bytes}
 use Rattle.lists.specs.Search.{none}
 use Rattle.image.specs.Layout.{shapeOk}
@@ -162,3 +162,13 @@ Twice =
     → recovered again log (recovered pairs log image .image) .number ≡ 0
     → (l : Language) (k : ℕ)
     → textIn (recovered again log (recovered pairs log image .image) .image) l k ≡ textIn (recovered pairs log image .image) l k
+
+-- ---- an image of version 2
+
+-- Recovery is of version 1: on an image of version 2 its first write is answered 9, and the image stays.
+pub record Untouched (image : List ℕ) (r : Recovery) : Type 0 where
+  pub kept : r .image ≡ image
+  pub numbers : (r .number ≡ 0) ⊎ (r .number ≡ 9) ⊎ (r .number ≡ 23)
+
+abbrev pub NoRecovery2 : Type 0
+NoRecovery2 = (pairs : Pairs) (log image : List ℕ) → T (sound V2 image) → Untouched image (recovered pairs log image)

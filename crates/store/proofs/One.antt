@@ -7,7 +7,7 @@ use mathlib.Core.List.{List, [], _∷_, append-nil}
 use mathlib.Core.Bool.{true, false}
 use borrow.Author.Tests.{eqb-true}
 use lib.ListN.{length, getD}
-use Rattle.formats.specs.declared.Format.the-variants.{V1}
+use Rattle.formats.specs.declared.Format.{Format}
 use Rattle.formats.specs.Format.{fixed}
 use Rattle.lists.specs.Parts.{splice, spread}
 use Rattle.lists.specs.Le.{field}
@@ -25,45 +25,45 @@ use Rattle.store.proofs.Step.{refusal}
 use Rattle.store.proofs.Running.{per-line}
 
 -- Bytes of another length are no command.
-pub not-one : (c : List ℕ) → isOne c ≡ false → formed V1 c ≡ false
+pub not-one : (f : Format) (c : List ℕ) → isOne f c ≡ false → formed f c ≡ false
 unfolding formed
-not-one c h = rw h
+not-one f c h = rw h
 
-no-commands : commands [] ≡ []
+no-commands : (f : Format) → commands f [] ≡ []
 unfolding commands commandsWithin
-no-commands = refl
+no-commands f = refl
 
-one-command : (c : List ℕ) → isOne c ≡ true → commands c ≡ c ∷ []
-one-command c h =
-    let size : length c ≡ fixed V1 + field 50 2 c = eqb-true (length c) (fixed V1 + field 50 2 c) h in
-    ap commands (sym (append-nil c)) ∙ walk.first c [] (omega (arith, size), size) ∙ ap (λ (cs : List (List ℕ)). c ∷ cs) no-commands
+one-command : (f : Format) (c : List ℕ) → isOne f c ≡ true → commands f c ≡ c ∷ []
+one-command f c h =
+    let size : length c ≡ fixed f + field 50 2 c = eqb-true (length c) (fixed f + field 50 2 c) h in
+    ap (commands f) (sym (append-nil c)) ∙ walk.first f c [] (omega (arith, size), size) ∙ ap (λ (cs : List (List ℕ)). c ∷ cs) (no-commands f)
 
 -- A line that is written over as many numbers is the whole of them.
 pub line-whole : (a : Answer) (line : List ℕ) → length line ≡ perLine → splice 0 (numbersOf a) line ≡ numbersOf a
 line-whole a line h = splice-whole (numbersOf a) line (per-line a ∙ sym h)
 
-pub small : (image c reply : List ℕ) → serve V1 image c reply .answer .number < 256
-small image c reply = go (refusals V1 image c reply .listed)
+pub small : (f : Format) (image c reply : List ℕ) → serve f image c reply .answer .number < 256
+small f image c reply = go (refusals f image c reply .listed)
   where
-    go : (serve V1 image c reply .answer .number ≤ 9) ⊎ (serve V1 image c reply .answer .number ≡ 17) → serve V1 image c reply .answer .number < 256
+    go : (serve f image c reply .answer .number ≤ 9) ⊎ (serve f image c reply .answer .number ≡ 17) → serve f image c reply .answer .number < 256
     go (inl h) = omega arith
     go (inr h) = omega arith
 
-module _ (image reply c line : List ℕ) (one : isOne c ≡ true) (whole : length line ≡ perLine) where
-  judged : judgedOf c (length line) ≡ c ∷ []
-  judged = rw (whole, one-command c one)
+module _ (f : Format) (image reply c line : List ℕ) (one : isOne f c ≡ true) (whole : length line ≡ perLine) where
+  judged : judgedOf f c (length line) ≡ c ∷ []
+  judged = rw (whole, one-command f c one)
 
-  pub one-image : runs image reply (judgedOf c (length line)) .image ≡ serve V1 image c reply .image
+  pub one-image : runs f image reply (judgedOf f c (length line)) .image ≡ serve f image c reply .image
   unfolding runs
   one-image = rw judged
 
-  pub one-reply : runs image reply (judgedOf c (length line)) .reply ≡ serve V1 image c reply .reply
+  pub one-reply : runs f image reply (judgedOf f c (length line)) .reply ≡ serve f image c reply .reply
   unfolding runs
   one-reply = rw judged
 
-  pub one-line : splice 0 (lined (runs image reply (judgedOf c (length line)))) line ≡ numbersOf (serve V1 image c reply .answer)
+  pub one-line : splice 0 (lined (runs f image reply (judgedOf f c (length line)))) line ≡ numbersOf (serve f image c reply .answer)
   unfolding runs spread
-  one-line = rw (judged, append-nil) (line-whole (serve V1 image c reply .answer) line whole)
+  one-line = rw (judged, append-nil) (line-whole (serve f image c reply .answer) line whole)
 
 -- The first number of a line is the answer's number.
 pub first-number : (a : Answer) → getD (numbersOf a) 0 0 ≡ a .number

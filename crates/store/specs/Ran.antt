@@ -5,7 +5,7 @@ use mathlib.Core.List.{List}
 use mathlib.Core.Bool.{Bool}
 use lib.Dec.{eqb}
 use lib.ListN.{length, take}
-use Rattle.formats.specs.declared.Format.the-variants.{V1}
+use Rattle.formats.specs.declared.Format.{Format}
 use Rattle.formats.specs.Format.{fixed}
 use Rattle.lists.specs.Le.{field}
 use Rattle.lists.specs.Parts.{spread}
@@ -14,17 +14,17 @@ use Rattle.stream.specs.Stream.{commands, endToEnd}
 use Rattle.store.specs.declared.Ran.{Ran}
 
 -- The commands that have a place for their line, from the first on.
-abbrev pub judgedOf : List ℕ → ℕ → List (List ℕ)
-judgedOf stream lent = take (lent / perLine) (commands stream)
+abbrev pub judgedOf : Format → List ℕ → ℕ → List (List ℕ)
+judgedOf f stream lent = take (lent / perLine) (commands f stream)
 
 -- How many they are, and the byte behind them.
-abbrev pub ranOf : List ℕ → ℕ → Ran
-ranOf stream lent = record { count = length (judgedOf stream lent); end = length (endToEnd (judgedOf stream lent)) }
+abbrev pub ranOf : Format → List ℕ → ℕ → Ran
+ranOf f stream lent = record { count = length (judgedOf f stream lent); end = length (endToEnd (judgedOf f stream lent)) }
 
 -- The lines of a run as numbers, end to end.
 abbrev pub lined : Run → List ℕ
 lined r = spread numbersOf (r .answers)
 
 -- Lent bytes are as long as one whole command says that it is, malformed or not.
-abbrev pub isOne : List ℕ → Bool
-isOne bytes = eqb (length bytes) (fixed V1 + field 50 2 bytes)
+abbrev pub isOne : Format → List ℕ → Bool
+isOne f bytes = eqb (length bytes) (fixed f + field 50 2 bytes)

@@ -2,7 +2,7 @@
 -- Assumes nothing.
 use Prim.Native.Nat.{ℕ}
 use mathlib.Core.List.{List, [], _∷_}
-use Rattle.formats.specs.declared.Format.the-variants.{V1}
+use Rattle.formats.specs.declared.Format.{Format}
 use Rattle.guard.specs.Replies.{replyFields}
 use Rattle.guard.specs.declared.Answer.{Answer}
 use Rattle.model.specs.Serve.{serve}
@@ -13,14 +13,14 @@ pub record Run : Type 0 where
   pub image : List ℕ
   pub reply : List ℕ
 
--- Command by command: each is judged on the image as the one before left it.
-unfoldable pub runs : List ℕ → List ℕ → List (List ℕ) → Run
-runs image reply [] = record { answers = []; image = image; reply = reply }
-runs image reply (c ∷ cs) =
+-- Command by command, of a version: each is judged on the image as the one before left it.
+unfoldable pub runs : Format → List ℕ → List ℕ → List (List ℕ) → Run
+runs f image reply [] = record { answers = []; image = image; reply = reply }
+runs f image reply (c ∷ cs) =
     record {
-      answers = serve V1 image c reply .answer ∷ runs (serve V1 image c reply .image) (serve V1 image c reply .reply) cs .answers;
-      image = runs (serve V1 image c reply .image) (serve V1 image c reply .reply) cs .image;
-      reply = runs (serve V1 image c reply .image) (serve V1 image c reply .reply) cs .reply;
+      answers = serve f image c reply .answer ∷ runs f (serve f image c reply .image) (serve f image c reply .reply) cs .answers;
+      image = runs f (serve f image c reply .image) (serve f image c reply .reply) cs .image;
+      reply = runs f (serve f image c reply .image) (serve f image c reply .reply) cs .reply;
     }
 
 -- The numbers of an answer, which its line shows, and how many they are.

@@ -6,6 +6,7 @@ use mathlib.Core.List.{List, [], _∷_}
 use mathlib.Core.Bool.{Bool, cond, _&&_}
 use lib.Dec.{leb}
 use lib.ListN.{length, take, drop}
+use Rattle.formats.specs.declared.Format.{Format}
 use Rattle.formats.specs.declared.Format.the-variants.{V1}
 use Rattle.lists.specs.Parts.{spread}
 use Rattle.formats.specs.Format.{fixed}
@@ -16,20 +17,20 @@ use denote.Ref.{RefT, now}
 use Rattle.stream.specs.declared.Reader.{Reader}
 
 -- How long the command is that begins these bytes, malformed or not (rule 8.1).
-unfoldable pub extent : List ℕ → ℕ
-extent bytes = fixed V1 + field 50 2 bytes
+unfoldable pub extent : Format → List ℕ → ℕ
+extent v bytes = fixed v + field 50 2 bytes
 
 -- The bytes begin with a whole command: all of its fixed part, and all of its payload.
-unfoldable pub whole : List ℕ → Bool
-whole bytes = leb (fixed V1) (length bytes) && leb (extent bytes) (length bytes)
+unfoldable pub whole : Format → List ℕ → Bool
+whole v bytes = leb (fixed v) (length bytes) && leb (extent v bytes) (length bytes)
 
 -- A list of bytes is one whole command, by its own length field (rule 8.1).
-abbrev pub OneCommand : List ℕ → Type 0
-OneCommand c = (fixed V1 ≤ length c) × (length c ≡ fixed V1 + field 50 2 c)
+abbrev pub OneCommand : Format → List ℕ → Type 0
+OneCommand v c = (fixed v ≤ length c) × (length c ≡ fixed v + field 50 2 c)
 
 -- What stands at a place of a stream. From a place beyond the end on nothing is left, which is no whole command.
-unfoldable pub nextAt : List ℕ → ℕ → Next
-nextAt stream at = cond (whole (drop at stream)) (Whole (at + extent (drop at stream))) Cut
+unfoldable pub nextAt : Format → List ℕ → ℕ → Next
+nextAt v stream at = cond (whole v (drop at stream)) (Whole (at + extent v (drop at stream))) Cut
 
 -- What the two cases say: the place to go on from, which is the place itself where no whole command stands.
 abbrev pub onward : ℕ → Next → ℕ
@@ -38,31 +39,31 @@ onward at Cut = at
 
 -- The whole commands of a stream, in order, up to the first that is not whole. Each takes at least one byte, so that as many steps as there
 -- are bytes are enough.
-unfoldable pub commandsWithin : ℕ → List ℕ → List (List ℕ)
-commandsWithin zero bytes = []
-commandsWithin (suc steps) bytes =
-    cond (whole bytes) (take (extent bytes) bytes ∷ commandsWithin steps (drop (extent bytes) bytes)) []
+unfoldable pub commandsWithin : Format → ℕ → List ℕ → List (List ℕ)
+commandsWithin v zero bytes = []
+commandsWithin v (suc steps) bytes =
+    cond (whole v bytes) (take (extent v bytes) bytes ∷ commandsWithin v steps (drop (extent v bytes) bytes)) []
 
-unfoldable pub commands : List ℕ → List (List ℕ)
-commands stream = commandsWithin (length stream) stream
+unfoldable pub commands : Format → List ℕ → List (List ℕ)
+commands v stream = commandsWithin v (length stream) stream
 
 -- Rule 8.2: where the first command begins that is not whole.
-unfoldable pub endWithin : ℕ → List ℕ → ℕ
-endWithin zero bytes = 0
-endWithin (suc steps) bytes = cond (whole bytes) (extent bytes + endWithin steps (drop (extent bytes) bytes)) 0
+unfoldable pub endWithin : Format → ℕ → List ℕ → ℕ
+endWithin v zero bytes = 0
+endWithin v (suc steps) bytes = cond (whole v bytes) (extent v bytes + endWithin v steps (drop (extent v bytes) bytes)) 0
 
-unfoldable pub endOf : List ℕ → ℕ
-endOf stream = endWithin (length stream) stream
+unfoldable pub endOf : Format → List ℕ → ℕ
+endOf v stream = endWithin v (length stream) stream
 
 -- Commands end to end.
 abbrev pub endToEnd : List (List ℕ) → List ℕ
 endToEnd cs = spread (λ (c : List ℕ). c) cs
 
 -- The byte where the command with this number, counted from 0, begins.
-unfoldable pub placeOf : List ℕ → ℕ → ℕ
-placeOf stream i = length (endToEnd (take i (commands stream)))
+unfoldable pub placeOf : Format → List ℕ → ℕ → ℕ
+placeOf v stream i = length (endToEnd (take i (commands v stream)))
 
--- ---- A reader that keeps the lent stream and its place.
+-- ---- A reader that keeps the lent stream of version 1 commands and its place.
 
 -- A reader at the first byte of a lent stream.
 abbrev pub begun : RefT (List ℕ) → Reader
@@ -74,7 +75,7 @@ movedTo r at = record { stream = r .stream; at = at }
 
 -- A reader that was asked for its next command and moved on behind it; where none is whole it stays.
 abbrev pub passed : Reader → Reader
-passed r = movedTo r (onward (r .at) (nextAt (now (r .stream)) (r .at)))
+passed r = movedTo r (onward (r .at) (nextAt V1 (now (r .stream)) (r .at)))
 
 -- The same, so many times.
 unfoldable pub steps : ℕ → Reader → Reader

@@ -1,8 +1,9 @@
 // A stream: commands end to end, and a reader that keeps the lent stream and its place.
 ghost use mathlib.Core.Path.{_≡_};
+ghost use Rattle.formats.specs.declared.Format.the-variants.{V1};
 ghost use Rattle.stream.specs.Stream.{nextAt, onward, endOf, begun, passed};
 use commands::LENGTH;
-use formats::FIXED_V1 as FIXED;
+use formats::Format;
 use slices::inner::fixed_width::read_u16;
 
 // ---- A stream: commands end to end.
@@ -13,32 +14,46 @@ pub enum Next {
     Cut,
 }
 
-// What stands at any place, also at one beyond the end.
-pub fn next_at(stream: &[u8], at: usize) -> Next
-    ensures { λ r. ⌜ r ≡ nextAt (now (stream .entry)) at ⌝ }
+// What stands at any place of a stream of a version's commands, also at one beyond the end.
+pub fn next_at_as(f: Format, stream: &[u8], at: usize) -> Next
+    ensures { λ r. ⌜ r ≡ nextAt f (now (stream .entry)) at ⌝ }
 {
     if stream.len() < at {
         return Next::Cut;
     }
+    let fixed = formats::inner::fixed(f);
     let left = stream.len() - at;
-    if left < FIXED {
+    if left < fixed {
         return Next::Cut;
     }
     let payload = read_u16(stream, at + LENGTH) as usize;
-    if left - FIXED < payload {
+    if left - fixed < payload {
         return Next::Cut;
     }
-    Next::Whole(at + FIXED + payload)
+    Next::Whole(at + fixed + payload)
+}
+
+// The same of version 1.
+pub fn next_at(stream: &[u8], at: usize) -> Next
+    ensures { λ r. ⌜ r ≡ nextAt V1 (now (stream .entry)) at ⌝ }
+{
+    next_at_as(Format::V1, stream, at)
 }
 
 // Where a walk that has come to `at` goes on: behind the whole command there; where none is whole it stays.
-fn onward_from(stream: &[u8], at: usize) -> usize
-    ensures { λ r. ⌜ r ≡ onward at (nextAt (now (stream .entry)) at) ⌝ }
+fn onward_as(f: Format, stream: &[u8], at: usize) -> usize
+    ensures { λ r. ⌜ r ≡ onward at (nextAt f (now (stream .entry)) at) ⌝ }
 {
-    match next_at(stream, at) {
+    match next_at_as(f, stream, at) {
         Next::Whole(end) => end,
         Next::Cut => at,
     }
+}
+
+fn onward_from(stream: &[u8], at: usize) -> usize
+    ensures { λ r. ⌜ r ≡ onward at (nextAt V1 (now (stream .entry)) at) ⌝ }
+{
+    onward_as(Format::V1, stream, at)
 }
 
 // ---- A reader that keeps the lent stream and its place.
@@ -72,21 +87,28 @@ impl<'a> Reader<'a> {
 
 // One step of a walk that has come to any place: where a reader that stands there goes on.
 pub fn next_from(stream: &[u8], at: usize) -> usize
-    ensures { λ end. ⌜ end ≡ onward at (nextAt (now (stream .entry)) at) ⌝ }
+    ensures { λ end. ⌜ end ≡ onward at (nextAt V1 (now (stream .entry)) at) ⌝ }
 {
     Reader { stream, at }.next().at
 }
 
-// The byte where the first command that is not whole begins, or the stream's end.
-pub fn end_of(stream: &[u8]) -> usize
-    ensures { λ r. ⌜ r ≡ endOf (now (stream .entry)) ⌝ }
+// The byte where the first command of a version that is not whole begins, or the stream's end.
+pub fn end_of_as(f: Format, stream: &[u8]) -> usize
+    ensures { λ r. ⌜ r ≡ endOf f (now (stream .entry)) ⌝ }
 {
     let mut at = 0;
     loop {
-        let end = next_from(stream, at);
+        let end = onward_as(f, stream, at);
         if end == at {
             break at;
         }
         at = end;
     }
+}
+
+// The same of version 1.
+pub fn end_of(stream: &[u8]) -> usize
+    ensures { λ r. ⌜ r ≡ endOf V1 (now (stream .entry)) ⌝ }
+{
+    end_of_as(Format::V1, stream)
 }

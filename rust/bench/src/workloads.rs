@@ -2,7 +2,7 @@
 //! that each of these commands gets.
 
 use second::random::Random;
-use second::{CommandFields, Entry, Language, Layout, Mark, Pair};
+use second::{CommandFields, Entry, Format, Language, Layout, Mark, Pair};
 
 /// The usual image: N 31 and C 512.
 const CARDS: u64 = 31;
@@ -97,7 +97,7 @@ const START: u64 = 1_000;
 /// An image of so many cards, each at edition 1 with a translation made from
 /// it. Its stamps have T 1,000, but x is zero where `shared`.
 fn image(cards: u64, texts: Texts, shared: bool, mark: Mark, random: &mut Random) -> Vec<u8> {
-    let layout = Layout::new(cards, ROOM).expect("a shape by the rules");
+    let layout = Layout::new(Format::V1, cards, ROOM).expect("a shape by the rules");
     let mut image = vec![0; layout.size()];
     image[..16].copy_from_slice(&layout.header());
     for card in 0..cards as u16 {
@@ -105,16 +105,16 @@ fn image(cards: u64, texts: Texts, shared: bool, mark: Mark, random: &mut Random
             pair: Pair::new(stamp(START, 1), if shared { 0 } else { stamp(START, 1) }),
             mark,
             edition: 1,
-            translated_from: 1,
             ..Entry::default()
         };
-        for language in [Language::Original, Language::Translation] {
+        entry.translations[0].from = 1;
+        for language in [Language::Original, Language::Translation(0)] {
             let length = texts.length(random);
             let text: Vec<u8> = (0..length).map(|_| random.byte() | 1).collect();
             layout.put_text(&mut image, card, language, &text);
             match language {
                 Language::Original => entry.original_length = length as u16,
-                Language::Translation => entry.translation_length = length as u16,
+                Language::Translation(_) => entry.translations[0].length = length as u16,
             }
         }
         layout.put_entry(&mut image, card, entry);

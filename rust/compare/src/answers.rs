@@ -5,9 +5,10 @@ use std::collections::BTreeSet;
 use second::generate;
 use second::random::Random;
 use second::stamp::{time, MOST_AHEAD};
-use second::{Act, Command, CommandFields, Entry, Language, Layout, Pair};
+use second::{Act, Command, CommandFields, Entry, Format, Language, Layout, Pair};
 
 use crate::coverage::{Kind, Run};
+use crate::languages;
 use crate::pairs;
 use crate::proved::{self, Answer};
 use crate::run::{bytes, same, Compared};
@@ -24,8 +25,9 @@ pub fn answer(
     let (image_lent, reply_lent) = (image.to_vec(), reply.to_vec());
     let input =
         || bytes("image", &image_lent) + &bytes("command", command) + &bytes("reply", &reply_lent);
-    let proved = proved::answer(image, command, reply);
-    let second = second::answer(&mut second_image, command, &mut second_reply);
+    let format = run.format;
+    let proved = proved::answer(format, image, command, reply);
+    let second = format.answer(&mut second_image, command, &mut second_reply);
     let told = (second.number, second.fields.numbers());
     same("answer", (proved.number, proved.fields), told, input)?;
     same("image after", &*image, &second_image[..], input)?;
@@ -35,9 +37,9 @@ pub fn answer(
 }
 
 /// A well-formed command and the entry of its card.
-fn about<'a>(image: &[u8], command: &'a [u8]) -> Option<(Command<'a>, Entry)> {
-    let command = Command::parse(command)?;
-    let entry = Layout::of_header(image)?.entry(image, command.card)?;
+fn about<'a>(format: Format, image: &[u8], command: &'a [u8]) -> Option<(Command<'a>, Entry)> {
+    let command = Command::parse(format, command)?;
+    let entry = Layout::of_header(format, image)?.entry(image, command.card)?;
     Some((command, entry))
 }
 
@@ -51,8 +53,9 @@ fn text_read(command: &Command, stored: Entry) -> Option<usize> {
 
 /// A reply buffer whose length is near that of the text that the command
 /// reads: from none to one past it.
-pub fn reply_near(random: &mut Random, image: &[u8], command: &[u8]) -> Vec<u8> {
-    let read = about(image, command).and_then(|(command, stored)| text_read(&command, stored));
+pub fn reply_near(format: Format, random: &mut Random, image: &[u8], command: &[u8]) -> Vec<u8> {
+    let read =
+        about(format, image, command).and_then(|(command, stored)| text_read(&command, stored));
     let length = match read {
         Some(text) => random.pick(&[0, text.saturating_sub(1), text, text, text, text + 1]),
         None => random.index(20),
@@ -61,22 +64,26 @@ pub fn reply_near(random: &mut Random, image: &[u8], command: &[u8]) -> Vec<u8> 
 }
 
 /// A fitting command that does not write and carries a payload all the same.
-fn carrying(random: &mut Random, image: &[u8]) -> Vec<u8> {
-    let mut command = generate::fitting_command(random, image);
+fn carrying(format: Format, random: &mut Random, image: &[u8]) -> Vec<u8> {
+    let mut command = generate::fitting_command(format, random, image);
     let length = 1 + random.index(20);
-    command.truncate(52);
+    let fixed = format.command_bytes();
+    command.truncate(fixed);
     command[0] = random.pick(&[1, 2, 5]);
     command[48..50].fill(0);
     command[50..52].copy_from_slice(&(length as u16).to_le_bytes());
+    if format == Format::V2 {
+        command[20..36].fill(0);
+    }
     command.extend(random.bytes(length));
     command
 }
 
 /// A fitting command whose expected mark is off by one, in desk or in
 /// transaction.
-fn off_by_one(random: &mut Random, image: &[u8]) -> Vec<u8> {
-    let command = generate::fitting_command(random, image);
-    let Some(mut fields) = CommandFields::from_bytes(&command) else {
+fn off_by_one(format: Format, random: &mut Random, image: &[u8]) -> Vec<u8> {
+    let command = generate::fitting_command(format, random, image);
+    let Some(mut fields) = CommandFields::from_bytes(format, &command) else {
         return command;
     };
     let expected = &mut fields.expected;
@@ -86,17 +93,18 @@ fn off_by_one(random: &mut Random, image: &[u8]) -> Vec<u8> {
         2 => expected.transaction = expected.transaction.wrapping_add(1),
         _ => expected.transaction = expected.transaction.wrapping_sub(1),
     }
-    fields.followed_by(&command[52..])
+    fields.followed_by(&command[format.command_bytes()..])
 }
 
 /// A fitting command with stamps near the limit above the stored ones: on one
 /// side or on both, on a card of which some keep no stamp; in its one pair, or
 /// in an update pair whose verifier is the stored pair.
-fn near_limit(random: &mut Random, image: &[u8]) -> Vec<u8> {
-    let command = generate::fitting_command(random, image);
-    let (Some(mut fields), Some((_, stored))) =
-        (CommandFields::from_bytes(&command), about(image, &command))
-    else {
+fn near_limit(format: Format, random: &mut Random, image: &[u8]) -> Vec<u8> {
+    let command = generate::fitting_command(format, random, image);
+    let (Some(mut fields), Some((_, stored))) = (
+        CommandFields::from_bytes(format, &command),
+        about(format, image, &command),
+    ) else {
         return command;
     };
     let more = random.pick(&generate::NEAR_LIMIT);
@@ -115,30 +123,32 @@ fn near_limit(random: &mut Random, image: &[u8]) -> Vec<u8> {
         0 => (stored.pair, far),
         _ => (far, Pair::default()),
     };
-    fields.followed_by(&command[52..])
+    fields.followed_by(&command[format.command_bytes()..])
 }
 
 /// Single commands on sound images near the edges.
 pub fn singles(run: &mut Run, random: &mut Random) -> Compared<()> {
+    let format = run.format;
     for _ in 0..100 {
-        let mut image = generate::sound_image(random);
+        let mut image = generate::sound_image(format, random);
         for _ in 0..3 {
             let command = match random.below(9) {
-                0 => carrying(random, &image),
-                1 => generate::command(random, &image),
-                2 => off_by_one(random, &image),
-                3 => near_limit(random, &image),
-                _ => generate::fitting_command(random, &image),
+                0 => carrying(format, random, &image),
+                1 => generate::command(format, random, &image),
+                2 => off_by_one(format, random, &image),
+                3 => near_limit(format, random, &image),
+                _ => generate::fitting_command(format, random, &image),
             };
-            let lent = reply_near(random, &image, &command);
+            let lent = reply_near(format, random, &image, &command);
             let before = image.clone();
             let told = answer(run, &mut image, &command, &mut lent.clone())?;
             run.seen(Kind::Singles);
             note_edges(run, &before, &command, lent.len());
             note_bits(run, &command, told.number);
             note_ahead(run, &before, &command, told.number);
-            let about = about(&before, &command);
+            let about = about(format, &before, &command);
             pairs::note(run, &command, about.map(|(_, stored)| stored), told.number);
+            languages::note(run, &command, told.number);
         }
     }
     Ok(())
@@ -154,12 +164,13 @@ fn note<T: PartialEq>(run: &mut Run, kind: Kind, value: T, edges: &[Option<T>]) 
 
 /// Counts the edges at which a well-formed command for a card stands.
 fn note_edges(run: &mut Run, image: &[u8], command: &[u8], lent: usize) {
-    let Some((command, stored)) = about(image, command) else {
+    let format = run.format;
+    let Some((command, stored)) = about(format, image, command) else {
         return;
     };
     let editions = [0, 1, 65_534, 65_535].map(Some);
     note(run, Kind::Editions, stored.edition, &editions);
-    let room = Layout::of_header(image).map_or(16, Layout::room);
+    let room = Layout::of_header(format, image).map_or(16, Layout::room);
     let lengths = [0, room - 1, room, room + 1].map(Some);
     if let Some(text) = text_read(&command, stored) {
         note(run, Kind::TextsRead, text, &lengths[..3]);
@@ -194,7 +205,8 @@ fn note_edges(run: &mut Run, image: &[u8], command: &[u8], lent: usize) {
 /// Counts the stamps near the limit above the stored ones, of commands that
 /// are not stale, and how 17 stands to the rows around it.
 fn note_ahead(run: &mut Run, image: &[u8], bytes: &[u8], number: u8) {
-    let Some((command, stored)) = about(image, bytes) else {
+    let format = run.format;
+    let Some((command, stored)) = about(format, image, bytes) else {
         return;
     };
     let above = |new: u64, old: u64| i64::from(time(new)) - i64::from(time(old));
@@ -242,11 +254,13 @@ fn note_ahead(run: &mut Run, image: &[u8], bytes: &[u8], number: u8) {
 /// Counts top bits and stamps of different bytes that are accepted, and
 /// payloads of non-writes.
 fn note_bits(run: &mut Run, bytes: &[u8], number: u8) {
-    let Some(fields) = CommandFields::from_bytes(bytes) else {
+    let format = run.format;
+    let Some(fields) = CommandFields::from_bytes(format, bytes) else {
         return;
     };
     let payload = !matches!(fields.act, 3 | 4) && fields.length > 0;
-    if payload && bytes.len() == 52 + usize::from(fields.length) && number == 1 {
+    if payload && bytes.len() == format.command_bytes() + usize::from(fields.length) && number == 1
+    {
         run.seen(Kind::Carrying);
     }
     let marks = [fields.expected, fields.next];
@@ -276,14 +290,16 @@ fn note_bits(run: &mut Run, bytes: &[u8], number: u8) {
 /// A read that its card accepts, with every reply buffer from 0 bytes to one
 /// past the text.
 pub fn replies(run: &mut Run, random: &mut Random) -> Compared<()> {
-    let image = generate::sound_image(random);
-    let layout = Layout::of_header(&image);
+    let format = run.format;
+    let image = generate::sound_image(format, random);
+    let layout = Layout::of_header(format, &image);
     let card = random.index(layout.map_or(1, Layout::cards)) as u16;
     let stored = layout.and_then(|layout| layout.entry(&image, card));
     let stored = stored.unwrap_or_default();
-    let language = match stored.is_behind() || random.one_in(2) {
-        true => Language::Original,
-        false => Language::Translation,
+    let into = random.index(format.translations()) as u8;
+    let (language, named) = match stored.is_behind(into) || random.one_in(2) {
+        true => (Language::Original, 0),
+        false => (Language::Translation(into), into),
     };
     let mut own = |stamp: u64| match stamp {
         0 => generate::early_stamp(random),
@@ -291,6 +307,8 @@ pub fn replies(run: &mut Run, random: &mut Random) -> Compared<()> {
     };
     let pair = Pair::new(own(stored.pair.s), own(stored.pair.x));
     let read = CommandFields {
+        format,
+        language: named,
         act: Act::Read(language).number(),
         mode: random.pick(&[1, 2]),
         card,
@@ -307,17 +325,19 @@ pub fn replies(run: &mut Run, random: &mut Random) -> Compared<()> {
     Ok(())
 }
 
-/// Malformed commands: every byte of the 52 broken in turn, and every length
-/// that is not exactly 52 plus the length field.
+/// Malformed commands: every byte of the fixed part broken in turn, and every
+/// length that is not exactly that part's plus the length field.
 pub fn malformed(run: &mut Run, random: &mut Random) -> Compared<()> {
-    let image = generate::sound_image(random);
-    let command = generate::fitting_command(random, &image);
+    let format = run.format;
+    let image = generate::sound_image(format, random);
+    let command = generate::fitting_command(format, random, &image);
+    let fixed = format.command_bytes();
     let sent = |run: &mut Run, random: &mut Random, command: &[u8]| {
         let mut reply = random.bytes(18);
         answer(run, &mut image.clone(), command, &mut reply).map(|told| told.number)
     };
     let reaches_guard = !matches!(sent(run, random, &command)?, 1 | 2);
-    for at in 0..52 {
+    for at in 0..fixed {
         let byte = command[at];
         let near = [byte ^ 1, byte ^ 0x80, byte.wrapping_add(1), random.byte()];
         for changed in [0, 1, 0xff].into_iter().chain(near) {
@@ -330,8 +350,11 @@ pub fn malformed(run: &mut Run, random: &mut Random) -> Compared<()> {
         }
     }
     let whole = command.len();
-    let lengths = [0, 1, 49, 50, 51, 52, 53, whole - 1, whole + 1, 52 + 65_535];
-    for length in lengths.into_iter().filter(|length| *length != whole) {
+    let edges = [0, 1, 49, 50, 51, 52, 53, 67, 68, 69];
+    let lengths = edges
+        .into_iter()
+        .chain([whole - 1, whole + 1, fixed + 65_535]);
+    for length in lengths.filter(|length| *length != whole) {
         let mut broken = command.clone();
         broken.resize(length, 0);
         sent(run, random, &broken)?;

@@ -2,7 +2,7 @@
 //! what was answered, and the reply buffers. Nothing here looks at an image.
 
 use second::stamp::desk_and_start;
-use second::{Act, Command, Language, Mark, Mode, Pair};
+use second::{Act, Command, Format, Language, Mark, Mode, Pair};
 
 use crate::coverage::{Kind, Run};
 use crate::proved::Answer;
@@ -10,6 +10,8 @@ use crate::proved::Answer;
 /// One request as its sender sees it.
 #[derive(Clone, Debug)]
 pub struct Event {
+    /// The version of the store that it was sent to.
+    pub format: Format,
     /// The lent bytes of the command.
     pub command: Vec<u8>,
     /// The reply buffer as it was lent.
@@ -24,8 +26,9 @@ pub struct Event {
 
 impl Event {
     /// What a sender sees of a request and its answer.
-    pub fn new(command: &[u8], lent: Vec<u8>, told: Answer, reply: &[u8]) -> Event {
+    pub fn new(format: Format, command: &[u8], lent: Vec<u8>, told: Answer, reply: &[u8]) -> Event {
         Event {
+            format,
             command: command.to_vec(),
             lent,
             number: told.number,
@@ -43,7 +46,9 @@ struct List<'a> {
 
 impl<'a> List<'a> {
     fn new(events: &'a [Event]) -> List<'a> {
-        let commands = events.iter().map(|event| Command::parse(&event.command));
+        let commands = events
+            .iter()
+            .map(|event| Command::parse(event.format, &event.command));
         List {
             events,
             commands: commands.collect(),
@@ -97,15 +102,15 @@ impl<'a> List<'a> {
         command.expected.desk == stored.desk && command.expected.transaction >= stored.transaction
     }
 
-    /// No translation was accepted since the last accepted write of the
-    /// original.
-    fn behind(&self, at: usize, card: u16) -> bool {
+    /// No translation into this language was accepted since the last accepted
+    /// write of the original.
+    fn behind(&self, at: usize, card: u16, language: u8) -> bool {
         let since = self
             .earlier(at, card)
             .take_while(|before| before.act != Act::Write(Language::Original));
         !since
             .into_iter()
-            .any(|before| before.act == Act::Write(Language::Translation))
+            .any(|before| before.act == Act::Write(Language::Translation(language)))
     }
 
     /// The payload of the last earlier accepted write of a card and language.
@@ -248,11 +253,20 @@ fn behindness(
     command: &Command,
     run: &mut Run,
 ) -> Result<(), &'static str> {
-    let reads = command.act == Act::Read(Language::Translation);
-    if !reads || list.late(at, command) || !list.right_mark(at, command) {
+    let Act::Read(Language::Translation(language)) = command.act else {
+        return Ok(());
+    };
+    if list.late(at, command) || !list.right_mark(at, command) {
         return Ok(());
     }
-    let behind = list.behind(at, command.card);
+    let behind = list.behind(at, command.card, language);
+    if list.events[at].format == Format::V2 {
+        run.seen_at(Kind::BehindBy, usize::from(language));
+        let other = |other| other != language && list.behind(at, command.card, other) != behind;
+        if (0..4).any(other) {
+            run.seen_at(Kind::BehindBeside, usize::from(!behind));
+        }
+    }
     if list.far_ahead(at, command) {
         run.seen_at(Kind::AheadRead, usize::from(!behind));
         return Ok(());

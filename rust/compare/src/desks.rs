@@ -21,7 +21,7 @@ pub fn any(run: &mut Run, random: &mut Random) -> Compared<()> {
             edition: random.pick(&[0, 1, 2, 65_534, 65_535, any as u16]),
             translated_from: random.pick(&[0, 1, 2, 65_534, 65_535, any as u16]),
         };
-        for language in [Language::Original, Language::Translation] {
+        for language in [Language::Original, Language::Translation(0)] {
             both(run, &held, language)?;
         }
         let other = random.between(2, 255) as u8;
@@ -60,13 +60,13 @@ fn both(run: &mut Run, held: &Held, language: Language) -> Compared<()> {
     same("shown", proved, (number, text.len() as u64), input)?;
     let buffer = match language {
         Language::Original => held.original,
-        Language::Translation => held.translation,
+        Language::Translation(_) => held.translation,
     };
     same("shown text", &buffer[..proved.1 as usize], text, input)?;
     run.number(number);
     let kind = match (number, language) {
         (0, Language::Original) => 0,
-        (0, Language::Translation) => 1,
+        (0, Language::Translation(_)) => 1,
         (6, _) => 2,
         _ => 3,
     };

@@ -5,6 +5,7 @@ use second::generate;
 use second::history::{answer_in, History, HISTORY_BYTES, MOST_KEPT, MOST_PAYLOAD};
 use second::random::Random;
 use second::short::{a_prime, command, fresh, write_original, EXCLUSIVE, VERIFY};
+use second::Format::V1;
 use second::{Command, CommandFields, Layout, Mark, Pair};
 
 use crate::answers::{answer, reply_near};
@@ -116,7 +117,7 @@ fn compared(run: &mut Run, lent: &mut Lent, command: &[u8], reply: &mut [u8]) ->
 
 /// Counts the limits at which a command stands.
 fn note(run: &mut Run, before: &History, command: &[u8], number: u8) {
-    let Some(command) = Command::parse(command) else {
+    let Some(command) = Command::parse(V1, command) else {
         return;
     };
     if number == 0 && command.update != command.verifier {
@@ -147,7 +148,7 @@ fn note(run: &mut Run, before: &History, command: &[u8], number: u8) {
 
 /// A command that its card mostly accepts, under the stored pair and mark.
 fn willing(random: &mut Random, image: &[u8], length: usize) -> Vec<u8> {
-    let layout = Layout::of_header(image);
+    let layout = Layout::of_header(V1, image);
     let card = random.index(layout.map_or(1, Layout::cards)) as u16;
     let stored = layout.and_then(|layout| layout.entry(image, card));
     let stored = stored.unwrap_or_default();
@@ -217,13 +218,13 @@ fn list(run: &mut Run, random: &mut Random, cards: u16, room: u16, length: u64) 
     let mut full = 0;
     for _ in 0..length {
         let command = match random.one_in(6) {
-            true => generate::command(random, &image),
+            true => generate::command(V1, random, &image),
             false => {
                 let length = next_length(random, &lent);
                 willing(random, &image, length)
             }
         };
-        let lent_reply = reply_near(random, &image, &command);
+        let lent_reply = reply_near(V1, random, &image, &command);
         let mut reply = lent_reply.clone();
         let told = compared(run, &mut lent, &command, &mut reply)?;
         plain.answer(cards, room, &command, &mut lent_reply.clone());
@@ -246,11 +247,11 @@ fn list(run: &mut Run, random: &mut Random, cards: u16, room: u16, length: u64) 
 /// A history in any bytes: a stream, often damaged, with any number of used
 /// bytes, any N and C, and a few requests.
 fn anywhere(run: &mut Run, random: &mut Random) -> Compared<()> {
-    let image = generate::sound_image(random);
+    let image = generate::sound_image(V1, random);
     let cards = random.pick(&[0, 1, 2, 3, 128, 129, u16::MAX]);
     let room = random.pick(&[0, 15, 16, 48, 1_025, u16::MAX]);
     let mut lent = Lent::new(random, cards, room);
-    let mut stream = generate::stream(random, &image);
+    let mut stream = generate::stream(V1, random, &image);
     if random.one_in(4) {
         let length = random.pick(&[32_767, 32_768, 32_769, 60_000]);
         stream.extend(willing(random, &image, length));
@@ -277,7 +278,7 @@ fn anywhere(run: &mut Run, random: &mut Random) -> Compared<()> {
             run.seen_at(Kind::HistoryBytes, 2);
         }
         let command = match random.below(3) {
-            0 => generate::command(random, &image),
+            0 => generate::command(V1, random, &image),
             1 => {
                 let length = random.pick(&[0, 1, 16, 32_767, 32_768, 32_769, u16::MAX.into()]);
                 willing(random, &image, length)
@@ -341,11 +342,11 @@ pub fn any(run: &mut Run, random: &mut Random) -> Compared<()> {
         list(run, random, cards, room, 500)?;
     }
     if random.one_in(5) {
-        let (cards, room) = random.pick(&generate::LARGE);
+        let (cards, room) = random.pick(&generate::large(V1));
         list(run, random, cards as u16, room as u16, length)?;
         run.seen_at(Kind::LargeLists, 1);
     }
-    if random.one_in(20) {
+    if random.one_in(8) {
         at_both(run, random)?;
     }
     for _ in 0..3 {

@@ -12,7 +12,9 @@
 //!   different cards in another order.
 //! - [`proposals`]: what a desk knows and proposes. [`systems`]: random systems
 //!   of desks, queues and a store, by the rules and with one rule broken.
-//! - [`pairs`]: commands with two pairs, edge by edge.
+//! - [`pairs`]: commands with two pairs, edge by edge. [`languages`]: commands
+//!   of version 2, and each version's images before the other.
+//! - [`conversions`]: from version 1 to version 2.
 //! - [`trials`]: the sheet's trials, by both.
 //! - [`sessions`]: lists of commands as desks send them, sessions interleaved.
 //! - [`demand3`]: the sentences of demand 3, over a list of events.
@@ -20,11 +22,13 @@
 #![deny(missing_docs)]
 
 pub mod answers;
+pub mod conversions;
 pub mod coverage;
 pub mod demand3;
 pub mod desks;
 pub mod history;
 pub mod images;
+pub mod languages;
 pub mod lapses;
 pub mod lists;
 pub mod logs;

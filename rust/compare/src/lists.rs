@@ -3,7 +3,7 @@
 
 use second::generate;
 use second::random::Random;
-use second::short::fresh;
+use second::short::fresh_of;
 use second::Mode;
 
 use crate::answers::{answer, reply_near};
@@ -30,6 +30,7 @@ enum Sender {
 
 /// A list of each sender from a fresh image of a random shape.
 pub fn any(run: &mut Run, random: &mut Random) -> Compared<()> {
+    let format = run.format;
     let senders = [
         Sender::Strict,
         Sender::Loose,
@@ -39,25 +40,25 @@ pub fn any(run: &mut Run, random: &mut Random) -> Compared<()> {
     for (at, sender) in senders.into_iter().enumerate() {
         let large = random.one_in(20);
         let (cards, room) = match large {
-            true => random.pick(&generate::LARGE),
+            true => random.pick(&generate::large(format)),
             false => random.pick(&[(1, 16), (1, 16), (2, 16), (2, 32), (3, 48)]),
         };
-        let mut image = vec![0xee; fresh(cards, room).len()];
+        let mut image = vec![0xee; fresh_of(format, cards, room).len()];
         images::make(run, &mut image, cards, room)?;
-        let mut desks = Desks::new(sender == Sender::Strict);
+        let mut desks = Desks::new(format, sender == Sender::Strict);
         let mut events = Vec::new();
         for _ in 0..random.between(10, 70) {
             let command = match sender {
-                Sender::Anyone => generate::command(random, &image),
-                Sender::Jumping => sessions::jumping(random, &image),
+                Sender::Anyone => generate::command(format, random, &image),
+                Sender::Jumping => sessions::jumping(format, random, &image),
                 _ => desks.command(random, &image),
             };
-            let lent = reply_near(random, &image, &command);
+            let lent = reply_near(format, random, &image, &command);
             let mut reply = lent.clone();
             let told = answer(run, &mut image, &command, &mut reply)?;
-            events.push(Event::new(&command, lent, told, &reply));
+            events.push(Event::new(format, &command, lent, told, &reply));
             run.seen(Kind::Listed);
-            if let (0, Some(mode)) = (told.number, pairs::opening(&command)) {
+            if let (0, Some(mode)) = (told.number, pairs::opening(format, &command)) {
                 run.seen_at(Kind::ListedOpenings, usize::from(mode == Mode::Exclusive));
             }
         }

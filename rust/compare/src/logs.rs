@@ -8,6 +8,7 @@ use second::log::{ReadBack, Record, BODIES, LINE_BYTES, LOG_LIMIT, OTHER_STORES,
 use second::random::Random;
 use second::recovery::recover_by;
 use second::short::fresh;
+use second::Format::V1;
 use second::{read_back, Language, Layout, Recovered};
 
 use crate::answers::answer;
@@ -215,7 +216,7 @@ fn any_record(random: &mut Random, last: u32) -> Append {
 
 /// Pairs for an image: near the stored ones, or older, or missing.
 fn pairs_for(random: &mut Random, image: &[u8]) -> Pairs {
-    let layout = Layout::of_header(image);
+    let layout = Layout::of_header(V1, image);
     let cards = layout.map_or(1, Layout::cards) as u16;
     let mut pairs = Pairs::default();
     for card in 0..=cards {
@@ -246,8 +247,8 @@ fn pairs_for(random: &mut Random, image: &[u8]) -> Pairs {
 /// A history of appends from an empty log, then a cut at every store of the
 /// whole, and recovery.
 fn cut_everywhere(run: &mut Run, random: &mut Random) -> Compared<()> {
-    let image = generate::sound_image(random);
-    let cards = Layout::of_header(&image).map_or(1, Layout::cards) as u16;
+    let image = generate::sound_image(V1, random);
+    let cards = Layout::of_header(V1, &image).map_or(1, Layout::cards) as u16;
     let pairs = pairs_for(random, &image);
     let start = vec![0; random.between(BODIES as u64 + 20, BODIES as u64 + 200) as usize];
     let mut log = start.clone();
@@ -337,11 +338,11 @@ fn texts(run: &mut Run, records: &[Append], before: &[u8], after: &[u8]) -> Comp
             last.insert((card, body[2]), &body[3..]);
         }
     }
-    let Some(layout) = Layout::of_header(after) else {
+    let Some(layout) = Layout::of_header(V1, after) else {
         return Err("no image after a recovery".into());
     };
     for card in 0..layout.cards() as u16 {
-        for (side, language) in [(1, Language::Original), (2, Language::Translation)] {
+        for (side, language) in [(1, Language::Original), (2, Language::Translation(0))] {
             let written = last.get(&(card, side)).copied();
             run.seen_at(Kind::RecoveredTexts, usize::from(written.is_none()));
             let expected = written.or_else(|| layout.text(before, card, language));
@@ -361,11 +362,11 @@ fn twice(run: &mut Run, random: &mut Random, log: &[u8], image: &mut [u8]) -> Co
     if recover(run, log, image, &pairs)?.number != 0 {
         return Ok(());
     }
-    let Some(layout) = Layout::of_header(image) else {
+    let Some(layout) = Layout::of_header(V1, image) else {
         return Ok(());
     };
     for card in 0..layout.cards() as u16 {
-        for language in [Language::Original, Language::Translation] {
+        for language in [Language::Original, Language::Translation(0)] {
             let text = |image| layout.text(image, card, language);
             same("texts after two", text(image), text(&once), || {
                 bytes("log", log)
@@ -382,7 +383,7 @@ fn twice(run: &mut Run, random: &mut Random, log: &[u8], image: &mut [u8]) -> Co
 fn limits(run: &mut Run, random: &mut Random) -> Compared<()> {
     let length = random.pick(&[LOG_LIMIT, BODIES + 3_000, BODIES + 400]);
     let mut log = vec![0; length];
-    let image = generate::sound_image_of(random, 3, 16);
+    let image = generate::sound_image_of(V1, random, 3, 16);
     loop {
         let read = read_back(&log).unwrap_or_default();
         let by_room = read.records.len() < RECORDS;
@@ -424,7 +425,7 @@ fn roomy(run: &mut Run, random: &mut Random) -> Compared<()> {
 /// A log of some records with each byte of the count, the lines and the
 /// bodies changed in turn.
 fn damaged(run: &mut Run, random: &mut Random) -> Compared<()> {
-    let image = generate::sound_image(random);
+    let image = generate::sound_image(V1, random);
     let pairs = pairs_for(random, &image);
     let mut log = vec![0; BODIES + 120];
     for _ in 0..random.between(3, 8) {
@@ -501,19 +502,25 @@ fn any_bytes(run: &mut Run, random: &mut Random) -> Compared<()> {
 fn mixed(run: &mut Run, random: &mut Random) -> Compared<()> {
     let large = random.one_in(5);
     let (cards, room) = match large {
-        true => random.pick(&generate::LARGE),
+        true => random.pick(&generate::large(V1)),
         false => random.pick(&[(1, 16), (2, 16)]),
     };
     let mut image = vec![0xee; fresh(cards, room).len()];
     images::make(run, &mut image, cards, room)?;
-    let mut desks = Desks::new(true);
+    let mut desks = Desks::new(V1, true);
     let mut events = Vec::new();
     for _ in 0..random.between(2, 5) {
         for _ in 0..random.between(2, 8) {
             let command = desks.command(random, &image);
             let mut reply = vec![0; room as usize];
             let told = answer(run, &mut image, &command, &mut reply)?;
-            events.push(Event::new(&command, vec![0; room as usize], told, &reply));
+            events.push(Event::new(
+                V1,
+                &command,
+                vec![0; room as usize],
+                told,
+                &reply,
+            ));
         }
         let mut log = vec![0; BODIES + 100];
         for _ in 0..random.between(3, 7) {
@@ -544,7 +551,7 @@ fn recovery_by_requests(
     let again = recover_by(log, &mut by_requests, s, x, |image, command| {
         match answer(run, image, command, &mut []) {
             Ok(told) => {
-                events.push(Event::new(command, Vec::new(), told, &[]));
+                events.push(Event::new(V1, command, Vec::new(), told, &[]));
                 run.seen_at(Kind::RecoveryWrites, usize::from(told.number != 0));
                 told.number
             }

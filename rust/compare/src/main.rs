@@ -1,5 +1,5 @@
-//! `compare test` runs a fixed seed and 4,000,000 cases; `compare soak
-//! N` runs N cases, 500,000 at the least, with a new seed, which it prints.
+//! `compare test` runs a fixed seed and 8,000,000 cases; `compare soak
+//! N` runs N cases, 2,000,000 at the least, with a new seed, which it prints.
 //! `compare seed S N` runs any seed again. Each prints the coverage table at
 //! its end, and fails at the first difference, and where a number or a kind of
 //! the table never came.
@@ -10,18 +10,19 @@ use std::time::{Instant, SystemTime, UNIX_EPOCH};
 use compare::coverage::Run;
 use compare::run::Compared;
 use compare::{
-    answers, desks, history, images, lapses, lists, logs, outputs, program, proposals, queues,
-    runs, streams, swaps, systems, texts, trials, upgrades,
+    answers, conversions, desks, history, images, languages, lapses, lists, logs, outputs, program,
+    proposals, queues, runs, streams, swaps, systems, texts, trials, upgrades,
 };
 use second::random::Random;
+use second::Format;
 
 /// The fixed seed and the cases of `make test`, and its inputs to the program.
 const SEED: u64 = 1;
-const CASES: u64 = 4_000_000;
+const CASES: u64 = 8_000_000;
 const INPUTS: u64 = 10_000;
 
 /// The fewest cases, in which every kind of the table comes.
-const LEAST: u64 = 500_000;
+const LEAST: u64 = 2_000_000;
 
 fn main() -> ExitCode {
     let words: Vec<String> = std::env::args().skip(1).collect();
@@ -84,6 +85,23 @@ fn compared(run: &mut Run, seed: u64, cases: u64, inputs: u64) -> Compared<()> {
 
 /// Some of everything.
 fn round(run: &mut Run, random: &mut Random) -> Compared<()> {
+    run.format = Format::V2;
+    of_version(run, random)?;
+    conversions::any(run, random)?;
+    run.format = Format::V1;
+    of_version(run, random)?;
+    queues::any(run, random)?;
+    lapses::any(run, random)?;
+    desks::any(run, random)?;
+    proposals::any(run, random)?;
+    runs::any(run, random)?;
+    texts::any(run, random)?;
+    history::any(run, random)?;
+    logs::any(run, random)
+}
+
+/// Some of everything that there is in both versions.
+fn of_version(run: &mut Run, random: &mut Random) -> Compared<()> {
     answers::singles(run, random)?;
     answers::replies(run, random)?;
     answers::malformed(run, random)?;
@@ -91,19 +109,12 @@ fn round(run: &mut Run, random: &mut Random) -> Compared<()> {
     images::beyond(run, random)?;
     images::damaged(run, random)?;
     images::making(run, random)?;
+    languages::other_version(run, random)?;
     lists::any(run, random)?;
     lists::any(run, random)?;
-    queues::any(run, random)?;
-    lapses::any(run, random)?;
-    desks::any(run, random)?;
-    proposals::any(run, random)?;
     systems::any(run, random)?;
     streams::any(run, random)?;
-    runs::any(run, random)?;
-    texts::any(run, random)?;
-    history::any(run, random)?;
-    swaps::any(run, random)?;
-    logs::any(run, random)
+    swaps::any(run, random)
 }
 
 /// Prints the table, and what never came.

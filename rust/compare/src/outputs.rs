@@ -5,10 +5,12 @@
 use second::generate;
 use second::program::INPUT_LIMIT;
 use second::random::Random;
-use second::short::{fresh, put_card, write_original};
+use second::short::{entry, fresh, put_card, write_original};
+use second::Format::{V1, V2};
 use second::{Entry, Mark, Pair};
 
 use crate::coverage::{Kind, Run};
+use crate::program::front_of_version_2;
 use crate::proved;
 use crate::run::{bytes, same, Compared};
 
@@ -46,6 +48,12 @@ pub fn input(random: &mut Random, sort: u64) -> Vec<u8> {
             input.truncate(length);
             input
         }
+        7 => {
+            let mut input = generate::sound_image(V2, random);
+            let format = random.pick(&[V1, V2]);
+            input.extend(generate::stream(format, random, &input));
+            input
+        }
         _ => wide(random),
     }
 }
@@ -53,7 +61,7 @@ pub fn input(random: &mut Random, sort: u64) -> Vec<u8> {
 /// A command without a payload, which fits a card of the image.
 fn bare(random: &mut Random, image: &[u8]) -> Vec<u8> {
     loop {
-        let command = generate::fitting_command(random, image);
+        let command = generate::fitting_command(V1, random, image);
         if command.len() == 52 {
             return command;
         }
@@ -62,7 +70,7 @@ fn bare(random: &mut Random, image: &[u8]) -> Vec<u8> {
 
 /// An image of one card, and so many commands of 52 bytes behind it.
 fn dense(random: &mut Random, commands: usize) -> Vec<u8> {
-    let image = generate::sound_image_of(random, 1, 16);
+    let image = generate::sound_image_of(V1, random, 1, 16);
     let mut input = image.clone();
     for _ in 0..commands {
         input.extend(bare(random, &image));
@@ -73,10 +81,10 @@ fn dense(random: &mut Random, commands: usize) -> Vec<u8> {
 /// An image, and commands with short payloads up to so many bytes in all: the
 /// last one is whole, or a part of one is left over.
 fn full(random: &mut Random, length: usize, cut: bool) -> Vec<u8> {
-    let image = generate::sound_image(random);
+    let image = generate::sound_image(V1, random);
     let mut input = image.clone();
     while length - input.len() >= 220 {
-        input.extend(generate::fitting_command(random, &image));
+        input.extend(generate::fitting_command(V1, random, &image));
     }
     if !cut {
         let text = random.bytes(length - input.len() - 52);
@@ -94,7 +102,7 @@ fn full(random: &mut Random, length: usize, cut: bool) -> Vec<u8> {
 
 /// An image, and a command that lacks any number of bytes of a long payload.
 fn unfinished(random: &mut Random) -> Vec<u8> {
-    let mut input = generate::sound_image_of(random, 1, 16);
+    let mut input = generate::sound_image_of(V1, random, 1, 16);
     let most = random.pick(&[10, 100, 1_000, 10_000, 65_000]);
     let left = random.index(most);
     let command = write_original(Pair::default(), &[7; 65_100]);
@@ -112,15 +120,13 @@ fn wide(random: &mut Random) -> Vec<u8> {
         let entry = Entry {
             pair: Pair::new(wide_stamp(random), wide_stamp(random)),
             mark: Mark::new(edition | 1, transaction | 1),
-            edition,
-            translated_from: edition >> random.below(16),
-            ..Entry::default()
+            ..entry(edition, edition >> random.below(16))
         };
         put_card(&mut image, card, entry, &[], &[]);
     }
     let mut input = image.clone();
     for _ in 0..random.below(12) {
-        input.extend(generate::fitting_command(random, &image));
+        input.extend(generate::fitting_command(V1, random, &image));
     }
     input
 }
@@ -173,6 +179,10 @@ fn compared(run: &mut Run, input: &[u8], room: usize) -> Compared<()> {
         .for_each(|at| run.seen_at(Kind::OutputRooms, at));
     if room >= LONGEST {
         counted(run, input, &second);
+        if front_of_version_2(input) {
+            same("output on version 2", &*told, "bad store\n", lent)?;
+            run.seen_at(Kind::OtherFronts, 1);
+        }
     }
     Ok(())
 }

@@ -2,17 +2,18 @@
 //! they stand.
 
 use second::stamp::is_valid;
-use second::{Command, CommandFields, Entry, Mode, Pair};
+use second::{Command, CommandFields, Entry, Format, Mode, Pair};
 
 use crate::coverage::{Kind, Run};
 
 /// Counts what the two pairs of a command are, for the entry of its card if it
 /// has one and the number that it got.
 pub fn note(run: &mut Run, bytes: &[u8], stored: Option<Entry>, number: u8) {
-    let Some(fields) = CommandFields::from_bytes(bytes) else {
+    let format = run.format;
+    let Some(fields) = CommandFields::from_bytes(format, bytes) else {
         return;
     };
-    match (Command::parse(bytes), stored) {
+    match (Command::parse(format, bytes), stored) {
         (Some(_), Some(_)) if fields.update == Pair::default() => {}
         (Some(command), Some(stored)) => judged(run, &command, stored, number),
         (None, _) if number == 1 => refused(run, &fields, bytes),
@@ -47,8 +48,8 @@ fn judged(run: &mut Run, command: &Command, stored: Entry, number: u8) {
 
 /// The command is well formed, and its update pair is above its verifier: it
 /// opens a session.
-pub fn opening(bytes: &[u8]) -> Option<Mode> {
-    let command = Command::parse(bytes)?;
+pub fn opening(format: Format, bytes: &[u8]) -> Option<Mode> {
+    let command = Command::parse(format, bytes)?;
     (command.update != command.verifier).then_some(command.mode)
 }
 
@@ -56,8 +57,10 @@ pub fn opening(bytes: &[u8]) -> Option<Mode> {
 fn refused(run: &mut Run, fields: &CommandFields, bytes: &[u8]) {
     let (verifier, update) = (fields.pair, fields.update);
     let formed = |fields: CommandFields| {
-        let payload = bytes.get(52..).unwrap_or_default();
-        Command::parse(&fields.followed_by(payload)).is_some()
+        let payload = bytes
+            .get(fields.format.command_bytes()..)
+            .unwrap_or_default();
+        Command::parse(fields.format, &fields.followed_by(payload)).is_some()
     };
     let with = |update| formed(CommandFields { update, ..*fields });
     // The largest stamp is valid, and at least every verifier's.

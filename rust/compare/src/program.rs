@@ -10,7 +10,8 @@ use std::time::Duration;
 use second::generate;
 use second::program::INPUT_LIMIT;
 use second::random::Random;
-use second::short::fresh;
+use second::short::{fresh, fresh_of};
+use second::Format::{V1, V2};
 use second::Layout;
 
 use crate::coverage::{Kind, Run};
@@ -109,7 +110,11 @@ impl Program {
         if let Some(past @ 0..2) = input.len().checked_sub(INPUT_LIMIT) {
             run.seen_at(Kind::InputLengths, past);
         }
-        let front = Layout::of_header(input).map(|layout| (layout.cards(), layout.room()));
+        if front_of_version_2(input) {
+            same("program on version 2", proved.as_str(), "bad store\n", lent)?;
+            run.seen_at(Kind::OtherFronts, 0);
+        }
+        let front = Layout::of_header(V1, input).map(|layout| (layout.cards(), layout.room()));
         let large = FRONTS
             .iter()
             .position(|&(cards, room)| front == Some((cards as usize, room as usize)));
@@ -129,6 +134,14 @@ impl Drop for Program {
 /// The signal of a pipe that nobody reads.
 const SIGPIPE: i32 = 13;
 
+/// Whether a sound image of version 2 stands in front of an input that is not
+/// too long.
+pub fn front_of_version_2(input: &[u8]) -> bool {
+    let size = Layout::of_header(V2, input).map(Layout::size);
+    let front = size.and_then(|size| input.get(..size));
+    input.len() <= INPUT_LIMIT && front.is_some_and(|front| V2.is_sound(front))
+}
+
 /// The edges of an input's length, and of what an image leaves of it; then the
 /// sorts of inputs with long outputs.
 const EDGES: u64 = LENGTHS + outputs::SORTS;
@@ -142,7 +155,9 @@ const FRONTS: [(u64, u64); 4] = [(31, 1_024), (73, 432), (62, 512), (89, 352)];
 fn input(random: &mut Random, edge: u64) -> Vec<u8> {
     let mut input = match random.below(24) {
         0 => fresh(1, 16),
-        _ => generate::image(random),
+        1 => generate::sound_image(V2, random),
+        2 => fresh_of(V2, 1, 16),
+        _ => generate::image(V1, random),
     };
     match edge {
         0 => input.truncate(0),
@@ -150,7 +165,7 @@ fn input(random: &mut Random, edge: u64) -> Vec<u8> {
         2 | 3 => input.truncate(16),
         4 | 5 => input.truncate(input.len().saturating_sub(1)),
         6..=8 => {
-            let image = generate::sound_image(random);
+            let image = generate::sound_image(V1, random);
             return filled(random, image, INPUT_LIMIT + 7 - edge as usize);
         }
         9 => return random.bytes(INPUT_LIMIT + 1),
@@ -158,14 +173,15 @@ fn input(random: &mut Random, edge: u64) -> Vec<u8> {
         LENGTHS..EDGES => return outputs::input(random, edge - LENGTHS),
         12..LENGTHS => {
             let (cards, room) = FRONTS[(edge - 12) as usize % FRONTS.len()];
-            let image = generate::sound_image_of(random, cards, room);
+            let image = generate::sound_image_of(V1, random, cards, room);
             let past = (edge - 12) as usize / FRONTS.len();
             return filled(random, image, INPUT_LIMIT + past);
         }
         _ => {
             let image = input.clone();
             for _ in 0..random.below(4) {
-                input.extend(generate::stream(random, &image));
+                let format = if random.one_in(8) { V2 } else { V1 };
+                input.extend(generate::stream(format, random, &image));
             }
         }
     }
@@ -180,7 +196,7 @@ fn input(random: &mut Random, edge: u64) -> Vec<u8> {
 fn filled(random: &mut Random, image: Vec<u8>, length: usize) -> Vec<u8> {
     let mut input = image.clone();
     while input.len() < length {
-        input.extend(generate::command(random, &image));
+        input.extend(generate::command(V1, random, &image));
     }
     input.truncate(length);
     input

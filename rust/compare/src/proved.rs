@@ -2,7 +2,7 @@
 //! `crates/capi`. Slices are a pointer and a length there, arrays a pointer.
 
 use second::short::Kept;
-use second::{Held, Language, Place, Turn};
+use second::{Format, Held, Language, Place, Turn};
 
 mod exported {
     extern "C" {
@@ -16,6 +16,23 @@ mod exported {
             reply: *mut u8,
             reply_length: usize,
             fields: *mut [u64; 7],
+        ) -> u8;
+        pub fn lupaniele_make_v2(image: *mut u8, length: usize, cards: u64, room: u64) -> u8;
+        pub fn lupaniele_sound_v2(image: *const u8, length: usize) -> bool;
+        pub fn lupaniele_answer_v2(
+            image: *mut u8,
+            image_length: usize,
+            command: *const u8,
+            command_length: usize,
+            reply: *mut u8,
+            reply_length: usize,
+            fields: *mut [u64; 7],
+        ) -> u8;
+        pub fn lupaniele_convert(
+            image: *const u8,
+            image_length: usize,
+            target: *mut u8,
+            target_length: usize,
         ) -> u8;
         pub fn lupaniele_ask(
             modes: *mut [u8; 32],
@@ -51,6 +68,8 @@ mod exported {
         ) -> u8;
         pub fn lupaniele_next(stream: *const u8, length: usize, at: u64, end: *mut u64) -> bool;
         pub fn lupaniele_end(stream: *const u8, length: usize) -> u64;
+        pub fn lupaniele_next_v2(stream: *const u8, length: usize, at: u64, end: *mut u64) -> bool;
+        pub fn lupaniele_end_v2(stream: *const u8, length: usize) -> u64;
         pub fn lupaniele_run(
             image: *mut u8,
             image_length: usize,
@@ -72,15 +91,36 @@ mod exported {
 }
 
 /// Makes a fresh image: 0, or 14 and nothing written.
-pub fn make(image: &mut [u8], cards: u64, room: u64) -> u8 {
+pub fn make(format: Format, image: &mut [u8], cards: u64, room: u64) -> u8 {
+    let make = match format {
+        Format::V1 => exported::lupaniele_make,
+        Format::V2 => exported::lupaniele_make_v2,
+    };
     // SAFETY: the pointer and the length are the slice's.
-    unsafe { exported::lupaniele_make(image.as_mut_ptr(), image.len(), cards, room) }
+    unsafe { make(image.as_mut_ptr(), image.len(), cards, room) }
 }
 
 /// Whether the bytes are a sound image.
-pub fn sound(image: &[u8]) -> bool {
+pub fn sound(format: Format, image: &[u8]) -> bool {
+    let sound = match format {
+        Format::V1 => exported::lupaniele_sound,
+        Format::V2 => exported::lupaniele_sound_v2,
+    };
     // SAFETY: the pointer and the length are the slice's.
-    unsafe { exported::lupaniele_sound(image.as_ptr(), image.len()) }
+    unsafe { sound(image.as_ptr(), image.len()) }
+}
+
+/// Converts an image of version 1: 0, or 9 or 14 and nothing written.
+pub fn convert(image: &[u8], target: &mut [u8]) -> u8 {
+    // SAFETY: the pointers and lengths are the slices', which do not overlap.
+    unsafe {
+        exported::lupaniele_convert(
+            image.as_ptr(),
+            image.len(),
+            target.as_mut_ptr(),
+            target.len(),
+        )
+    }
 }
 
 /// The number and the seven reply fields.
@@ -93,12 +133,16 @@ pub struct Answer {
 }
 
 /// One request on an image.
-pub fn answer(image: &mut [u8], command: &[u8], reply: &mut [u8]) -> Answer {
+pub fn answer(format: Format, image: &mut [u8], command: &[u8], reply: &mut [u8]) -> Answer {
+    let answer = match format {
+        Format::V1 => exported::lupaniele_answer,
+        Format::V2 => exported::lupaniele_answer_v2,
+    };
     // A value that no field has, to see that each is written.
     let mut fields = [0x5a5a_5a5a_5a5a_5a5a; 7];
     // SAFETY: the pointers and lengths are the slices', which do not overlap.
     let number = unsafe {
-        exported::lupaniele_answer(
+        answer(
             image.as_mut_ptr(),
             image.len(),
             command.as_ptr(),
@@ -244,23 +288,31 @@ pub fn shown(held: &Held, asked: u8) -> (u8, u64) {
 pub fn asked(language: Language) -> u8 {
     match language {
         Language::Original => 0,
-        Language::Translation => 1,
+        Language::Translation(_) => 1,
     }
 }
 
 /// Whether a whole command stands at a place of a stream, and the place
 /// behind it, or the place itself.
-pub fn next(stream: &[u8], at: u64) -> (bool, u64) {
+pub fn next(format: Format, stream: &[u8], at: u64) -> (bool, u64) {
+    let next = match format {
+        Format::V1 => exported::lupaniele_next,
+        Format::V2 => exported::lupaniele_next_v2,
+    };
     let mut end = 0x5a5a_5a5a;
     // SAFETY: the pointer and the length are the slice's.
-    let whole = unsafe { exported::lupaniele_next(stream.as_ptr(), stream.len(), at, &mut end) };
+    let whole = unsafe { next(stream.as_ptr(), stream.len(), at, &mut end) };
     (whole, end)
 }
 
 /// The byte where the walk of a stream ends.
-pub fn end(stream: &[u8]) -> u64 {
+pub fn end(format: Format, stream: &[u8]) -> u64 {
+    let end = match format {
+        Format::V1 => exported::lupaniele_end,
+        Format::V2 => exported::lupaniele_end_v2,
+    };
     // SAFETY: the pointer and the length are the slice's.
-    unsafe { exported::lupaniele_end(stream.as_ptr(), stream.len()) }
+    unsafe { end(stream.as_ptr(), stream.len()) }
 }
 
 /// Writes what the program prints for an input, and tells how many bytes.

@@ -4,7 +4,7 @@
 
 use second::generate;
 use second::random::Random;
-use second::{answer, standing_at, Standing};
+use second::{answer, standing_at, Format, Standing};
 
 use crate::coverage::{Kind, Run};
 use crate::proved;
@@ -15,8 +15,8 @@ type Line = [u64; 8];
 
 /// Streams of any sort, cut anywhere, on images that are sound and damaged.
 pub fn any(run: &mut Run, random: &mut Random) -> Compared<()> {
-    let mut image = generate::sound_image(random);
-    let stream = generate::stream(random, &image);
+    let mut image = generate::sound_image(Format::V1, random);
+    let stream = generate::stream(Format::V1, random, &image);
     let cut = match random.below(3) {
         0 => random.index(stream.len() + 1),
         _ => stream.len(),
@@ -36,7 +36,7 @@ pub fn any(run: &mut Run, random: &mut Random) -> Compared<()> {
 fn told(image: &mut [u8], stream: &[u8], reply: &mut [u8], most: usize) -> (Vec<Line>, usize) {
     let (mut lines, mut at) = (Vec::new(), 0);
     while lines.len() < most {
-        let Standing::Command { next, .. } = standing_at(stream, at) else {
+        let Standing::Command { next, .. } = standing_at(Format::V1, stream, at) else {
             break;
         };
         let given = answer(image, &stream[at..next], reply);

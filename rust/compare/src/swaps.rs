@@ -3,7 +3,7 @@
 
 use second::generate;
 use second::random::Random;
-use second::Command;
+use second::{Command, Format};
 
 use crate::answers::{answer, reply_near};
 use crate::coverage::{Kind, Run};
@@ -15,8 +15,8 @@ type Request = (Vec<u8>, Vec<u8>);
 type Seen = (Answer, Vec<u8>);
 
 /// The card of a request, if it is well formed.
-fn card(request: &Request) -> Option<u16> {
-    Command::parse(&request.0).map(|command| command.card)
+fn card(format: Format, request: &Request) -> Option<u16> {
+    Command::parse(format, &request.0).map(|command| command.card)
 }
 
 /// Sends requests in turn: the image that they leave, and what each one saw.
@@ -33,20 +33,21 @@ fn sent(run: &mut Run, image: &[u8], requests: &[&Request]) -> Compared<(Vec<u8>
 
 /// Two neighbours for different cards, in both orders, on an image of any sort.
 fn neighbours(run: &mut Run, random: &mut Random) -> Compared<()> {
+    let format = run.format;
     let image = match random.one_in(8) {
-        true => generate::image(random),
-        false => generate::sound_image_of(random, 3, 16),
+        true => generate::image(format, random),
+        false => generate::sound_image_of(format, random, 3, 16),
     };
     let request = |random: &mut Random| {
         let command = match random.one_in(6) {
-            true => generate::command(random, &image),
-            false => generate::fitting_command(random, &image),
+            true => generate::command(format, random, &image),
+            false => generate::fitting_command(format, random, &image),
         };
-        let lent = reply_near(random, &image, &command);
+        let lent = reply_near(format, random, &image, &command);
         (command, lent)
     };
     let (a, b) = (request(random), request(random));
-    if card(&a).is_some() && card(&a) == card(&b) {
+    if card(format, &a).is_some() && card(format, &a) == card(format, &b) {
         return Ok(());
     }
     let (image_ab, ab) = sent(run, &image, &[&a, &b])?;
@@ -57,7 +58,7 @@ fn neighbours(run: &mut Run, random: &mut Random) -> Compared<()> {
     same("swapped: answers and replies", &ab, &ba, input)?;
     let numbers = ab.iter().map(|(told, _)| told.number);
     let at = match numbers.filter(|number| *number == 0).count() {
-        _ if card(&a).is_none() || card(&b).is_none() => 2,
+        _ if card(format, &a).is_none() || card(format, &b).is_none() => 2,
         2 => 0,
         _ => 1,
     };
@@ -67,20 +68,21 @@ fn neighbours(run: &mut Run, random: &mut Random) -> Compared<()> {
 
 /// A list, and the same requests card after card with the malformed ones last.
 fn regrouped(run: &mut Run, random: &mut Random) -> Compared<()> {
-    let image = generate::sound_image_of(random, 3, 16);
+    let format = run.format;
+    let image = generate::sound_image_of(format, random, 3, 16);
     let mut list: Vec<Request> = Vec::new();
     for _ in 0..random.between(5, 30) {
-        let command = generate::command(random, &image);
-        let lent = reply_near(random, &image, &command);
+        let command = generate::command(format, random, &image);
+        let lent = reply_near(format, random, &image, &command);
         list.push((command, lent));
     }
     let in_order: Vec<&Request> = list.iter().collect();
     let mut by_card = in_order.clone();
-    by_card.sort_by_key(|request| card(request).map_or(u32::MAX, u32::from));
+    by_card.sort_by_key(|request| card(format, request).map_or(u32::MAX, u32::from));
     let (left, seen) = sent(run, &image, &in_order)?;
     let (left_by_card, seen_by_card) = sent(run, &image, &by_card)?;
     let mut paired: Vec<(&&Request, &Seen)> = in_order.iter().zip(&seen).collect();
-    paired.sort_by_key(|(request, _)| card(request).map_or(u32::MAX, u32::from));
+    paired.sort_by_key(|(request, _)| card(format, request).map_or(u32::MAX, u32::from));
     let told: Vec<&Seen> = paired.into_iter().map(|(_, seen)| seen).collect();
     let told_by_card: Vec<&Seen> = seen_by_card.iter().collect();
     let input = || {

@@ -4,9 +4,9 @@
 //! where one rule is broken the premise is seen to break.
 
 use second::random::Random;
-use second::short::{command, fresh, Kept, EXCLUSIVE, VERIFY};
+use second::short::{fields, fresh_of, Kept, EXCLUSIVE, VERIFY};
 use second::stamp::stamp;
-use second::{Pair, Place, Turn};
+use second::{CommandFields, Pair, Place, Turn};
 
 use crate::answers::answer;
 use crate::coverage::{Kind, Run};
@@ -153,7 +153,7 @@ fn right(run: &mut Run, random: &mut Random) -> Compared<()> {
 
 impl System {
     fn new(run: &mut Run, random: &mut Random, counted: bool) -> Compared<System> {
-        let mut image = vec![0xee; fresh(CARDS.into(), ROOM).len()];
+        let mut image = vec![0xee; fresh_of(run.format, CARDS.into(), ROOM).len()];
         images::make(run, &mut image, CARDS.into(), ROOM)?;
         let queue = |random: &mut Random| Kept::new(random.pick(&[1, 2, 3, 4]), &[]);
         Ok(System {
@@ -327,7 +327,7 @@ impl System {
         open: Open,
         whole: bool,
     ) -> Compared<()> {
-        let mut command = sent(random, &self.image, open);
+        let mut command = sent(run.format, random, &self.image, open);
         if !whole && random.one_in(20) {
             command.truncate(random.index(52));
         }
@@ -346,11 +346,12 @@ impl System {
         let lent = random.bytes(length);
         let mut reply = lent.clone();
         let told = answer(run, &mut self.image, command, &mut reply)?;
-        self.events.push(Event::new(command, lent, told, &reply));
+        self.events
+            .push(Event::new(run.format, command, lent, told, &reply));
         let [s, x, ..] = told.fields;
         self.told.push((card, Pair::new(s, x)));
         self.count(run, 5);
-        if self.counted && told.number == 0 && pairs::opening(command).is_some() {
+        if self.counted && told.number == 0 && pairs::opening(run.format, command).is_some() {
             run.seen(Kind::SystemOpenings);
         }
         Ok(())
@@ -399,7 +400,7 @@ impl System {
                     Wrong::UpdateNotProposed => {
                         let (card, mode, pair) = (0, 2, Pair::new(high.s, first));
                         let open = Open { card, mode, pair };
-                        let command = sent_by(random, &self.image, open, Some(early));
+                        let command = sent_by(run.format, random, &self.image, open, Some(early));
                         return self.sends(run, random, 0, &command);
                     }
                     _ => return self.sent_under(run, random, (2, high.s, first)),
@@ -445,8 +446,11 @@ impl System {
             }
             Wrong::UsedStore | Wrong::UsedQueue => {
                 if broken && rule == Wrong::UsedStore {
-                    let command = command(VERIFY, EXCLUSIVE, early);
-                    answer(run, &mut self.image, &command, &mut [])?;
+                    let verify = CommandFields {
+                        format: run.format,
+                        ..fields(VERIFY, EXCLUSIVE, early)
+                    };
+                    answer(run, &mut self.image, &verify.with_payload(&[]), &mut [])?;
                 }
                 if broken && rule == Wrong::UsedQueue {
                     self.queues[0].largest = early;

@@ -12,12 +12,12 @@ use second::Pair;
 /// bytes.
 fn events(list: &[Vec<u8>]) -> Vec<Event> {
     let mut image = vec![0; 80];
-    assert_eq!(proved::make(&mut image, 1, 16), 0);
+    assert_eq!(proved::make(V1, &mut image, 1, 16), 0);
     let event = |command: &Vec<u8>| {
         let lent = vec![0xaa; 16];
         let mut reply = lent.clone();
-        let answer = proved::answer(&mut image, command, &mut reply);
-        Event::new(command, lent, answer, &reply)
+        let answer = proved::answer(V1, &mut image, command, &mut reply);
+        Event::new(V1, command, lent, answer, &reply)
     };
     list.iter().map(event).collect()
 }

@@ -1,13 +1,12 @@
 //! A command: its bytes, its fields, and when it is well formed (sheet, "A
-//! command"; request 7, the update pair).
+//! command"; request 7, the update pair; request 13, the language).
 
 use crate::endian::{put, u16_at, u32_at, u64_at};
+use crate::format::Format;
 use crate::language::Language;
 use crate::stamp::{Mark, Mode, Pair, Session};
 
-/// The bytes of a command before its payload.
-pub const COMMAND_BYTES: usize = 52;
-/// Where a command holds the length of its payload.
+/// Where a command holds the length of its payload, in either version.
 pub const LENGTH_OFFSET: usize = 50;
 
 /// What a command does.
@@ -22,14 +21,16 @@ pub enum Act {
 }
 
 impl Act {
-    /// The act with this number.
-    pub fn from_number(number: u8) -> Option<Act> {
-        match number {
-            1 => Some(Act::Read(Language::Original)),
-            2 => Some(Act::Read(Language::Translation)),
-            3 => Some(Act::Write(Language::Original)),
-            4 => Some(Act::Write(Language::Translation)),
-            5 => Some(Act::Verify),
+    /// The act with this number, and with this language where it is about a
+    /// translation; every other act has language 0.
+    pub fn from_numbers(format: Format, number: u8, language: u8) -> Option<Act> {
+        let exists = usize::from(language) < format.translations();
+        match (number, language) {
+            (1, 0) => Some(Act::Read(Language::Original)),
+            (2, _) if exists => Some(Act::Read(Language::Translation(language))),
+            (3, 0) => Some(Act::Write(Language::Original)),
+            (4, _) if exists => Some(Act::Write(Language::Translation(language))),
+            (5, 0) => Some(Act::Verify),
             _ => None,
         }
     }
@@ -38,9 +39,9 @@ impl Act {
     pub fn number(self) -> u8 {
         match self {
             Act::Read(Language::Original) => 1,
-            Act::Read(Language::Translation) => 2,
+            Act::Read(Language::Translation(_)) => 2,
             Act::Write(Language::Original) => 3,
-            Act::Write(Language::Translation) => 4,
+            Act::Write(Language::Translation(_)) => 4,
             Act::Verify => 5,
         }
     }
@@ -49,6 +50,8 @@ impl Act {
 /// The fields of a command as its bytes hold them; any values at all.
 #[derive(Clone, Copy, Debug, Default, PartialEq, Eq, Hash)]
 pub struct CommandFields {
+    /// The version whose bytes they are.
+    pub format: Format,
     /// Offset 0.
     pub act: u8,
     /// Offset 1.
@@ -57,9 +60,13 @@ pub struct CommandFields {
     pub card: u16,
     /// Offsets 4 and 12: the verifier.
     pub pair: Pair,
-    /// Offsets 20 and 28: the update pair as it is sent; all zero means the
-    /// same as the verifier.
+    /// The update pair as it is sent, at offsets 20 and 28 of version 1, 52
+    /// and 60 of version 2; all zero means the same as the verifier.
     pub update: Pair,
+    /// Offset 20 of version 2; zero in version 1, which has no such byte.
+    pub language: u8,
+    /// Offsets 21 to 35 of version 2; zeros in version 1.
+    pub reserved: [u8; 15],
     /// Offsets 36 and 38.
     pub expected: Mark,
     /// Offsets 42 and 44.
@@ -71,15 +78,25 @@ pub struct CommandFields {
 }
 
 impl CommandFields {
-    /// Reads the fields from the first 52 bytes, if there are as many.
-    pub fn from_bytes(bytes: &[u8]) -> Option<CommandFields> {
-        let bytes = bytes.get(..COMMAND_BYTES)?;
+    /// Reads the fields from the first bytes, 52 in version 1 and 68 in
+    /// version 2, if there are as many.
+    pub fn from_bytes(format: Format, bytes: &[u8]) -> Option<CommandFields> {
+        let bytes = bytes.get(..format.command_bytes())?;
+        let update = bytes.get(format.update_at()..)?;
+        let (mut language, mut reserved) = (0, [0; 15]);
+        if format == Format::V2 {
+            language = *bytes.get(20)?;
+            put(&mut reserved, 0, bytes.get(21..36)?);
+        }
         Some(CommandFields {
+            format,
             act: *bytes.first()?,
             mode: *bytes.get(1)?,
             card: u16_at(bytes, 2)?,
             pair: Pair::new(u64_at(bytes, 4)?, u64_at(bytes, 12)?),
-            update: Pair::new(u64_at(bytes, 20)?, u64_at(bytes, 28)?),
+            update: Pair::new(u64_at(update, 0)?, u64_at(update, 8)?),
+            language,
+            reserved,
             expected: Mark::new(u16_at(bytes, 36)?, u32_at(bytes, 38)?),
             next: Mark::new(u16_at(bytes, 42)?, u32_at(bytes, 44)?),
             edition: u16_at(bytes, 48)?,
@@ -95,15 +112,20 @@ impl CommandFields {
         }
     }
 
-    /// The 52 bytes of these fields. Nothing is checked.
-    pub fn to_bytes(&self) -> [u8; COMMAND_BYTES] {
-        let mut bytes = [0; COMMAND_BYTES];
+    /// The bytes of these fields. Nothing is checked; version 1 has no place
+    /// for a language.
+    pub fn to_bytes(&self) -> Vec<u8> {
+        let mut bytes = vec![0; self.format.command_bytes()];
         put(&mut bytes, 0, &[self.act, self.mode]);
         put(&mut bytes, 2, &self.card.to_le_bytes());
         put(&mut bytes, 4, &self.pair.s.to_le_bytes());
         put(&mut bytes, 12, &self.pair.x.to_le_bytes());
-        put(&mut bytes, 20, &self.update.s.to_le_bytes());
-        put(&mut bytes, 28, &self.update.x.to_le_bytes());
+        if self.format == Format::V2 {
+            put(&mut bytes, 20, &[self.language]);
+            put(&mut bytes, 21, &self.reserved);
+        }
+        let update = [self.update.s.to_le_bytes(), self.update.x.to_le_bytes()];
+        put(&mut bytes, self.format.update_at(), &update.concat());
         put(&mut bytes, 36, &self.expected.desk.to_le_bytes());
         put(&mut bytes, 38, &self.expected.transaction.to_le_bytes());
         put(&mut bytes, 42, &self.next.desk.to_le_bytes());
@@ -116,7 +138,7 @@ impl CommandFields {
     /// The bytes of these fields followed by a payload, with the length field
     /// as it stands. Nothing is checked.
     pub fn followed_by(&self, payload: &[u8]) -> Vec<u8> {
-        let mut bytes = self.to_bytes().to_vec();
+        let mut bytes = self.to_bytes();
         bytes.extend_from_slice(payload);
         bytes
     }
@@ -155,11 +177,12 @@ pub struct Command<'a> {
 }
 
 impl<'a> Command<'a> {
-    /// The command in these lent bytes, or none if they are malformed.
-    pub fn parse(bytes: &'a [u8]) -> Option<Command<'a>> {
-        let fields = CommandFields::from_bytes(bytes)?;
-        let payload = bytes.get(COMMAND_BYTES..)?;
-        let act = Act::from_number(fields.act)?;
+    /// The command of this version in these lent bytes, or none if they are
+    /// malformed.
+    pub fn parse(format: Format, bytes: &'a [u8]) -> Option<Command<'a>> {
+        let fields = CommandFields::from_bytes(format, bytes)?;
+        let payload = bytes.get(format.command_bytes()..)?;
+        let act = Act::from_numbers(format, fields.act, fields.language)?;
         let mode = Mode::from_number(fields.mode)?;
         let (verifier, update) = (fields.pair, fields.update_pair());
         let desk = mode.desk(update)?;
@@ -167,6 +190,7 @@ impl<'a> Command<'a> {
             && verifier.is_valid()
             && update.s >= verifier.s
             && update.x >= verifier.x
+            && fields.reserved == [0; 15]
             && fields.expected.is_valid()
             && fields.next.is_valid()
             && fits_act(act, mode, &fields);
@@ -198,7 +222,7 @@ impl<'a> Command<'a> {
 /// Writes are exclusive; the edition is nonzero for act 4 and zero for every
 /// other act; the length is zero unless act 3 or 4.
 fn fits_act(act: Act, mode: Mode, fields: &CommandFields) -> bool {
-    let names_edition = act == Act::Write(Language::Translation);
+    let names_edition = matches!(act, Act::Write(Language::Translation(_)));
     let mode_and_length = match act {
         Act::Write(_) => mode == Mode::Exclusive,
         Act::Read(_) | Act::Verify => fields.length == 0,

@@ -27,7 +27,7 @@ pub fn shown<'a>(held: &Held<'a>, language: Language) -> (u8, &'a [u8]) {
     let translation = prefix(held.translation, held.translation_length);
     let asked_for = match language {
         Language::Original => held.original,
-        Language::Translation => held.translation,
+        Language::Translation(_) => held.translation,
     };
     let none = asked_for.get(..0).unwrap_or_default();
     let (Some(original), Some(translation)) = (original, translation) else {
@@ -35,8 +35,8 @@ pub fn shown<'a>(held: &Held<'a>, language: Language) -> (u8, &'a [u8]) {
     };
     match language {
         Language::Original => (ACCEPTED, original),
-        Language::Translation if is_behind(held) => (BEHIND, none),
-        Language::Translation => (ACCEPTED, translation),
+        Language::Translation(_) if is_behind(held) => (BEHIND, none),
+        Language::Translation(_) => (ACCEPTED, translation),
     }
 }
 

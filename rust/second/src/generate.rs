@@ -4,9 +4,9 @@
 #![allow(clippy::arithmetic_side_effects, clippy::indexing_slicing)]
 
 use crate::random::Random;
-use crate::short::{fresh, put_card, Kept};
+use crate::short::{entry_of, fresh_of, put_texts, Kept};
 use crate::stamp::{time, MOST_AHEAD};
-use crate::{CommandFields, Entry, Layout, Mark, Pair, Place};
+use crate::{CommandFields, Entry, Format, Layout, Mark, Pair, Place};
 
 /// A few stamps that are often equal or near, some of them not valid.
 pub fn any_stamp(random: &mut Random) -> u64 {
@@ -173,71 +173,91 @@ fn text(random: &mut Random, room: usize) -> Vec<u8> {
 }
 
 /// N and C at the limits and next to them: of the most cards, of the most
-/// room, and of images up to 65,520 bytes, the largest.
-pub const LARGE: [(u64, u64); 9] = [
-    (127, 16),
-    (128, 16),
-    (127, 240),
-    (128, 224),
-    (1, 1_024),
-    (30, 1_024),
-    (31, 1_024),
-    (62, 512),
-    (89, 352),
-];
+/// room, and of the largest images, which have 65,520 bytes in version 1 and
+/// 65,536 in version 2.
+pub fn large(format: Format) -> [(u64, u64); 9] {
+    match format {
+        Format::V1 => [
+            (127, 16),
+            (128, 16),
+            (127, 240),
+            (128, 224),
+            (1, 1_024),
+            (30, 1_024),
+            (31, 1_024),
+            (62, 512),
+            (89, 352),
+        ],
+        Format::V2 => [
+            (127, 16),
+            (128, 16),
+            (127, 80),
+            (128, 80),
+            (1, 1_024),
+            (11, 1_024),
+            (12, 1_024),
+            (15, 864),
+            (65, 192),
+        ],
+    }
+}
 
 /// N and C just beyond one of the limits: of the cards, of the room, and of
 /// the bytes, from 65,552 on.
-pub const BEYOND: [(u64, u64); 9] = [
-    (0, 16),
-    (129, 16),
-    (1, 0),
-    (1, 24),
-    (1, 1_040),
-    (32, 1_024),
-    (32, 1_008),
-    (64, 496),
-    (128, 240),
-];
+pub fn beyond(format: Format) -> [(u64, u64); 9] {
+    let of_bytes = match format {
+        Format::V1 => [(32, 1_024), (32, 1_008), (64, 496), (128, 240)],
+        Format::V2 => [(13, 1_024), (32, 400), (26, 512), (128, 96)],
+    };
+    let [a, b, c, d] = of_bytes;
+    [(0, 16), (129, 16), (1, 0), (1, 24), (1, 1_040), a, b, c, d]
+}
 
 /// A sound image of a few cards.
-pub fn sound_image(random: &mut Random) -> Vec<u8> {
+pub fn sound_image(format: Format, random: &mut Random) -> Vec<u8> {
     let cards = random.pick(&[1, 1, 2, 3]);
     let room = random.pick(&[16, 16, 32, 48]);
-    sound_image_of(random, cards, room)
+    sound_image_of(format, random, cards, room)
 }
 
 /// A sound image of N cards with room C.
-pub fn sound_image_of(random: &mut Random, cards: u64, room: u64) -> Vec<u8> {
-    let mut image = fresh(cards, room);
-    for card in 0..cards as u16 {
-        put_random_card(random, &mut image, card, room as usize);
+pub fn sound_image_of(format: Format, random: &mut Random, cards: u64, room: u64) -> Vec<u8> {
+    let mut image = fresh_of(format, cards, room);
+    if let Some(layout) = Layout::of_header(format, &image) {
+        for card in 0..cards as u16 {
+            put_random_card(random, layout, &mut image, card);
+        }
     }
     image
 }
 
-fn put_random_card(random: &mut Random, image: &mut [u8], card: u16, room: usize) {
+fn put_random_card(random: &mut Random, layout: Layout, image: &mut [u8], card: u16) {
     let edition = random.pick(&[0, 1, 1, 2, 65_534, 65_535]);
-    let earlier = random.between(0, edition.into()) as u16;
-    let translated_from = random.pick(&[0, edition, edition, earlier]);
-    let mut entry = Entry {
+    let mut from = [0; 4];
+    for one in from.iter_mut().take(layout.format().translations()) {
+        let earlier = random.between(0, edition.into()) as u16;
+        *one = random.pick(&[0, edition, edition, earlier]);
+    }
+    let entry = Entry {
         pair: Pair::new(stored_stamp(random), stored_stamp(random)),
         mark: mark(random),
-        ..Entry::default()
+        ..entry_of(edition, from)
     };
-    entry.edition = edition;
-    entry.translated_from = translated_from;
     let mut written = |edition: u16| match edition {
         0 => Vec::new(),
-        _ => text(random, room),
+        _ => text(random, layout.room()),
     };
-    let (original, translation) = (written(edition), written(translated_from));
-    put_card(image, card, entry, &original, &translation);
+    let texts: Vec<Vec<u8>> = std::iter::once(edition)
+        .chain(from)
+        .map(&mut written)
+        .collect();
+    let texts: Vec<&[u8]> = texts.iter().map(Vec::as_slice).collect();
+    put_texts(layout, image, card, entry, &texts);
 }
 
 /// A command that fits a card of the image in most of its fields.
-pub fn fitting_command(random: &mut Random, image: &[u8]) -> Vec<u8> {
-    let layout = Layout::of_header(image);
+pub fn fitting_command(format: Format, random: &mut Random, image: &[u8]) -> Vec<u8> {
+    let layout = Layout::of_header(format, image);
     let cards = layout.map_or(1, Layout::cards);
     let room = layout.map_or(16, Layout::room);
     let card = random.index(cards) as u16;
@@ -249,8 +269,11 @@ pub fn fitting_command(random: &mut Random, image: &[u8]) -> Vec<u8> {
     let pair = near_pair(random, mode, stored.pair);
     let (pair, update) = two_pairs(random, mode, pair);
     let fields = CommandFields {
+        format,
         act,
         mode,
+        language: language(format, random, act),
+        reserved: reserved(format, random),
         card: if random.one_in(16) {
             cards as u16
         } else {
@@ -276,6 +299,26 @@ pub fn fitting_command(random: &mut Random, image: &[u8]) -> Vec<u8> {
     }
 }
 
+/// A language for this act, mostly one that it can name; 0 in version 1.
+fn language(format: Format, random: &mut Random, act: u8) -> u8 {
+    let names = act == 2 || act == 4;
+    match format {
+        Format::V1 => 0,
+        Format::V2 if names != random.one_in(24) => random.below(4) as u8,
+        Format::V2 if names => random.pick(&[4, 5, 0x80, 0xff]),
+        Format::V2 => 0,
+    }
+}
+
+/// The bytes behind the language, mostly zeros.
+fn reserved(format: Format, random: &mut Random) -> [u8; 15] {
+    let mut bytes = [0; 15];
+    if format == Format::V2 && random.one_in(24) {
+        bytes[random.index(15)] = random.pick(&[1, 0x80, 0xff]);
+    }
+    bytes
+}
+
 /// The stored edition or one near it.
 fn named(random: &mut Random, stored: Entry) -> u16 {
     let (below, above) = (
@@ -286,8 +329,11 @@ fn named(random: &mut Random, stored: Entry) -> u16 {
 }
 
 /// A command with any fields.
-pub fn any_command(random: &mut Random) -> Vec<u8> {
+pub fn any_command(format: Format, random: &mut Random) -> Vec<u8> {
     let fields = CommandFields {
+        format,
+        language: random.below(6) as u8,
+        reserved: reserved(format, random),
         act: random.between(0, 6) as u8,
         mode: random.between(0, 3) as u8,
         card: random.pick(&[0, 0, 1, 2, 127, 128, u16::MAX]),
@@ -310,15 +356,17 @@ pub fn any_command(random: &mut Random) -> Vec<u8> {
     }
 }
 
-/// A command of any sort: fitting, with any fields, damaged, or any bytes.
-pub fn command(random: &mut Random, image: &[u8]) -> Vec<u8> {
-    let mut command = match random.below(8) {
-        0 => any_command(random),
-        1 => {
+/// A command of any sort: fitting, of the other version, with any fields,
+/// damaged, or any bytes.
+pub fn command(format: Format, random: &mut Random, image: &[u8]) -> Vec<u8> {
+    let mut command = match random.below(32) {
+        0 => fitting_command(format.other(), random, image),
+        1..=4 => any_command(format, random),
+        5..=8 => {
             let length = random.index(120);
             random.bytes(length)
         }
-        _ => fitting_command(random, image),
+        _ => fitting_command(format, random, image),
     };
     if random.one_in(6) {
         damage(random, &mut command);
@@ -326,19 +374,20 @@ pub fn command(random: &mut Random, image: &[u8]) -> Vec<u8> {
     command
 }
 
-/// An image of any sort: sound, damaged, or any bytes.
-pub fn image(random: &mut Random) -> Vec<u8> {
+/// An image of any sort: sound, of the other version, damaged, or any bytes.
+pub fn image(format: Format, random: &mut Random) -> Vec<u8> {
     match random.below(16) {
+        0 if random.one_in(2) => sound_image(format.other(), random),
         0 => {
             let length = random.index(200);
             random.bytes(length)
         }
         1..=3 => {
-            let mut image = sound_image(random);
+            let mut image = sound_image(format, random);
             damage(random, &mut image);
             image
         }
-        _ => sound_image(random),
+        _ => sound_image(format, random),
     }
 }
 
@@ -432,10 +481,10 @@ fn damage_queue(random: &mut Random, queue: &mut Kept) {
 }
 
 /// A stream of commands, often cut or damaged.
-pub fn stream(random: &mut Random, image: &[u8]) -> Vec<u8> {
+pub fn stream(format: Format, random: &mut Random, image: &[u8]) -> Vec<u8> {
     let mut stream = Vec::new();
     for _ in 0..random.below(6) {
-        stream.extend(command(random, image));
+        stream.extend(command(format, random, image));
     }
     if random.one_in(3) {
         damage(random, &mut stream);

@@ -3,7 +3,7 @@
 //! says no", with 17 after 3).
 
 use crate::command::{Act, Command};
-use crate::entry::Entry;
+use crate::entry::{Entry, Translation};
 use crate::language::Language;
 use crate::number::{
     BEHIND, BUFFER_SHORT, LAST_EDITION, MARK_DIFFERS, PAYLOAD_TOO_LONG, STALE, TOO_FAR_AHEAD,
@@ -20,8 +20,9 @@ impl Entry {
     }
 
     /// A translation is behind if translated-from is 0 or is not the edition.
-    pub fn is_behind(self) -> bool {
-        self.translated_from == 0 || self.translated_from != self.edition
+    pub fn is_behind(self, language: u8) -> bool {
+        let from = self.translation(language).from;
+        from == 0 || from != self.edition
     }
 
     /// Rows 3, 17 and 4 to 8, in the table's order.
@@ -48,8 +49,8 @@ impl Entry {
     /// Row 6.
     fn edition_refuses(self, command: &Command) -> bool {
         match command.act {
-            Act::Read(Language::Translation) => self.is_behind(),
-            Act::Write(Language::Translation) => command.edition != self.edition,
+            Act::Read(Language::Translation(language)) => self.is_behind(language),
+            Act::Write(Language::Translation(_)) => command.edition != self.edition,
             _ => false,
         }
     }
@@ -73,9 +74,11 @@ impl Entry {
                 entry.edition = self.edition.saturating_add(1);
                 entry.original_length = length;
             }
-            Act::Write(Language::Translation) => {
-                entry.translated_from = command.edition;
-                entry.translation_length = length;
+            Act::Write(Language::Translation(language)) => {
+                if let Some(written) = entry.translations.get_mut(usize::from(language)) {
+                    let from = command.edition;
+                    *written = Translation { from, length };
+                }
             }
             Act::Read(_) | Act::Verify => {}
         }

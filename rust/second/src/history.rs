@@ -1,8 +1,10 @@
 //! The history engine: a second, plain engine. It keeps the accepted commands
-//! and works every answer out from them; there is no image.
+//! and works every answer out from them; there is no image. It stays with
+//! version 1.
 
-use crate::command::{Act, Command, CommandFields, COMMAND_BYTES};
-use crate::entry::Entry;
+use crate::command::{Act, Command, CommandFields};
+use crate::entry::{Entry, Translation};
+use crate::format::Format::V1;
 use crate::language::Language;
 use crate::number::{ACCEPTED, HISTORY_FULL, MALFORMED, NO_SUCH_CARD};
 use crate::stamp::Pair;
@@ -28,7 +30,7 @@ impl History {
     pub fn in_bytes(bytes: &[u8], used: usize) -> History {
         let used = bytes.get(..used).unwrap_or(bytes);
         History {
-            kept: Reader::new(used).map(<[u8]>::to_vec).collect(),
+            kept: Reader::new(V1, used).map(<[u8]>::to_vec).collect(),
         }
     }
 
@@ -50,7 +52,7 @@ impl History {
 
     /// The kept commands for a card, the last one first, with their fields.
     fn about(&self, card: u16) -> impl Iterator<Item = (CommandFields, &[u8])> {
-        let fields = |bytes: &Vec<u8>| CommandFields::from_bytes(bytes);
+        let fields = |bytes: &Vec<u8>| CommandFields::from_bytes(V1, bytes);
         let all = self.kept.iter().rev();
         all.filter_map(move |bytes| Some((fields(bytes)?, payload(bytes))))
             .filter(move |(fields, _)| fields.card == card)
@@ -76,10 +78,16 @@ impl History {
 
     /// A card's entry, as the kept commands have made it.
     pub fn entry(&self, card: u16) -> Entry {
-        let length = |language| u16::try_from(self.text(card, language).len());
+        let length = |language| u16::try_from(self.text(card, language).len()).unwrap_or(u16::MAX);
         let pairs = self.about(card).map(|(fields, _)| fields.update_pair());
-        let translated = self.writes(card, Language::Translation).next();
+        let into = Language::Translation(0);
+        let translated = self.writes(card, into).next();
         let editions = self.writes(card, Language::Original).count();
+        let none = Translation::default();
+        let translation = Translation {
+            from: translated.map_or(0, |(last, _)| last.edition),
+            length: length(into),
+        };
         Entry {
             pair: pairs.fold(Pair::default(), Pair::larger),
             mark: self
@@ -87,9 +95,8 @@ impl History {
                 .next()
                 .map_or_else(Default::default, |(last, _)| last.next),
             edition: u16::try_from(editions).unwrap_or(u16::MAX),
-            translated_from: translated.map_or(0, |(last, _)| last.edition),
-            original_length: length(Language::Original).unwrap_or(u16::MAX),
-            translation_length: length(Language::Translation).unwrap_or(u16::MAX),
+            original_length: length(Language::Original),
+            translations: [translation, none, none, none],
         }
     }
 
@@ -102,7 +109,7 @@ impl History {
     /// Judges a command for so many cards with so much room. An accepted one
     /// is kept; a refusal changes nothing.
     pub fn answer(&mut self, cards: u16, room: u16, bytes: &[u8], reply: &mut [u8]) -> Answer {
-        let Some(command) = Command::parse(bytes) else {
+        let Some(command) = Command::parse(V1, bytes) else {
             return Answer::zeros(MALFORMED);
         };
         if command.card >= cards {
@@ -110,10 +117,10 @@ impl History {
         }
         let stands = self.entry(command.card);
         if let Err(number) = stands.take(&command, room.into(), reply.len()) {
-            return Answer::of_entry(number, stands, 0);
+            return Answer::of_entry(number, command.act, stands, 0);
         }
         if self.full_for(&command) {
-            return Answer::of_entry(HISTORY_FULL, stands, 0);
+            return Answer::of_entry(HISTORY_FULL, command.act, stands, 0);
         }
         let mut length = 0;
         if let Act::Read(language) = command.act {
@@ -121,13 +128,13 @@ impl History {
             length = stands.length(language);
         }
         self.kept.push(bytes.to_vec());
-        Answer::of_entry(ACCEPTED, self.entry(command.card), length)
+        Answer::of_entry(ACCEPTED, command.act, self.entry(command.card), length)
     }
 }
 
 /// The payload of a whole command.
 fn payload(bytes: &[u8]) -> &[u8] {
-    bytes.get(COMMAND_BYTES..).unwrap_or_default()
+    bytes.get(V1.command_bytes()..).unwrap_or_default()
 }
 
 /// Judges a command on the history in the first `used` of these bytes, and

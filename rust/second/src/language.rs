@@ -1,10 +1,12 @@
-//! The two texts of a card (sheet, "The image" and "What a desk shows").
+//! The texts of a card (sheet, "The image" and "What a desk shows"; request
+//! 13, languages).
 
-/// Which of a card's two texts is meant.
+/// Which of a card's texts is meant.
 #[derive(Clone, Copy, Debug, PartialEq, Eq, Hash)]
 pub enum Language {
     /// The original.
     Original,
-    /// The translation.
-    Translation,
+    /// The translation into one language, from 0. Version 1 has language 0
+    /// alone.
+    Translation(u8),
 }

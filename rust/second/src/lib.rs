@@ -6,8 +6,9 @@
 //! what the sheet refuses gets a number of its tables, and nothing panics.
 //! The library prints nothing.
 //!
-//! - [`stamp`], [`language`], [`entry`], [`image`]: stamps, pairs, the image
-//!   and its soundness, a fresh image.
+//! - [`format`], [`stamp`], [`language`], [`entry`], [`image`]: the two
+//!   versions, stamps, pairs, the image and its soundness, a fresh image,
+//!   conversion from version 1 to version 2.
 //! - [`command`], [`guard`](Entry::take), [`store`]: commands and the answers
 //!   0 to 9 and 17.
 //! - [`desk`]: the text a desk shows.
@@ -39,6 +40,7 @@ pub mod command;
 pub mod desk;
 pub mod endian;
 pub mod entry;
+pub mod format;
 pub mod generate;
 mod guard;
 pub mod history;
@@ -61,9 +63,10 @@ pub mod trials;
 
 pub use command::{Act, Command, CommandFields};
 pub use desk::{shown, Held};
-pub use entry::Entry;
+pub use entry::{Entry, Translation};
+pub use format::Format;
 pub use history::History;
-pub use image::{is_sound, make_fresh, Layout};
+pub use image::{convert, is_sound, make_fresh, Layout};
 pub use language::Language;
 pub use lease::{Lease, Silence};
 pub use log::{append, check, read_back};

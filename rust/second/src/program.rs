@@ -1,6 +1,7 @@
 //! The program's whole output for any standard input (sheet, "Streams and the
-//! program").
+//! program"). It reads version 1 alone.
 
+use crate::format::Format::V1;
 use crate::image::Layout;
 use crate::store::Answer;
 use crate::stream;
@@ -22,16 +23,16 @@ pub fn output(input: &[u8]) -> String {
 /// The sound image at the front of the input, as long as its header says, and
 /// the stream after it.
 fn split(input: &[u8]) -> Option<(Layout, &[u8], &[u8])> {
-    let size = Layout::of_header(input)?.size();
+    let size = Layout::of_header(V1, input)?.size();
     let (image, commands) = input.split_at_checked(size)?;
-    Some((Layout::of_sound(image)?, image, commands))
+    Some((Layout::of_sound(V1, image)?, image, commands))
 }
 
 /// Runs the stream with a reply buffer of C bytes and prints the lines.
 fn run(layout: Layout, image: &[u8], commands: &[u8]) -> String {
     let mut image = image.to_vec();
     let mut reply = vec![0; layout.room()];
-    let (answers, walk) = stream::run(&mut image, commands, &mut reply);
+    let (answers, walk) = stream::run(V1, &mut image, commands, &mut reply);
     let mut lines = vec![format!("cards {}\n", layout.cards())];
     lines.extend((1_u64..).zip(&answers).map(line));
     lines.push(match walk.cut {

@@ -1,6 +1,8 @@
-//! Recovery from a desk's redo log, through the guard (request 6).
+//! Recovery from a desk's redo log, through the guard (request 6). It stays
+//! with version 1.
 
 use crate::command::CommandFields;
+use crate::format::Format::V1;
 use crate::image::Layout;
 use crate::log::{read_back, Logged, Record};
 use crate::number::{ACCEPTED, BAD_LOG};
@@ -77,7 +79,7 @@ fn write(
     if !records.iter().any(committed) || records.iter().any(synced) {
         return None;
     }
-    let stored = Layout::of_sound(image).and_then(|layout| layout.entry(image, card));
+    let stored = Layout::of_sound(V1, image).and_then(|layout| layout.entry(image, card));
     let stored = stored.unwrap_or_default();
     let stamp = |stamps: &[u64]| stamps.get(usize::from(card)).copied().unwrap_or(0);
     let fields = CommandFields {

@@ -5,12 +5,15 @@
 #![allow(clippy::expect_used, clippy::panic, clippy::indexing_slicing)]
 
 use crate::stamp::stamp;
-use crate::{make_fresh, CommandFields, Entry, Language, Layout, Mark, Pair, Place, Queue};
+pub use crate::Format::{V1, V2};
+use crate::{
+    CommandFields, Entry, Format, Language, Layout, Mark, Pair, Place, Queue, Translation,
+};
 
 /// The original.
 pub const ORIGINAL: Language = Language::Original;
-/// The translation.
-pub const TRANSLATION: Language = Language::Translation;
+/// The translation of version 1.
+pub const TRANSLATION: Language = Language::Translation(0);
 
 /// Act 1.
 pub const READ_ORIGINAL: u8 = 1;
@@ -91,30 +94,51 @@ pub fn on_card(card: u16, mut command: Vec<u8>) -> Vec<u8> {
     command
 }
 
-/// A fresh image.
+/// A command of version 2 with these fields, about this language.
+pub fn into(language: u8, fields: CommandFields) -> CommandFields {
+    CommandFields {
+        format: V2,
+        language,
+        ..fields
+    }
+}
+
+/// A fresh image of version 1.
 pub fn fresh(cards: u64, room: u64) -> Vec<u8> {
-    let layout = Layout::new(cards, room).expect("N and C keep the rules");
+    fresh_of(V1, cards, room)
+}
+
+/// A fresh image of a version.
+pub fn fresh_of(format: Format, cards: u64, room: u64) -> Vec<u8> {
+    let layout = Layout::new(format, cards, room).expect("N and C keep the rules");
     let mut image = vec![0xee; layout.size()];
-    assert_eq!(make_fresh(&mut image, cards, room), 0);
+    assert_eq!(format.make_fresh(&mut image, cards, room), 0);
     image
 }
 
-/// The layout of an image whose header is right.
+/// The layout of an image of version 1 whose header is right.
 pub fn layout(image: &[u8]) -> Layout {
-    Layout::of_header(image).expect("the header is right")
+    Layout::of_header(V1, image).expect("the header is right")
 }
 
-/// Sets a card's texts and its entry, whose lengths follow the texts.
+/// Sets a card's texts and its entry, whose lengths follow the texts, in an
+/// image of version 1.
 pub fn put_card(image: &mut [u8], card: u16, entry: Entry, original: &[u8], translation: &[u8]) {
-    let layout = layout(image);
-    let entry = Entry {
-        original_length: original.len() as u16,
-        translation_length: translation.len() as u16,
-        ..entry
-    };
+    put_texts(layout(image), image, card, entry, &[original, translation]);
+}
+
+/// Sets a card's texts, the original first, and its entry, whose lengths
+/// follow the texts; there are no more texts than the version has.
+pub fn put_texts(layout: Layout, image: &mut [u8], card: u16, mut entry: Entry, texts: &[&[u8]]) {
+    for (language, text) in layout.languages().zip(texts) {
+        let length = text.len() as u16;
+        match language {
+            Language::Original => entry.original_length = length,
+            Language::Translation(at) => entry.translations[usize::from(at)].length = length,
+        }
+        layout.put_text(image, card, language, text);
+    }
     layout.put_entry(image, card, entry);
-    layout.put_text(image, card, ORIGINAL, original);
-    layout.put_text(image, card, TRANSLATION, translation);
 }
 
 /// The image of one card with room 16, this entry and these texts.
@@ -124,11 +148,16 @@ pub fn one_card(entry: Entry, original: &[u8], translation: &[u8]) -> Vec<u8> {
     image
 }
 
-/// An entry of this edition and translated-from.
+/// An entry of this edition and translated-from, as in version 1.
 pub fn entry(edition: u16, translated_from: u16) -> Entry {
+    entry_of(edition, [translated_from, 0, 0, 0])
+}
+
+/// An entry of this edition, with translated-from of each language.
+pub fn entry_of(edition: u16, translated_from: [u16; 4]) -> Entry {
     Entry {
         edition,
-        translated_from,
+        translations: translated_from.map(|from| Translation { from, length: 0 }),
         ..Entry::default()
     }
 }

@@ -1,8 +1,11 @@
-//! The answer to one command (sheet, "When the store says no").
+//! The answer to one command (sheet, "When the store says no"; request 13,
+//! version 2).
 
 use crate::command::{Act, Command};
 use crate::entry::Entry;
+use crate::format::Format;
 use crate::image::Layout;
+use crate::language::Language;
 use crate::number::{ACCEPTED, MALFORMED, NO_SUCH_CARD, UNSOUND};
 use crate::stamp::{Mark, Pair};
 
@@ -15,7 +18,8 @@ pub struct ReplyFields {
     pub mark: Mark,
     /// The edition.
     pub edition: u16,
-    /// Translated-from.
+    /// Translated-from of the language that the command names; of language 0
+    /// for an act that names none.
     pub translated_from: u16,
     /// The length of the text read if a read is accepted, else 0.
     pub length: u16,
@@ -52,34 +56,47 @@ impl Answer {
         Answer { number, fields }
     }
 
-    /// An answer whose fields are an entry's.
-    pub(crate) fn of_entry(number: u8, entry: Entry, length: u16) -> Answer {
+    /// An answer to an act, whose fields are an entry's.
+    pub(crate) fn of_entry(number: u8, act: Act, entry: Entry, length: u16) -> Answer {
+        let language = match act {
+            Act::Read(Language::Translation(language))
+            | Act::Write(Language::Translation(language)) => language,
+            _ => 0,
+        };
         let fields = ReplyFields {
             pair: entry.pair,
             mark: entry.mark,
             edition: entry.edition,
-            translated_from: entry.translated_from,
+            translated_from: entry.translation(language).from,
             length,
         };
         Answer { number, fields }
     }
 }
 
-/// Judges a command on an image, with a lent reply buffer. Only an accepted
-/// command changes the image, and only an accepted read the reply buffer.
+/// Judges a command of version 1, as [`Format::answer`] does.
 pub fn answer(image: &mut [u8], command: &[u8], reply: &mut [u8]) -> Answer {
-    let Some(layout) = Layout::of_sound(image) else {
-        return Answer::zeros(UNSOUND);
-    };
-    let Some(command) = Command::parse(command) else {
-        return Answer::zeros(MALFORMED);
-    };
-    let Some(stored) = layout.entry(image, command.card) else {
-        return Answer::zeros(NO_SUCH_CARD);
-    };
-    match stored.take(&command, layout.room(), reply.len()) {
-        Ok(entry) => accept(layout, image, &command, entry, reply),
-        Err(number) => Answer::of_entry(number, stored, 0),
+    Format::V1.answer(image, command, reply)
+}
+
+impl Format {
+    /// Judges a command on an image, both of this version, with a lent reply
+    /// buffer. Only an accepted command changes the image, and only an
+    /// accepted read the reply buffer.
+    pub fn answer(self, image: &mut [u8], command: &[u8], reply: &mut [u8]) -> Answer {
+        let Some(layout) = Layout::of_sound(self, image) else {
+            return Answer::zeros(UNSOUND);
+        };
+        let Some(command) = Command::parse(self, command) else {
+            return Answer::zeros(MALFORMED);
+        };
+        let Some(stored) = layout.entry(image, command.card) else {
+            return Answer::zeros(NO_SUCH_CARD);
+        };
+        match stored.take(&command, layout.room(), reply.len()) {
+            Ok(entry) => accept(layout, image, &command, entry, reply),
+            Err(number) => Answer::of_entry(number, command.act, stored, 0),
+        }
     }
 }
 
@@ -104,7 +121,7 @@ fn accept(
         }
         Act::Verify => 0,
     };
-    Answer::of_entry(ACCEPTED, entry, length)
+    Answer::of_entry(ACCEPTED, command.act, entry, length)
 }
 
 /// Fills the first bytes of the reply buffer; the rest keeps its bytes.

@@ -1,8 +1,10 @@
-//! Streams: commands end to end (sheet, "Streams and the program").
+//! Streams: commands of one version end to end (sheet, "Streams and the
+//! program").
 
-use crate::command::{COMMAND_BYTES, LENGTH_OFFSET};
+use crate::command::LENGTH_OFFSET;
 use crate::endian::u16_at;
-use crate::store::{answer, Answer};
+use crate::format::Format;
+use crate::store::Answer;
 
 /// What stands at a place of a stream.
 #[derive(Clone, Copy, Debug, PartialEq, Eq, Hash)]
@@ -20,12 +22,12 @@ pub enum Standing<'a> {
     Cut,
 }
 
-/// What stands at this place. The payload's length is always taken from
-/// offset 50.
-pub fn standing_at(stream: &[u8], place: usize) -> Standing<'_> {
+/// What stands at this place of a stream of commands of this version. The
+/// payload's length is always taken from offset 50.
+pub fn standing_at(format: Format, stream: &[u8], place: usize) -> Standing<'_> {
     match stream.get(place..) {
         Some([]) => Standing::End,
-        Some(rest) => match whole_command(rest) {
+        Some(rest) => match whole_command(format, rest) {
             Some(bytes) => Standing::Command {
                 bytes,
                 next: place.saturating_add(bytes.len()),
@@ -37,15 +39,17 @@ pub fn standing_at(stream: &[u8], place: usize) -> Standing<'_> {
 }
 
 /// The command at the front of these bytes, if it is whole.
-fn whole_command(rest: &[u8]) -> Option<&[u8]> {
+fn whole_command(format: Format, rest: &[u8]) -> Option<&[u8]> {
     let payload = usize::from(u16_at(rest, LENGTH_OFFSET)?);
-    rest.get(..COMMAND_BYTES.saturating_add(payload))
+    rest.get(..format.command_bytes().saturating_add(payload))
 }
 
 /// A reader that keeps the lent stream and its place. It gives the whole
 /// commands in turn and then stays where it ended.
 #[derive(Clone, Copy, Debug, PartialEq, Eq, Hash)]
 pub struct Reader<'a> {
+    /// The version of its commands.
+    pub format: Format,
     /// The lent stream.
     pub stream: &'a [u8],
     /// The byte it stands at, counted from the stream's start.
@@ -54,13 +58,18 @@ pub struct Reader<'a> {
 
 impl<'a> Reader<'a> {
     /// A reader at the start of a stream.
-    pub fn new(stream: &'a [u8]) -> Reader<'a> {
-        Reader { stream, place: 0 }
+    pub fn new(format: Format, stream: &'a [u8]) -> Reader<'a> {
+        let place = 0;
+        Reader {
+            format,
+            stream,
+            place,
+        }
     }
 
     /// What stands at the reader's place.
     pub fn standing(&self) -> Standing<'a> {
-        standing_at(self.stream, self.place)
+        standing_at(self.format, self.stream, self.place)
     }
 
     /// How many bytes are left over at the reader's place.
@@ -96,19 +105,28 @@ pub struct Walk {
 
 /// Walks a stream from a place to its end or to the first command that is not
 /// whole.
-pub fn walk(stream: &[u8], place: usize) -> Walk {
-    let mut reader = Reader { stream, place };
+pub fn walk(format: Format, stream: &[u8], place: usize) -> Walk {
+    let mut reader = Reader {
+        format,
+        stream,
+        place,
+    };
     let commands = reader.by_ref().count();
     ended(reader, commands)
 }
 
 /// Answers every whole command of a stream in turn, on the image as the one
 /// before left it, all with the same reply buffer.
-pub fn run(image: &mut [u8], stream: &[u8], reply: &mut [u8]) -> (Vec<Answer>, Walk) {
-    let mut reader = Reader::new(stream);
+pub fn run(
+    format: Format,
+    image: &mut [u8],
+    stream: &[u8],
+    reply: &mut [u8],
+) -> (Vec<Answer>, Walk) {
+    let mut reader = Reader::new(format, stream);
     let answers: Vec<Answer> = reader
         .by_ref()
-        .map(|command| answer(image, command, reply))
+        .map(|command| format.answer(image, command, reply))
         .collect();
     let walk = ended(reader, answers.len());
     (answers, walk)

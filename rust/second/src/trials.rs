@@ -1,14 +1,15 @@
 //! The trials a to n, case P and the three slips, as data (sheet, "Trials at
 //! the desk", "Streams and the program", "Three slips we have seen"), commands
-//! with two pairs (request 7), and what runs them on any implementation. Where
-//! no act is named it is verify.
+//! with two pairs (request 7), languages (request 13), and what runs them on any
+//! implementation. Where no act is named it is verify. In version 2 each trial
+//! is run once for each language.
 
 // Nothing here is part of the store: a trial that is written wrong stops the
 // test.
 #![allow(clippy::arithmetic_side_effects, clippy::indexing_slicing)]
 
 use crate::short::*;
-use crate::{Entry, Mark, Pair, Place, Turn};
+use crate::{CommandFields, Entry, Format, Layout, Mark, Pair, Place, Turn};
 
 /// Numbers that say what an answer is, and the fields that stand with it.
 pub type Told<const FIELDS: usize> = (u8, [u64; FIELDS]);
@@ -17,10 +18,17 @@ pub type Told<const FIELDS: usize> = (u8, [u64; FIELDS]);
 /// in a call itself is told as text.
 pub trait Tried {
     /// Makes a fresh image.
-    fn make(&mut self, image: &mut [u8], cards: u64, room: u64) -> Result<u8, String>;
+    fn make(
+        &mut self,
+        format: Format,
+        image: &mut [u8],
+        cards: u64,
+        room: u64,
+    ) -> Result<u8, String>;
     /// Answers a command: the number and the seven reply fields.
     fn answer(
         &mut self,
+        format: Format,
         image: &mut [u8],
         command: &[u8],
         reply: &mut [u8],
@@ -36,11 +44,14 @@ pub trait Tried {
 const S: usize = 0;
 const X: usize = 1;
 const EDITION: usize = 4;
+const FROM: usize = 5;
 const LENGTH: usize = 6;
 
-/// A store to run a trial in: N, C and the card that it is about.
+/// A store to run a trial in: its version, N, C and the card that it is about.
 #[derive(Clone, Copy, Debug)]
 pub struct Store {
+    /// The version.
+    pub format: Format,
     /// N.
     pub cards: u64,
     /// C.
@@ -50,16 +61,29 @@ pub struct Store {
 }
 
 /// The stores in which each trial is run.
-pub const STORES: [Store; 5] = [
-    store(1, 16, 0),
-    store(3, 48, 1),
-    store(31, 1_024, 30),
-    store(89, 352, 88),
-    store(128, 224, 127),
-];
-
-const fn store(cards: u64, room: u64, card: u16) -> Store {
-    Store { cards, room, card }
+pub fn stores(format: Format) -> [Store; 5] {
+    let shapes = match format {
+        Format::V1 => [
+            (1, 16, 0),
+            (3, 48, 1),
+            (31, 1_024, 30),
+            (89, 352, 88),
+            (128, 224, 127),
+        ],
+        Format::V2 => [
+            (1, 16, 0),
+            (3, 48, 1),
+            (12, 1_024, 11),
+            (65, 192, 64),
+            (128, 80, 127),
+        ],
+    };
+    shapes.map(|(cards, room, card)| Store {
+        format,
+        cards,
+        room,
+        card,
+    })
 }
 
 /// A command, and what it is answered.
@@ -105,6 +129,22 @@ impl Step {
         self
     }
 
+    /// The same step in version 2: an act about the translation names this
+    /// language, and every other act is answered language 0's translated-from.
+    fn again(mut self, language: u8) -> Step {
+        if let Some(fields) = CommandFields::from_bytes(V1, &self.command) {
+            let names = matches!(fields.act, READ_TRANSLATION | WRITE_TRANSLATION);
+            let named = if names { language } else { 0 };
+            let payload = &self.command[V1.command_bytes()..];
+            self.command = into(named, fields).followed_by(payload);
+            let froms = self.fields.iter_mut().filter(|(at, _)| *at == FROM);
+            froms
+                .filter(|_| named != language)
+                .for_each(|(_, from)| *from = 0);
+        }
+        self
+    }
+
     /// The read shows this text.
     fn shows(self, text: &[u8]) -> Step {
         let shown = text.to_vec();
@@ -121,6 +161,9 @@ pub struct Trial {
     pub stored: Option<(Entry, &'static [u8])>,
     /// Whether the list keeps demand 3's premise on shared stamps.
     pub premise: bool,
+    /// The language of its translations: 0 in version 1; none if it is about
+    /// several.
+    pub language: Option<u8>,
     steps: Vec<Step>,
 }
 
@@ -130,7 +173,18 @@ impl Trial {
             name,
             stored: None,
             premise: true,
+            language: Some(0),
             steps,
+        }
+    }
+
+    /// The same trial in version 2, its translations into this language.
+    fn again(self, language: u8) -> Trial {
+        let steps = self.steps.into_iter();
+        Trial {
+            language: Some(language),
+            steps: steps.map(|step| step.again(language)).collect(),
+            ..self
         }
     }
 }
@@ -149,7 +203,19 @@ fn verified(list: &[(u8, Pair, u8)]) -> Vec<Step> {
 }
 
 /// The trials that are commands in a store with room C.
-pub fn trials(room: u64) -> Vec<Trial> {
+pub fn trials(format: Format, room: u64) -> Vec<Trial> {
+    if format == Format::V1 {
+        return of_version_1(room);
+    }
+    let again = |language| {
+        let trials = of_version_1(room).into_iter();
+        trials.map(move |trial| trial.again(language))
+    };
+    (0..4).flat_map(again).chain(of_languages()).collect()
+}
+
+/// The trials in version 1.
+fn of_version_1(room: u64) -> Vec<Trial> {
     let mut all = guarded();
     all.extend(nothing_written());
     all.extend(full(room as usize));
@@ -412,6 +478,184 @@ fn malformed_pairs() -> impl Iterator<Item = (u8, Pair, Pair)> {
     .into_iter()
 }
 
+/// What is tried of several languages at once, in version 2.
+pub const LANGUAGE_NAMES: [&str; 7] = [
+    "each language",
+    "one behind",
+    "all behind",
+    "no language",
+    "bytes 21 to 35",
+    "52 bytes",
+    "update pair at 52",
+];
+
+/// Writes an original in version 2.
+fn original(text: &[u8]) -> Vec<u8> {
+    into(0, fields(WRITE_ORIGINAL, EXCLUSIVE, a_prime())).with_payload(text)
+}
+
+/// Writes a translation into a language, made from this edition; it is accepted.
+fn translates(language: u8, edition: u16, text: &[u8]) -> Step {
+    let fields = fields(WRITE_TRANSLATION, EXCLUSIVE, a_prime());
+    let command = into(language, CommandFields { edition, ..fields });
+    step(command.with_payload(text), 0).field(FROM, edition.into())
+}
+
+/// Reads the translation into a language: the number, translated-from, the
+/// text.
+fn reads(language: u8, number: u8, from: u64, text: &[u8]) -> Step {
+    let command = into(language, fields(READ_TRANSLATION, EXCLUSIVE, a_prime()));
+    let step = step(command.with_payload(b""), number).lent(16);
+    step.field(FROM, from).shows(text)
+}
+
+/// A verify command of version 2, that gets this number.
+fn verify(change: impl FnOnce(&mut CommandFields), number: u8) -> Step {
+    let mut fields = into(0, fields(VERIFY, EXCLUSIVE, a_prime()));
+    change(&mut fields);
+    step(fields.with_payload(b""), number)
+}
+
+/// Languages beside each other, and what is malformed in version 2 alone.
+fn of_languages() -> Vec<Trial> {
+    let steps = [
+        each_language(),
+        one_behind(),
+        all_behind(),
+        no_language(),
+        nonzero_bytes(),
+        short_commands(),
+        update_at_52(),
+    ];
+    let trials = LANGUAGE_NAMES.into_iter().zip(steps);
+    let trial = |(name, steps)| Trial {
+        language: None,
+        ..Trial::new(name, steps)
+    };
+    trials.map(trial).collect()
+}
+
+const TEXTS: [&[u8]; 4] = [b"ABCDEFGHIJKLMNOP", b"", b"deux", b"t"];
+
+fn each_language() -> Vec<Step> {
+    let mut steps = vec![step(original(b"205"), 0)];
+    for (language, text) in (0..).zip(TEXTS) {
+        steps.push(reads(language, 6, 0, b""));
+        steps.push(translates(language, 1, text));
+    }
+    steps.extend((0..).zip(TEXTS).map(|(at, text)| reads(at, 0, 1, text)));
+    // Once more, in the other order, with a longer text and a shorter one.
+    steps.push(translates(3, 1, b"three"));
+    steps.push(translates(0, 1, b"A"));
+    let texts: [&[u8]; 4] = [b"A", b"", b"deux", b"three"];
+    steps.extend((0..).zip(texts).map(|(at, text)| reads(at, 0, 1, text)));
+    steps
+}
+
+fn one_behind() -> Vec<Step> {
+    vec![
+        step(original(b"one"), 0),
+        translates(0, 1, b"uno"),
+        translates(1, 1, b"un"),
+        step(original(b"two"), 0).field(FROM, 1),
+        translates(2, 2, b"zwei"),
+        reads(0, 6, 1, b""),
+        reads(1, 6, 1, b""),
+        reads(2, 0, 2, b"zwei"),
+        reads(3, 6, 0, b""),
+        translates(1, 2, b"deux"),
+        reads(1, 0, 2, b"deux"),
+        reads(0, 6, 1, b""),
+        // For an act without a language translated-from is language 0's.
+        verify(|_| {}, 0).field(FROM, 1).field(EDITION, 2),
+        step(original(b"three"), 0).field(FROM, 1),
+    ]
+}
+
+fn all_behind() -> Vec<Step> {
+    let mut steps = vec![step(original(b"205"), 0)];
+    steps.extend((0..4).map(|language| translates(language, 1, b"401")));
+    steps.extend((0..4).map(|language| reads(language, 0, 1, b"401")));
+    steps.push(step(original(b"205"), 0).field(EDITION, 2));
+    steps.extend((0..4).map(|language| reads(language, 6, 1, b"")));
+    steps
+}
+
+fn no_language() -> Vec<Step> {
+    let mut steps = vec![step(original(b"205"), 0)];
+    for language in [4, 5, 0x80, 0xff] {
+        let Step { command, .. } = reads(language, 1, 0, b"");
+        steps.push(step(command, 1).lent(16));
+        let Step { command, .. } = translates(language, 1, b"401");
+        steps.push(step(command, 1));
+    }
+    for language in [1, 2, 3, 4, 0xff] {
+        steps.push(verify(|fields| fields.language = language, 1));
+        let mut written = original(b"206");
+        written[20] = language;
+        steps.push(step(written, 1));
+        steps.push(
+            verify(
+                |fields| (fields.act, fields.language) = (READ_ORIGINAL, language),
+                1,
+            )
+            .lent(16),
+        );
+    }
+    steps.push(
+        verify(|fields| fields.act = READ_ORIGINAL, 0)
+            .lent(3)
+            .shows(b"205"),
+    );
+    steps
+}
+
+fn nonzero_bytes() -> Vec<Step> {
+    let broken = |at: usize| verify(|fields| fields.reserved[at] = 1, 1);
+    let mut steps: Vec<Step> = (0..15).map(broken).collect();
+    // An update pair of version 1 stands in those bytes, and in the language.
+    let mut old = command(VERIFY, EXCLUSIVE, a_prime());
+    old[20..36].copy_from_slice(&[b_prime().s, b_prime().x].map(u64::to_le_bytes).concat());
+    old.extend([0; 16]);
+    steps.push(step(old, 1));
+    steps.push(verify(|_| {}, 0).field(S, at(1, 1)).field(X, at(1, 1)));
+    steps
+}
+
+fn short_commands() -> Vec<Step> {
+    let Step { command: whole, .. } = verify(|_| {}, 0);
+    let mut steps: Vec<Step> = [0, 1, 51, 52, 53, 67]
+        .map(|length| step(whole[..length].to_vec(), 1))
+        .into();
+    steps.push(step(command(VERIFY, EXCLUSIVE, a_prime()), 1));
+    steps.push(step([&whole[..], &[0]].concat(), 1));
+    steps.push(step(whole, 0));
+    steps
+}
+
+fn update_at_52() -> Vec<Step> {
+    let third = Pair::new(at(3, 3), at(3, 3));
+    let opens = |verifier, update, number| {
+        verify(
+            |fields| (fields.pair, fields.update) = (verifier, update),
+            number,
+        )
+    };
+    let stored = |step: Step, pair: Pair| step.field(S, pair.s).field(X, pair.x);
+    vec![
+        stored(opens(Pair::default(), b_prime(), 0), b_prime()),
+        stored(opens(a_prime(), third, 3), b_prime()),
+        stored(opens(b_prime(), third, 0), third),
+        opens(third, Pair::new(0, at(3, 3)), 1),
+        opens(third, Pair::new(at(3, 3), at(3, 3) - 1), 1),
+        opens(Pair::default(), Pair::new(at(4, 4), 0), 1),
+        stored(
+            opens(third, Pair::new(at(1_000_004, 3), at(3, 3)), 17),
+            third,
+        ),
+    ]
+}
+
 /// The commands of case P and their lines.
 fn case_p_steps() -> Vec<Step> {
     let (older, newer) = (4_295_032_832, 8_590_065_664);
@@ -447,7 +691,12 @@ pub fn case_p_input() -> Vec<u8> {
 }
 
 /// Trial m: N, C, the lent bytes, and the number.
-const MAKING: [(u64, u64, usize, u8); 2] = [(31, 1_024, 64_496, 0), (32, 1_024, 66_576, 14)];
+fn making(format: Format) -> [(u64, u64, usize, u8); 2] {
+    match format {
+        Format::V1 => [(31, 1_024, 64_496, 0), (32, 1_024, 66_576, 14)],
+        Format::V2 => [(12, 1_024, 62_032, 0), (13, 1_024, 67_200, 14)],
+    }
+}
 
 /// A turn, and its number, whether the desk holds the lock, and how many
 /// entries were looked at.
@@ -491,16 +740,22 @@ fn same<T: PartialEq + std::fmt::Debug>(what: &str, found: T, wanted: T) -> Resu
 
 /// Runs the steps of a trial in a store.
 pub fn run(tried: &mut impl Tried, store: Store, trial: &Trial) -> Result<(), String> {
-    let Store { cards, room, card } = store;
-    let mut image = fresh(cards, room);
+    let Store {
+        format,
+        cards,
+        room,
+        card,
+    } = store;
+    let mut image = fresh_of(format, cards, room);
     image.iter_mut().for_each(|byte| *byte = !*byte);
-    same("make", tried.make(&mut image, cards, room)?, 0)?;
+    same("make", tried.make(format, &mut image, cards, room)?, 0)?;
     if let Some((entry, original)) = trial.stored {
-        put_card(&mut image, card, entry, original, b"");
+        let layout = Layout::of_header(format, &image).ok_or("no header")?;
+        put_texts(layout, &mut image, card, entry, &[original]);
     }
     for (count, step) in (1..).zip(&trial.steps) {
         let told = |wrong| format!("trial {}, {store:?}, command {count}: {wrong}", trial.name);
-        run_step(tried, &mut image, card, step).map_err(told)?;
+        run_step(tried, format, &mut image, card, step).map_err(told)?;
     }
     Ok(())
 }
@@ -509,15 +764,19 @@ pub fn run(tried: &mut impl Tried, store: Store, trial: &Trial) -> Result<(), St
 /// buffer.
 fn run_step(
     tried: &mut impl Tried,
+    format: Format,
     image: &mut [u8],
     card: u16,
     step: &Step,
 ) -> Result<(), String> {
-    let command = on_card(card, step.command.clone());
+    let command = match step.command.len() {
+        0..4 => step.command.clone(),
+        _ => on_card(card, step.command.clone()),
+    };
     let mut reply = vec![0xaa; step.lent];
     let mut wanted = reply.clone();
     wanted[..step.shown.len()].copy_from_slice(&step.shown);
-    let (number, fields) = tried.answer(image, &command, &mut reply)?;
+    let (number, fields) = tried.answer(format, image, &command, &mut reply)?;
     same("number", number, step.number)?;
     for &(at, value) in &step.fields {
         same("field", (at, fields[at]), (at, value))?;
@@ -526,10 +785,11 @@ fn run_step(
 }
 
 /// Trial m.
-pub fn run_making(tried: &mut impl Tried) -> Result<(), String> {
-    for (cards, room, length, wanted) in MAKING {
+pub fn run_making(tried: &mut impl Tried, format: Format) -> Result<(), String> {
+    for (cards, room, length, wanted) in making(format) {
         let mut image = vec![0xee; length];
-        same("trial m", tried.make(&mut image, cards, room)?, wanted)?;
+        let made = tried.make(format, &mut image, cards, room)?;
+        same("trial m", made, wanted)?;
         let kept = image.iter().all(|&byte| byte == 0xee);
         same("trial m, nothing written", kept, wanted != 0)?;
     }

@@ -85,7 +85,7 @@ fn row_0_fields_and_bytes_of_each_act() {
     let mut reply = *b"......";
     let mut read = fields_of_translation(0);
     (read.act, read.expected) = (READ_TRANSLATION, Mark::new(9, 10));
-    let answer = check::answer(&mut image, &read.with_payload(b""), &mut reply);
+    let answer = check::answer(V1, &mut image, &read.with_payload(b""), &mut reply);
     assert_eq!(
         answer.fields.numbers(),
         [b_prime().s, b_prime().x, 0, 0, 1, 1, 4]
@@ -398,7 +398,7 @@ fn row_7_act_3_alone_at_the_last_edition() {
 /// The number of a command with a reply buffer of so many bytes.
 fn with_reply(fields: CommandFields, payload: &[u8], length: usize) -> u8 {
     let command = fields.with_payload(payload);
-    check::answer(&mut image(), &command, &mut vec![0xaa; length]).number
+    check::answer(V1, &mut image(), &command, &mut vec![0xaa; length]).number
 }
 
 #[test]
@@ -435,7 +435,10 @@ fn row_8_an_empty_text_needs_no_buffer() {
     let image = one_card(entry(1, 1), b"", b"");
     for act in [READ_ORIGINAL, READ_TRANSLATION] {
         let read = command(act, SHARED, a());
-        assert_eq!(check::answer(&mut image.clone(), &read, &mut []).number, 0);
+        assert_eq!(
+            check::answer(V1, &mut image.clone(), &read, &mut []).number,
+            0
+        );
     }
 }
 
@@ -498,7 +501,7 @@ fn row_17_replies_the_entry_as_stored() {
     let mut fields = accepted(READ_TRANSLATION, SHARED);
     fields.pair = far;
     let (mut image, mut reply) = (image(), [7; 20]);
-    let answer = check::answer(&mut image, &fields.with_payload(b""), &mut reply);
+    let answer = check::answer(V1, &mut image, &fields.with_payload(b""), &mut reply);
     assert_eq!((answer.number, answer.fields.pair), (17, stored_pair()));
 }
 
@@ -581,7 +584,13 @@ fn the_order_of_the_rows_with_a_short_reply_buffer() {
     );
     let mut read = accepted(READ_TRANSLATION, SHARED);
     let number = |image: &[u8], read: CommandFields| {
-        check::answer(&mut image.to_vec(), &read.with_payload(b""), &mut [0; 3]).number
+        check::answer(
+            V1,
+            &mut image.to_vec(),
+            &read.with_payload(b""),
+            &mut [0; 3],
+        )
+        .number
     };
     assert_eq!(number(&behind, read), 6, "6 before 8");
     assert_eq!(number(&image(), read), 8);

@@ -7,7 +7,7 @@ use second::{Command, CommandFields, Mark, Mode, Pair};
 
 /// Whether the command is well formed; the answer to it must agree.
 fn well_formed(command: &[u8]) -> bool {
-    let parsed = Command::parse(command).is_some();
+    let parsed = Command::parse(V1, command).is_some();
     let answer = number_on(&fresh(1, 16), command);
     assert_eq!(parsed, answer != 1);
     parsed
@@ -60,7 +60,7 @@ fn act_and_mode_of_any_value() {
             command.edition = (act == WRITE_TRANSLATION).into();
             let write = act == WRITE_ORIGINAL || act == WRITE_TRANSLATION;
             let expected = (1..=5).contains(&act) && (mode == 2 || mode == 1 && !write);
-            let parsed = Command::parse(&command.with_payload(b"")).is_some();
+            let parsed = Command::parse(V1, &command.with_payload(b"")).is_some();
             assert_eq!(parsed, expected, "act {act} mode {mode}");
         }
     }
@@ -252,6 +252,7 @@ fn a_command_to_the_byte() {
         next: Mark::new(0x5251, 0x6463_6261),
         edition: 0x7271,
         length: 0,
+        ..CommandFields::default()
     };
     let mut expected = vec![4, 2, 1, 2];
     expected.extend(0x11..=0x18);
@@ -272,7 +273,7 @@ fn a_parsed_command_and_its_session() {
         let mut verify = fields(VERIFY, number, pair);
         verify.card = 7;
         let bytes = verify.with_payload(b"");
-        let session = Command::parse(&bytes).expect("well formed").session();
+        let session = Command::parse(V1, &bytes).expect("well formed").session();
         assert_eq!((session.card, session.desk), (7, desk));
         assert_eq!((session.mode, session.pair), (mode, pair));
         assert_eq!(mode.number(), number);
@@ -287,7 +288,7 @@ fn the_session_of_an_update_pair() {
         let mut verify = fields(VERIFY, number, verifier);
         verify.update = update;
         let bytes = verify.with_payload(b"");
-        let command = Command::parse(&bytes).expect("well formed");
+        let command = Command::parse(V1, &bytes).expect("well formed");
         assert_eq!((command.verifier, command.update), (verifier, update));
         let session = command.session();
         assert_eq!((session.desk, session.pair), (desk, update));
@@ -302,7 +303,7 @@ fn the_example_of_two_pairs() {
     bytes.extend([0, 0, 2, 0, 2, 0, 0, 0]);
     bytes.extend([0, 0, 1, 0, 1, 0, 0, 0]);
     bytes.extend([0; 16]);
-    let command = Command::parse(&bytes).expect("well formed");
+    let command = Command::parse(V1, &bytes).expect("well formed");
     assert_eq!(command.verifier, Pair::new(0, at(1, 1)));
     assert_eq!((command.update, command.desk), (b(), 2 << 16));
 }

@@ -5,7 +5,7 @@ mod common;
 
 use common::*;
 use second::history::{answer_in, HISTORY_BYTES, MOST_KEPT, MOST_PAYLOAD};
-use second::{answer, CommandFields, Entry, History, Mark, Pair, ReplyFields};
+use second::{answer, CommandFields, Entry, History, Mark, Pair, ReplyFields, Translation};
 
 /// A verify of card 0 by A, which is always accepted.
 fn again() -> Vec<u8> {
@@ -18,7 +18,7 @@ fn fields(entry: Entry) -> ReplyFields {
         pair: entry.pair,
         mark: entry.mark,
         edition: entry.edition,
-        translated_from: entry.translated_from,
+        translated_from: entry.translation(0).from,
         length: 0,
     }
 }
@@ -36,13 +36,13 @@ fn an_entry_is_worked_out() {
     assert_eq!(send(&write_original(a_prime(), b"206")), 0);
     assert_eq!(send(&write_translation(a_prime(), 2, b"40")), 0);
     assert_eq!(send(&marked.with_payload(&[])), 0);
+    let none = Translation::default();
     let entry = Entry {
         pair: Pair::new(at(2, 2), at(1, 1)),
         mark: Mark::new(5, 7),
-        edition: 2,
-        translated_from: 2,
         original_length: 3,
-        translation_length: 2,
+        translations: [Translation { from: 2, length: 2 }, none, none, none],
+        edition: 2,
     };
     assert_eq!(history.entry(0), entry);
     assert_eq!(history.text(0, ORIGINAL), b"206");

@@ -4,7 +4,7 @@
 mod common;
 
 use common::*;
-use second::generate::BEYOND;
+use second::generate::beyond;
 use second::{is_sound, make_fresh, Entry, Layout, Mark, Pair};
 
 /// Whether N and C keep the rules, written out once more.
@@ -136,7 +136,7 @@ fn every_number_of_cards_and_room_near_the_limits() {
     let mut largest = 0;
     for cards in 0..=260 {
         for room in 0..=1_056 {
-            let found = Layout::new(cards, room);
+            let found = Layout::new(V1, cards, room);
             assert_eq!(found.is_some(), allowed(cards.into(), room.into()));
             if let Some(layout) = found {
                 assert_eq!(layout.size(), size(cards, room));
@@ -153,7 +153,7 @@ fn every_number_of_cards_and_room_near_the_limits() {
 
 #[test]
 fn a_header_that_breaks_the_rules_is_not_sound_at_any_length() {
-    for (cards, room) in BEYOND {
+    for (cards, room) in beyond(V1) {
         let mut image = vec![0; size(cards, room)];
         image[..6].copy_from_slice(&[0x52, 0x43, 0x31, 0, 1, 0]);
         image[6..8].copy_from_slice(&(cards as u16).to_le_bytes());
@@ -370,20 +370,19 @@ fn an_unsound_card_among_sound_ones() {
 
 #[test]
 fn an_entry_to_the_byte() {
-    let entry = Entry {
+    let mut entry = Entry {
         pair: Pair::new(0x0807_0605_0403_0201, 0x1817_1615_1413_1211),
         mark: Mark::new(0x2221, 0x3433_3231),
-        edition: 0x4241,
-        translated_from: 0x5251,
         original_length: 0x6261,
-        translation_length: 0x7271,
+        ..common::entry(0x4241, 0x5251)
     };
+    entry.translations[0].length = 0x7271;
     let bytes = [
         0x01, 0x02, 0x03, 0x04, 0x05, 0x06, 0x07, 0x08, 0x11, 0x12, 0x13, 0x14, 0x15, 0x16, 0x17,
         0x18, 0x21, 0x22, 0, 0, 0x31, 0x32, 0x33, 0x34, 0x41, 0x42, 0x51, 0x52, 0x61, 0x62, 0x71,
         0x72,
     ];
-    assert_eq!(entry.to_bytes(), bytes);
-    assert_eq!(Entry::from_bytes(&bytes), Some(entry));
-    assert_eq!(Entry::from_bytes(&bytes[..31]), None);
+    assert_eq!(entry.to_bytes(V1), bytes);
+    assert_eq!(Entry::from_bytes(V1, &bytes), Some(entry));
+    assert_eq!(Entry::from_bytes(V1, &bytes[..31]), None);
 }

@@ -151,7 +151,7 @@ fn store() -> (Vec<u8>, [u64; 2]) {
 }
 
 fn texts(image: &[u8], card: u16) -> (Vec<u8>, Vec<u8>) {
-    let layout = Layout::of_sound(image).expect("sound");
+    let layout = Layout::of_sound(V1, image).expect("sound");
     let text = |language| layout.text(image, card, language).expect("a card").to_vec();
     (text(ORIGINAL), text(TRANSLATION))
 }
@@ -237,7 +237,7 @@ fn recovery_stops_at_the_first_refusal() {
 #[test]
 fn recovery_keeps_the_stored_mark() {
     let (mut image, pairs) = store();
-    let layout = Layout::of_sound(&image).expect("sound");
+    let layout = Layout::of_sound(V1, &image).expect("sound");
     let mut entry = layout.entry(&image, 0).expect("card 0");
     entry.mark = Mark::new(5, 7);
     layout.put_entry(&mut image, 0, entry);

@@ -4,12 +4,12 @@
 mod common;
 
 use common::check::{self, turn};
-use common::{generate, layout, put_card, ORIGINAL, TRANSLATION};
+use common::{entry_of, fresh_of, generate, put_texts, ORIGINAL, TRANSLATION};
 use second::random::Random;
 use second::stamp::desk_and_start;
 use second::{
-    endian, is_sound, make_fresh, output, shown, standing_at, stream, walk, Act, Command,
-    CommandFields, Entry, Held, Language, Layout, Mark, Mode, Place, Queue, Standing, Turn,
+    convert, endian, output, shown, standing_at, stream, walk, Act, Command, CommandFields, Entry,
+    Format, Held, Language, Layout, Mark, Mode, Place, Queue, Standing, Turn,
 };
 
 /// How often each number came.
@@ -30,191 +30,217 @@ impl Numbers {
 
 #[test]
 fn answers_on_images_and_commands_of_any_sort() {
-    let mut random = Random::new(1);
-    let mut numbers = Numbers::default();
-    for _ in 0..40_000 {
-        let mut image = generate::image(&mut random);
-        let length = random.index(40);
-        let mut reply = random.bytes(length);
-        for _ in 0..3 {
-            let command = generate::command(&mut random, &image);
-            let answer = check::answer(&mut image, &command, &mut reply);
-            numbers.count(answer.number);
+    for format in Format::BOTH {
+        let mut random = Random::new(1);
+        let mut numbers = Numbers::default();
+        for _ in 0..40_000 {
+            let mut image = generate::image(format, &mut random);
+            let length = random.index(40);
+            let mut reply = random.bytes(length);
+            for _ in 0..3 {
+                let command = generate::command(format, &mut random, &image);
+                let answer = check::answer(format, &mut image, &command, &mut reply);
+                numbers.count(answer.number);
+            }
         }
+        numbers.assert_all_came(&[0, 1, 2, 3, 4, 5, 6, 7, 8, 9, 17]);
     }
-    numbers.assert_all_came(&[0, 1, 2, 3, 4, 5, 6, 7, 8, 9, 17]);
 }
 
 /// What a list of commands should show: for each card and language the
 /// payload of the last accepted write.
 #[test]
 fn lists_from_a_fresh_image_show_the_last_accepted_write() {
-    let mut random = Random::new(2);
-    let mut numbers = Numbers::default();
-    for _ in 0..1_000 {
-        let mut image = common::fresh(2, 16);
-        let mut written = vec![Vec::new(); 4];
-        let mut marks = [Mark::default(); 2];
-        for _ in 0..60 {
-            let bytes = generate::command(&mut random, &image);
-            let mut reply = vec![0xaa; random.index(20)];
-            let answer = check::answer(&mut image, &bytes, &mut reply);
-            numbers.count(answer.number);
-            if answer.number != 0 {
-                continue;
-            }
-            let command = Command::parse(&bytes).expect("accepted");
-            let card = usize::from(command.card);
-            assert_eq!(command.expected.desk, marks[card].desk);
-            assert!(command.expected.transaction >= marks[card].transaction);
-            marks[card] = command.next;
-            let length = usize::from(answer.fields.length);
-            let place = |language| 2 * card + usize::from(language == Language::Translation);
-            match command.act {
-                Act::Read(language) => assert_eq!(reply[..length], written[place(language)]),
-                Act::Write(language) => written[place(language)] = command.payload.to_vec(),
-                Act::Verify => assert_eq!(length, 0),
+    for format in Format::BOTH {
+        let mut random = Random::new(2);
+        let mut numbers = Numbers::default();
+        for _ in 0..1_000 {
+            let mut image = fresh_of(format, 2, 16);
+            let mut written = vec![Vec::new(); 10];
+            let mut marks = [Mark::default(); 2];
+            for _ in 0..60 {
+                let bytes = generate::command(format, &mut random, &image);
+                let mut reply = vec![0xaa; random.index(20)];
+                let answer = check::answer(format, &mut image, &bytes, &mut reply);
+                numbers.count(answer.number);
+                if answer.number != 0 {
+                    continue;
+                }
+                let command = Command::parse(format, &bytes).expect("accepted");
+                let card = usize::from(command.card);
+                assert_eq!(command.expected.desk, marks[card].desk);
+                assert!(command.expected.transaction >= marks[card].transaction);
+                marks[card] = command.next;
+                let length = usize::from(answer.fields.length);
+                let place = |language| match language {
+                    Language::Original => 5 * card,
+                    Language::Translation(t) => 5 * card + 1 + usize::from(t),
+                };
+                match command.act {
+                    Act::Read(language) => assert_eq!(reply[..length], written[place(language)]),
+                    Act::Write(language) => written[place(language)] = command.payload.to_vec(),
+                    Act::Verify => assert_eq!(length, 0),
+                }
             }
         }
+        numbers.assert_all_came(&[0, 1, 2, 3, 4, 5, 6, 8, 17]);
     }
-    numbers.assert_all_came(&[0, 1, 2, 3, 4, 5, 6, 8, 17]);
 }
 
 #[test]
 fn soundness_of_any_bytes() {
-    let mut random = Random::new(3);
-    let mut sound = 0;
-    for _ in 0..40_000 {
-        let image = generate::image(&mut random);
-        if is_sound(&image) {
-            sound += 1;
-            assert_eq!(rebuilt(&image), image);
+    for format in Format::BOTH {
+        let mut random = Random::new(3);
+        let mut sound = 0;
+        for _ in 0..40_000 {
+            let image = generate::image(format, &mut random);
+            if format.is_sound(&image) {
+                sound += 1;
+                assert_eq!(rebuilt(format, &image), image);
+            }
+            let length = random.index(300);
+            let mut bytes = random.bytes(length);
+            assert!(!format.is_sound(&bytes));
+            let header = image.len().min(bytes.len()).min(16);
+            bytes[..header].copy_from_slice(&image[..header]);
+            assert_eq!(
+                format.is_sound(&bytes),
+                Layout::of_sound(format, &bytes).is_some()
+            );
         }
-        let length = random.index(300);
-        let mut bytes = random.bytes(length);
-        assert!(!is_sound(&bytes));
-        let header = image.len().min(bytes.len()).min(16);
-        bytes[..header].copy_from_slice(&image[..header]);
-        assert_eq!(is_sound(&bytes), Layout::of_sound(&bytes).is_some());
+        assert!(sound > 10_000);
     }
-    assert!(sound > 10_000);
 }
 
 /// A sound image built once more from its N, C, entry fields and texts.
-fn rebuilt(image: &[u8]) -> Vec<u8> {
-    let layout = layout(image);
-    let mut again = common::fresh(layout.cards() as u64, layout.room() as u64);
+fn rebuilt(format: Format, image: &[u8]) -> Vec<u8> {
+    let layout = Layout::of_header(format, image).expect("sound");
+    let mut again = fresh_of(format, layout.cards() as u64, layout.room() as u64);
     for card in 0..layout.cards() as u16 {
         let entry = layout.entry(image, card).expect("a card");
         let text = |language| layout.text(image, card, language).expect("a text");
-        put_card(&mut again, card, entry, text(ORIGINAL), text(TRANSLATION));
+        let texts: Vec<&[u8]> = layout.languages().map(text).collect();
+        put_texts(layout, &mut again, card, entry, &texts);
     }
     again
 }
 
 #[test]
 fn a_layout_over_bytes_that_are_not_its_image() {
-    let mut random = Random::new(4);
-    for _ in 0..20_000 {
-        let layout = Layout::new(random.between(1, 4), 16 * random.between(1, 3));
-        let layout = layout.expect("N and C keep the rules");
-        let length = random.index(400);
-        let mut bytes = random.bytes(length);
-        let card = random.pick(&[0, 1, 2, 3, 4, u16::MAX]);
-        let language = if random.one_in(2) {
-            ORIGINAL
-        } else {
-            TRANSLATION
-        };
-        let before = bytes.clone();
-        let entry = layout.entry(&bytes, card).unwrap_or_default();
-        let text = layout.text(&bytes, card, language).map(<[u8]>::to_vec);
-        assert_eq!(before, bytes);
-        layout.put_entry(&mut bytes, card, entry);
-        layout.put_text(&mut bytes, card, language, &text.unwrap_or_default());
-        if usize::from(card) >= layout.cards() {
+    for format in Format::BOTH {
+        let mut random = Random::new(4);
+        for _ in 0..20_000 {
+            let layout = Layout::new(format, random.between(1, 4), 16 * random.between(1, 3));
+            let layout = layout.expect("N and C keep the rules");
+            let length = random.index(400);
+            let mut bytes = random.bytes(length);
+            let card = random.pick(&[0, 1, 2, 3, 4, u16::MAX]);
+            let language = if random.one_in(2) {
+                ORIGINAL
+            } else {
+                TRANSLATION
+            };
+            let before = bytes.clone();
+            let entry = layout.entry(&bytes, card).unwrap_or_default();
+            let text = layout.text(&bytes, card, language).map(<[u8]>::to_vec);
             assert_eq!(before, bytes);
+            layout.put_entry(&mut bytes, card, entry);
+            layout.put_text(&mut bytes, card, language, &text.unwrap_or_default());
+            if usize::from(card) >= layout.cards() {
+                assert_eq!(before, bytes);
+            }
         }
     }
 }
 
 #[test]
 fn making_a_fresh_image_of_anything() {
-    let mut random = Random::new(5);
-    let mut numbers = Numbers::default();
-    for _ in 0..100_000 {
-        let any = random.number();
-        let cards = random.pick(&[0, 1, 1, 2, 3, 128, 129, any]);
-        let room = random.pick(&[0, 15, 16, 16, 32, 48, 1_040, any]);
-        let right = Layout::new(cards, room).map_or(80, Layout::size);
-        let length = random.pick(&[0, 16, right, right, right, right + 1, right - 1]);
-        let mut image = random.bytes(length.min(9_000));
-        let before = image.clone();
-        let number = make_fresh(&mut image, cards, room);
-        numbers.count(number);
-        match number {
-            0 => assert!(is_sound(&image) && image[16..].iter().all(|&byte| byte == 0)),
-            _ => assert_eq!(image, before),
+    for format in Format::BOTH {
+        let mut random = Random::new(5);
+        let mut numbers = Numbers::default();
+        for _ in 0..100_000 {
+            let any = random.number();
+            let cards = random.pick(&[0, 1, 1, 2, 3, 128, 129, any]);
+            let room = random.pick(&[0, 15, 16, 16, 32, 48, 1_040, any]);
+            let right = Layout::new(format, cards, room).map_or(144, Layout::size);
+            let length = random.pick(&[0, 16, right, right, right, right + 1, right - 1]);
+            let mut image = random.bytes(length.min(20_000));
+            let before = image.clone();
+            let number = format.make_fresh(&mut image, cards, room);
+            numbers.count(number);
+            match number {
+                0 => assert!(format.is_sound(&image) && image[16..].iter().all(|&byte| byte == 0)),
+                _ => assert_eq!(image, before),
+            }
         }
+        numbers.assert_all_came(&[0, 14]);
     }
-    numbers.assert_all_came(&[0, 14]);
 }
 
 #[test]
 fn parsing_any_bytes() {
-    let mut random = Random::new(6);
-    let mut image = Vec::new();
-    let mut well_formed = 0;
-    for round in 0..150_000 {
-        if round % 100 == 0 {
-            image = generate::sound_image(&mut random);
+    for format in Format::BOTH {
+        let mut random = Random::new(6);
+        let mut image = Vec::new();
+        let mut well_formed = 0;
+        for round in 0..150_000 {
+            if round % 100 == 0 {
+                image = generate::sound_image(format, &mut random);
+            }
+            let bytes = generate::command(format, &mut random, &image);
+            let fields = CommandFields::from_bytes(format, &bytes);
+            assert_eq!(fields.is_some(), bytes.len() >= format.command_bytes());
+            if let Some(fields) = fields {
+                assert_eq!(fields.to_bytes()[..], bytes[..format.command_bytes()]);
+                assert_eq!(fields.followed_by(&bytes[format.command_bytes()..]), bytes);
+            }
+            if let Some(command) = Command::parse(format, &bytes) {
+                well_formed += 1;
+                assert_eq!(command.payload, &bytes[format.command_bytes()..]);
+                let language = fields.map_or(0, |fields| fields.language);
+                let act = Act::from_numbers(format, command.act.number(), language);
+                assert_eq!(act, Some(command.act));
+                assert_eq!(Mode::from_number(command.mode.number()), Some(command.mode));
+                let session = command.session();
+                let own = session.mode.own_stamp(session.pair);
+                assert!(own != 0 && session.desk == desk_and_start(own));
+                let Command {
+                    verifier, update, ..
+                } = command;
+                assert_eq!(update, verifier.larger(update));
+            }
         }
-        let bytes = generate::command(&mut random, &image);
-        let fields = CommandFields::from_bytes(&bytes);
-        assert_eq!(fields.is_some(), bytes.len() >= 52);
-        if let Some(fields) = fields {
-            assert_eq!(fields.to_bytes()[..], bytes[..52]);
-            assert_eq!(fields.followed_by(&bytes[52..]), bytes);
-        }
-        if let Some(command) = Command::parse(&bytes) {
-            well_formed += 1;
-            assert_eq!(command.payload, &bytes[52..]);
-            assert_eq!(Act::from_number(command.act.number()), Some(command.act));
-            assert_eq!(Mode::from_number(command.mode.number()), Some(command.mode));
-            let session = command.session();
-            let own = session.mode.own_stamp(session.pair);
-            assert!(own != 0 && session.desk == desk_and_start(own));
-            let Command {
-                verifier, update, ..
-            } = command;
-            assert_eq!(update, verifier.larger(update));
-        }
+        assert!(well_formed > 30_000);
     }
-    assert!(well_formed > 30_000);
 }
 
 /// The guard alone, on any entry and with any room and reply length.
 #[test]
 fn an_entry_takes_any_command() {
-    let mut random = Random::new(7);
-    let image = common::fresh(1, 16);
-    for _ in 0..100_000 {
-        let bytes = random.bytes(32);
-        let entry = match random.one_in(2) {
-            true => Entry::from_bytes(&bytes).unwrap_or_default(),
-            false => common::entry(u16::MAX, random.pick(&[0, 1, u16::MAX])),
-        };
-        let command = generate::fitting_command(&mut random, &image);
-        let Some(command) = Command::parse(&command) else {
-            continue;
-        };
-        let room = random.pick(&[0, 16, usize::MAX]);
-        match entry.take(&command, room, random.pick(&[0, 16, usize::MAX])) {
-            Ok(now) => {
-                assert_eq!(now.pair, entry.pair.larger(command.update));
-                assert!(now.edition >= entry.edition);
+    for format in Format::BOTH {
+        let mut random = Random::new(7);
+        let image = fresh_of(format, 1, 16);
+        for _ in 0..100_000 {
+            let bytes = random.bytes(format.entry_bytes());
+            let entry = match random.one_in(2) {
+                true => Entry::from_bytes(format, &bytes).unwrap_or_default(),
+                false => entry_of(
+                    u16::MAX,
+                    [0; 4].map(|_: u16| random.pick(&[0, 1, u16::MAX])),
+                ),
+            };
+            let command = generate::fitting_command(format, &mut random, &image);
+            let Some(command) = Command::parse(format, &command) else {
+                continue;
+            };
+            let room = random.pick(&[0, 16, usize::MAX]);
+            match entry.take(&command, room, random.pick(&[0, 16, usize::MAX])) {
+                Ok(now) => {
+                    assert_eq!(now.pair, entry.pair.larger(command.update));
+                    assert!(now.edition >= entry.edition);
+                }
+                Err(number) => assert!(matches!(number, 3..=8 | 17)),
             }
-            Err(number) => assert!(matches!(number, 3..=8 | 17)),
         }
     }
 }
@@ -336,65 +362,81 @@ fn texts_shown_of_anything_held() {
 
 #[test]
 fn walks_of_any_stream() {
-    let mut random = Random::new(11);
-    let image = common::fresh(2, 16);
-    let (mut ends, mut cuts) = (0, 0);
-    for _ in 0..30_000 {
-        let stream = generate::stream(&mut random, &image);
-        let any = random.number() as usize;
-        let start = random.pick(&[0, 0, 0, 52, stream.len(), stream.len() + 1, any]);
-        let walk = walk(&stream, start);
-        assert!(walk.place >= start);
-        assert!(walk.place <= stream.len() || walk.place == start && walk.cut);
-        match standing_at(&stream, walk.place) {
-            Standing::End => ends += u32::from(!walk.cut),
-            Standing::Cut => cuts += u32::from(walk.cut),
-            Standing::Command { .. } => panic!("the walk ended at a whole command"),
+    for format in Format::BOTH {
+        let mut random = Random::new(11);
+        let image = fresh_of(format, 2, 16);
+        let (mut ends, mut cuts) = (0, 0);
+        for _ in 0..30_000 {
+            let stream = generate::stream(format, &mut random, &image);
+            let any = random.number() as usize;
+            let start = random.pick(&[
+                0,
+                0,
+                0,
+                format.command_bytes(),
+                stream.len(),
+                stream.len() + 1,
+                any,
+            ]);
+            let walk = walk(format, &stream, start);
+            assert!(walk.place >= start);
+            assert!(walk.place <= stream.len() || walk.place == start && walk.cut);
+            match standing_at(format, &stream, walk.place) {
+                Standing::End => ends += u32::from(!walk.cut),
+                Standing::Cut => cuts += u32::from(walk.cut),
+                Standing::Command { .. } => panic!("the walk ended at a whole command"),
+            }
+            if let Standing::Command { bytes, next } = standing_at(format, &stream, start) {
+                assert_eq!(bytes, &stream[start..next]);
+                let length = endian::u16_at(bytes, 50).map(usize::from);
+                assert_eq!(Some(bytes.len() - format.command_bytes()), length);
+            }
         }
-        if let Standing::Command { bytes, next } = standing_at(&stream, start) {
-            assert_eq!(bytes, &stream[start..next]);
-            let length = endian::u16_at(bytes, 50).map(usize::from);
-            assert_eq!(Some(bytes.len() - 52), length);
-        }
+        assert_eq!(ends + cuts, 30_000);
+        assert!(ends > 1_000 && cuts > 1_000);
     }
-    assert_eq!(ends + cuts, 30_000);
-    assert!(ends > 1_000 && cuts > 1_000);
 }
 
 #[test]
 fn runs_of_any_stream_on_any_image() {
-    let mut random = Random::new(12);
-    for _ in 0..10_000 {
-        let mut image = generate::image(&mut random);
-        let sound = is_sound(&image);
-        let commands = generate::stream(&mut random, &image);
-        let mut reply = vec![0; random.index(40)];
-        let (answers, walked) = stream::run(&mut image, &commands, &mut reply);
-        assert_eq!(answers.len(), walked.commands);
-        assert_eq!(walked, walk(&commands, 0));
-        assert_eq!(is_sound(&image), sound);
-        assert!(answers.iter().all(|answer| (answer.number == 9) != sound));
+    for format in Format::BOTH {
+        let mut random = Random::new(12);
+        for _ in 0..10_000 {
+            let mut image = generate::image(format, &mut random);
+            let sound = format.is_sound(&image);
+            let commands = generate::stream(format, &mut random, &image);
+            let mut reply = vec![0; random.index(40)];
+            let (answers, walked) = stream::run(format, &mut image, &commands, &mut reply);
+            assert_eq!(answers.len(), walked.commands);
+            assert_eq!(walked, walk(format, &commands, 0));
+            assert_eq!(format.is_sound(&image), sound);
+            assert!(answers.iter().all(|answer| (answer.number == 9) != sound));
+        }
     }
 }
 
 #[test]
 fn the_program_on_any_input() {
-    let mut random = Random::new(13);
-    let (mut bad, mut run) = (0, 0);
-    for _ in 0..20_000 {
-        let mut input = generate::image(&mut random);
-        let stream = generate::stream(&mut random, &input);
-        input.extend(stream);
-        if random.one_in(8) {
-            generate::damage(&mut random, &mut input);
+    for format in Format::BOTH {
+        let mut random = Random::new(13);
+        let (mut bad, mut run) = (0, 0);
+        for _ in 0..20_000 {
+            let mut input = generate::image(format, &mut random);
+            let stream = generate::stream(format, &mut random, &input);
+            input.extend(stream);
+            if random.one_in(8) {
+                generate::damage(&mut random, &mut input);
+            }
+            match output(&input).as_str() {
+                "bad store\n" => bad += 1,
+                text => run += u32::from(is_whole_output(text)),
+            }
         }
-        match output(&input).as_str() {
-            "bad store\n" => bad += 1,
-            text => run += u32::from(is_whole_output(text)),
-        }
+        assert_eq!(bad + run, 20_000);
+        // Of the images made for version 2 few are of version 1.
+        let least = if format == Format::V1 { 1_000 } else { 100 };
+        assert!(bad > 1_000 && run > least);
     }
-    assert_eq!(bad + run, 20_000);
-    assert!(bad > 1_000 && run > 1_000);
 }
 
 /// The lines of a run: `cards`, numbered lines of nine numbers, the last line.
@@ -453,4 +495,38 @@ fn the_generator_is_deterministic_and_keeps_its_bounds() {
         assert_eq!(random.pick::<u8>(&[]), 0);
         assert!(random.one_in(1));
     }
+}
+
+/// Conversion of any bytes into any number of bytes: what it answers, and what
+/// is in the new image, worked out card by card.
+#[test]
+fn conversions_of_any_image() {
+    let mut random = Random::new(14);
+    let mut numbers = Numbers::default();
+    for _ in 0..40_000 {
+        let image = generate::image(Format::V1, &mut random);
+        let old = Layout::of_sound(Format::V1, &image);
+        let size = old.map_or(144, |old| 16 + (48 + 5 * old.room()) * old.cards());
+        let length = random.pick(&[size, size, size, size - 1, size + 1, image.len(), 0]);
+        let mut target = random.bytes(length);
+        let before = target.clone();
+        let number = convert(&image, &mut target);
+        numbers.count(number);
+        assert_eq!(number == 9, old.is_none());
+        assert_eq!(number == 14, old.is_some() && length != size);
+        let Some(old) = old.filter(|_| number == 0) else {
+            assert_eq!(target, before);
+            continue;
+        };
+        let new = Layout::of_sound(Format::V2, &target).expect("sound");
+        assert_eq!((new.cards(), new.room()), (old.cards(), old.room()));
+        for card in 0..old.cards() as u16 {
+            assert_eq!(new.entry(&target, card), old.entry(&image, card));
+            for (at, language) in new.languages().enumerate() {
+                let kept = old.text(&image, card, language).filter(|_| at < 2);
+                assert_eq!(new.text(&target, card, language), kept.or(Some(&[])));
+            }
+        }
+    }
+    numbers.assert_all_came(&[0, 9, 14]);
 }

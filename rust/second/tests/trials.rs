@@ -4,24 +4,31 @@ mod common;
 
 use common::check;
 use common::Kept;
-use second::trials::{self, Told, Tried, STORES};
-use second::{make_fresh, output, Turn};
+use second::trials::{self, Told, Tried};
+use second::{output, Format, Turn};
 
 /// The second program; what every answer must keep is checked as well.
 struct Second;
 
 impl Tried for Second {
-    fn make(&mut self, image: &mut [u8], cards: u64, room: u64) -> Result<u8, String> {
-        Ok(make_fresh(image, cards, room))
+    fn make(
+        &mut self,
+        format: Format,
+        image: &mut [u8],
+        cards: u64,
+        room: u64,
+    ) -> Result<u8, String> {
+        Ok(format.make_fresh(image, cards, room))
     }
 
     fn answer(
         &mut self,
+        format: Format,
         image: &mut [u8],
         command: &[u8],
         reply: &mut [u8],
     ) -> Result<Told<7>, String> {
-        let answer = check::answer(image, command, reply);
+        let answer = check::answer(format, image, command, reply);
         Ok((answer.number, answer.fields.numbers()))
     }
 
@@ -37,8 +44,8 @@ impl Tried for Second {
 
 #[test]
 fn commands_in_every_store() {
-    for store in STORES {
-        for trial in trials::trials(store.room) {
+    for store in Format::BOTH.into_iter().flat_map(trials::stores) {
+        for trial in trials::trials(store.format, store.room) {
             assert_eq!(trials::run(&mut Second, store, &trial), Ok(()));
         }
     }
@@ -46,7 +53,9 @@ fn commands_in_every_store() {
 
 #[test]
 fn m_n_and_p() {
-    assert_eq!(trials::run_making(&mut Second), Ok(()));
+    for format in Format::BOTH {
+        assert_eq!(trials::run_making(&mut Second, format), Ok(()));
+    }
     assert_eq!(trials::run_queues(&mut Second), Ok(()));
     assert_eq!(trials::run_case_p(&mut Second), Ok(()));
 }
@@ -54,7 +63,7 @@ fn m_n_and_p() {
 /// Each name is one of a trial, but for those of m and n.
 #[test]
 fn every_trial_is_named() {
-    let all = trials::trials(16);
+    let all = trials::trials(Format::V1, 16);
     let found = |name| all.iter().any(|trial| trial.name == name);
     let left: Vec<&str> = trials::NAMES
         .into_iter()
@@ -62,4 +71,23 @@ fn every_trial_is_named() {
         .collect();
     assert_eq!(left, ["m", "n"]);
     assert!(all.iter().all(|trial| trials::NAMES.contains(&trial.name)));
+}
+
+/// In version 2 each trial comes once for each language, and those of several
+/// languages besides.
+#[test]
+fn every_trial_is_tried_in_every_language() {
+    let (first, all) = (
+        trials::trials(Format::V1, 16),
+        trials::trials(Format::V2, 16),
+    );
+    for language in 0..4 {
+        let of = all.iter().filter(|trial| trial.language == Some(language));
+        let names: Vec<&str> = of.map(|trial| trial.name).collect();
+        let wanted: Vec<&str> = first.iter().map(|trial| trial.name).collect();
+        assert_eq!(names, wanted);
+    }
+    let several = all.iter().filter(|trial| trial.language.is_none());
+    let names: Vec<&str> = several.map(|trial| trial.name).collect();
+    assert_eq!(names, trials::LANGUAGE_NAMES);
 }

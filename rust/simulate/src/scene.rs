@@ -2,7 +2,7 @@
 
 use std::fmt;
 
-use second::{CommandFields, Pair};
+use second::{CommandFields, Format, Pair};
 
 use crate::text::{command_words, pair_words};
 
@@ -54,7 +54,7 @@ pub struct Judged {
 impl Judged {
     /// The numbers in the command's bytes; none if there are not 52.
     pub fn command_fields(&self) -> Option<CommandFields> {
-        CommandFields::from_bytes(&self.command)
+        CommandFields::from_bytes(Format::V1, &self.command)
     }
 }
 

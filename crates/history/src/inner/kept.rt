@@ -5,6 +5,7 @@ ghost use mathlib.Core.List.{reverse};
 ghost use Prim.Native.Nat.{_+_, _-_, _≤_, _<_};
 ghost use lib.Dec.{eqb};
 ghost use lib.ListN.{length};
+ghost use Rattle.formats.specs.declared.Format.the-variants.{V1};
 ghost use Rattle.lists.specs.Parts.{part};
 ghost use Rattle.guard.specs.Judge.{raise, lastEdition};
 ghost use Rattle.guard.specs.Entry.{noEntry};
@@ -74,7 +75,7 @@ fn taken(e: Entry, c: Command, card: u16) -> Entry
 // The entry of a card, worked out from the kept commands.
 pub fn entry_of(kept: &[u8], card: u16) -> Entry
     requires { ⌜ length (now kept) ≤ historySize ⌝ }
-    ensures { λ r. ⌜ r ≡ entryFrom (reverse (commands (now (kept .entry)))) card ⌝ }
+    ensures { λ r. ⌜ r ≡ entryFrom (reverse (commands V1 (now (kept .entry)))) card ⌝ }
 {
     let mut at = 0;
     let mut e = no_entry();
@@ -101,7 +102,7 @@ fn chosen(test: bool, first: Span, second: Span) -> Span
 // Where the text stands that the last command with this act for this card wrote; an empty part where there is none.
 pub fn text_of(kept: &[u8], card: u16, act: u8) -> Span
     ensures { λ r. ⌜ (r .start ≤ r .end) × (r .end ≤ length (now (kept .entry)))
-        × (part (r .start) (r .end - r .start) (now (kept .entry)) ≡ writtenBy act (reverse (commands (now (kept .entry)))) card) ⌝ }
+        × (part (r .start) (r .end - r .start) (now (kept .entry)) ≡ writtenBy act (reverse (commands V1 (now (kept .entry)))) card) ⌝ }
 {
     let mut at = 0;
     let mut found = Span { start: 0, end: 0 };

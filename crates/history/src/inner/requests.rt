@@ -40,8 +40,8 @@ fn full(x: Totals, length: u16) -> bool
 // The entry of the command's card, worked out from the kept commands, judges it; 22 comes last.
 pub fn weigh(kept: &[u8], c: Command, room: u16, lent: usize) -> Weighed
     requires { ⌜ length (now kept) ≤ historySize ⌝ }
-    ensures judged { λ r. ⌜ r .judged ≡ weighed (reverse (commands (now (kept .entry)))) c room lent ⌝ }
-    ensures end { λ r. ⌜ r .end ≡ endOf (now (kept .entry)) ⌝ }
+    ensures judged { λ r. ⌜ r .judged ≡ weighed (reverse (commands V1 (now (kept .entry)))) c room lent ⌝ }
+    ensures end { λ r. ⌜ r .end ≡ endOf V1 (now (kept .entry)) ⌝ }
     ensures fits { λ r. ⌜ (r .judged .number ≡ 0 → r .end + fixed V1 + c .length ≤ historySize) ⌝ }
 {
     let e = entry_of(kept, c.card);
@@ -66,8 +66,8 @@ pub fn weigh(kept: &[u8], c: Command, room: u16, lent: usize) -> Weighed
 
 // Copies the text that the last command with this act wrote into the first bytes of the reply buffer.
 fn show_by(kept: &[u8], card: u16, act: u8, reply: &mut [u8])
-    requires { ⌜ length (writtenBy act (reverse (commands (now kept))) card) ≤ length (now reply) ⌝ }
-    ensures { λ _. ⌜ now (reply .exit) ≡ splice 0 (writtenBy act (reverse (commands (now (kept .entry)))) card) (now (reply .entry)) ⌝ }
+    requires { ⌜ length (writtenBy act (reverse (commands V1 (now kept))) card) ≤ length (now reply) ⌝ }
+    ensures { λ _. ⌜ now (reply .exit) ≡ splice 0 (writtenBy act (reverse (commands V1 (now (kept .entry)))) card) (now (reply .entry)) ⌝ }
 {
     let p = text_of(kept, card, act);
     let start = p.start;
@@ -77,8 +77,8 @@ fn show_by(kept: &[u8], card: u16, act: u8, reply: &mut [u8])
 
 // Copies the text that an accepted command reads, if any, into the first bytes of the reply buffer.
 pub fn show(kept: &[u8], c: Command, reply: &mut [u8])
-    requires { ⌜ length (readFrom (reverse (commands (now kept))) c) ≤ length (now reply) ⌝ }
-    ensures { λ _. ⌜ now (reply .exit) ≡ splice 0 (readFrom (reverse (commands (now (kept .entry)))) c) (now (reply .entry)) ⌝ }
+    requires { ⌜ length (readFrom (reverse (commands V1 (now kept))) c) ≤ length (now reply) ⌝ }
+    ensures { λ _. ⌜ now (reply .exit) ≡ splice 0 (readFrom (reverse (commands V1 (now (kept .entry)))) c) (now (reply .entry)) ⌝ }
 {
     if c.reads_original() {
         show_by(kept, c.card, WRITE_ORIGINAL, reply);

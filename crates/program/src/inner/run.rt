@@ -4,6 +4,7 @@ ghost use lib.ListN.{length};
 ghost use Rattle.program.specs.Text.{Put};
 ghost use Rattle.program.specs.Program.{printed, mostPrinted};
 use crate::inner::lines;
+use formats::Format;
 use store::inner::run::PER_LINE;
 use store::inner::run::one;
 
@@ -23,7 +24,14 @@ pub fn run(image: &mut [u8], stream: &[u8], reply: &mut [u8], out: &mut [u8], at
         if end == from {
             break from;
         }
-        one(image, &stream[from..end], reply, checked, &mut line);
+        one(
+            Format::V1,
+            image,
+            &stream[from..end],
+            reply,
+            checked,
+            &mut line,
+        );
         to = lines::put_line(out, to, place, &line);
         place += 1;
         from = end;

@@ -3,7 +3,6 @@ ghost use mathlib.Core.Path.{_≡_};
 ghost use Prim.Native.Nat.{_+_, _≤_};
 ghost use lib.ListN.{length};
 ghost use Rattle.lists.specs.Parts.{splice};
-ghost use Rattle.formats.specs.declared.Format.the-variants.{V1};
 ghost use Rattle.image.specs.Image.{sound};
 ghost use Rattle.model.specs.Serve.{serve};
 ghost use Rattle.store.specs.Runs.{runs, numbersOf, perLine};
@@ -11,7 +10,6 @@ ghost use Rattle.store.specs.Ran.{judgedOf, ranOf, lined, isOne};
 use crate::Ran;
 use crate::inner::step;
 use commands::LENGTH;
-use formats::FIXED_V1 as FIXED;
 use formats::Format;
 use guard::Answer;
 use guard::UNSOUND;
@@ -55,18 +53,19 @@ fn put_line(lines: &mut [u64], at: usize, a: Answer)
 
 // Judges the whole commands of a stream in their order, on an image that has been checked, as long as there is room for the numbers of their answers.
 pub fn run_checked(
+    f: Format,
     image: &mut [u8],
     stream: &[u8],
     reply: &mut [u8],
     checked: bool,
     lines: &mut [u64],
 ) -> Ran
-    requires { ⌜ checked ≡ sound V1 (now image) ⌝ }
-    ensures ran { λ r. ⌜ r ≡ ranOf (now (stream .entry)) (length (now (lines .entry))) ⌝ }
-    ensures image { λ _. ⌜ now (image .exit) ≡ runs (now (image .entry)) (now (reply .entry)) (judgedOf (now (stream .entry)) (length (now (lines .entry)))) .image ⌝ }
-    ensures reply { λ _. ⌜ now (reply .exit) ≡ runs (now (image .entry)) (now (reply .entry)) (judgedOf (now (stream .entry)) (length (now (lines .entry)))) .reply ⌝ }
-    ensures lines { λ _. ⌜ now (lines .exit) ≡ splice 0 (lined (runs (now (image .entry)) (now (reply .entry)) (judgedOf (now (stream .entry)) (length (now (lines .entry)))))) (now (lines .entry)) ⌝ }
-    ensures kept { λ _. ⌜ checked ≡ sound V1 (now (image .exit)) ⌝ }
+    requires { ⌜ checked ≡ sound f (now image) ⌝ }
+    ensures ran { λ r. ⌜ r ≡ ranOf f (now (stream .entry)) (length (now (lines .entry))) ⌝ }
+    ensures image { λ _. ⌜ now (image .exit) ≡ runs f (now (image .entry)) (now (reply .entry)) (judgedOf f (now (stream .entry)) (length (now (lines .entry)))) .image ⌝ }
+    ensures reply { λ _. ⌜ now (reply .exit) ≡ runs f (now (image .entry)) (now (reply .entry)) (judgedOf f (now (stream .entry)) (length (now (lines .entry)))) .reply ⌝ }
+    ensures lines { λ _. ⌜ now (lines .exit) ≡ splice 0 (lined (runs f (now (image .entry)) (now (reply .entry)) (judgedOf f (now (stream .entry)) (length (now (lines .entry)))))) (now (lines .entry)) ⌝ }
+    ensures kept { λ _. ⌜ checked ≡ sound f (now (image .exit)) ⌝ }
 {
     let room = lines.len() / PER_LINE;
     let mut at = 0;
@@ -75,10 +74,10 @@ pub fn run_checked(
         if room <= count {
             break Ran { count, end: at };
         }
-        let Next::Whole(end) = stream::next_at(stream, at) else {
+        let Next::Whole(end) = stream::next_at_as(f, stream, at) else {
             break Ran { count, end: at };
         };
-        let answer = step::judge(Format::V1, image, &stream[at..end], reply, checked);
+        let answer = step::judge(f, image, &stream[at..end], reply, checked);
         put_line(lines, count * PER_LINE, answer);
         count += 1;
         at = end;
@@ -86,33 +85,35 @@ pub fn run_checked(
 }
 
 // Whether lent bytes are as long as one whole command says that it is.
-fn is_one(command: &[u8]) -> bool
-    ensures { λ r. ⌜ r ≡ isOne (now (command .entry)) ⌝ }
+fn is_one(f: Format, command: &[u8]) -> bool
+    ensures { λ r. ⌜ r ≡ isOne f (now (command .entry)) ⌝ }
 {
-    if command.len() < FIXED {
+    let fixed = formats::inner::fixed(f);
+    if command.len() < fixed {
         return false;
     }
-    command.len() == FIXED + (read_u16(command, LENGTH) as usize)
+    command.len() == fixed + (read_u16(command, LENGTH) as usize)
 }
 
 // One request on an image that has been checked, as a run of one command; bytes of another length are malformed. The numbers of its answer are written
 // to `line`, and the first of them is handed back.
 pub fn one(
+    f: Format,
     image: &mut [u8],
     command: &[u8],
     reply: &mut [u8],
     checked: bool,
     line: &mut [u64],
 ) -> u8
-    requires { ⌜ (checked ≡ sound V1 (now image)) × (length (now line) ≡ perLine) ⌝ }
-    ensures number { λ r. ⌜ r ≡ serve V1 (now (image .entry)) (now (command .entry)) (now (reply .entry)) .answer .number ⌝ }
-    ensures image { λ _. ⌜ now (image .exit) ≡ serve V1 (now (image .entry)) (now (command .entry)) (now (reply .entry)) .image ⌝ }
-    ensures reply { λ _. ⌜ now (reply .exit) ≡ serve V1 (now (image .entry)) (now (command .entry)) (now (reply .entry)) .reply ⌝ }
-    ensures line { λ _. ⌜ now (line .exit) ≡ numbersOf (serve V1 (now (image .entry)) (now (command .entry)) (now (reply .entry)) .answer) ⌝ }
-    ensures kept { λ _. ⌜ checked ≡ sound V1 (now (image .exit)) ⌝ }
+    requires { ⌜ (checked ≡ sound f (now image)) × (length (now line) ≡ perLine) ⌝ }
+    ensures number { λ r. ⌜ r ≡ serve f (now (image .entry)) (now (command .entry)) (now (reply .entry)) .answer .number ⌝ }
+    ensures image { λ _. ⌜ now (image .exit) ≡ serve f (now (image .entry)) (now (command .entry)) (now (reply .entry)) .image ⌝ }
+    ensures reply { λ _. ⌜ now (reply .exit) ≡ serve f (now (image .entry)) (now (command .entry)) (now (reply .entry)) .reply ⌝ }
+    ensures line { λ _. ⌜ now (line .exit) ≡ numbersOf (serve f (now (image .entry)) (now (command .entry)) (now (reply .entry)) .answer) ⌝ }
+    ensures kept { λ _. ⌜ checked ≡ sound f (now (image .exit)) ⌝ }
 {
-    if is_one(command) {
-        run_checked(image, command, reply, checked, line);
+    if is_one(f, command) {
+        run_checked(f, image, command, reply, checked, line);
         return line[0] as u8;
     }
     if checked {

@@ -2,22 +2,25 @@
 //! after.
 
 use second::{
-    is_sound, Act, Answer, Command, Entry, Language, Layout, Place, Queue, QueueAnswer,
-    ReplyFields, Turn,
+    Act, Answer, Command, Entry, Format, Language, Layout, Place, Queue, QueueAnswer, ReplyFields,
+    Turn,
 };
 
 /// Answers a command and checks the answer, the image and the reply buffer.
-pub fn answer(image: &mut [u8], command: &[u8], reply: &mut [u8]) -> Answer {
+pub fn answer(format: Format, image: &mut [u8], command: &[u8], reply: &mut [u8]) -> Answer {
     let (image_before, reply_before) = (image.to_vec(), reply.to_vec());
-    let answer = second::answer(image, command, reply);
+    let answer = format.answer(image, command, reply);
     match answer.number {
-        0 => accepted(&image_before, image, command, &reply_before, reply, answer),
+        0 => {
+            let (before, after) = (&image_before, &*image);
+            accepted(format, before, after, command, &reply_before, reply, answer);
+        }
         1 | 2 | 9 => {
             assert_eq!(answer.fields, ReplyFields::default());
         }
         3..=8 | 17 => {
-            let (stored, _) = entry_of(&image_before, command);
-            assert_eq!(answer.fields, fields_of(stored, 0));
+            let (stored, _) = entry_of(format, &image_before, command);
+            assert_eq!(answer.fields, fields_of(named(format, command), stored, 0));
         }
         number => panic!("no such number: {number}"),
     }
@@ -25,24 +28,32 @@ pub fn answer(image: &mut [u8], command: &[u8], reply: &mut [u8]) -> Answer {
         assert!(image == image_before, "a refusal changed the image");
         assert!(reply == reply_before, "a refusal changed the reply");
     }
-    assert_eq!(answer.number == 9, !is_sound(&image_before));
+    assert_eq!(answer.number == 9, !format.is_sound(&image_before));
     answer
 }
 
 /// The entry a well-formed command is about.
-fn entry_of(image: &[u8], command: &[u8]) -> (Entry, Layout) {
-    let layout = Layout::of_header(image).expect("rows 3 on need a sound image");
-    let command = Command::parse(command).expect("rows 3 on need a well-formed command");
+fn entry_of(format: Format, image: &[u8], command: &[u8]) -> (Entry, Layout) {
+    let layout = Layout::of_header(format, image).expect("rows 3 on need a sound image");
+    let command = Command::parse(format, command).expect("rows 3 on need a well-formed command");
     let entry = layout.entry(image, command.card);
     (entry.expect("rows 3 on need a card"), layout)
 }
 
-fn fields_of(entry: Entry, length: u16) -> ReplyFields {
+/// The language that a command names: byte 20 of version 2.
+fn named(format: Format, command: &[u8]) -> usize {
+    match format {
+        Format::V1 => 0,
+        Format::V2 => command[20].into(),
+    }
+}
+
+fn fields_of(language: usize, entry: Entry, length: u16) -> ReplyFields {
     ReplyFields {
         pair: entry.pair,
         mark: entry.mark,
         edition: entry.edition,
-        translated_from: entry.translated_from,
+        translated_from: entry.translations[language].from,
         length,
     }
 }
@@ -55,6 +66,7 @@ fn text(layout: Layout, image: &[u8], card: u16, language: Language) -> Vec<u8> 
 
 /// An accepted command: the new entry, the texts, every other byte, the reply.
 fn accepted(
+    format: Format,
     before: &[u8],
     after: &[u8],
     bytes: &[u8],
@@ -62,57 +74,55 @@ fn accepted(
     reply: &[u8],
     answer: Answer,
 ) {
-    assert!(is_sound(after), "an accepted command broke the image");
-    let (stored, layout) = entry_of(before, bytes);
-    let (now, _) = entry_of(after, bytes);
-    let command = Command::parse(bytes).expect("accepted");
+    assert!(
+        format.is_sound(after),
+        "an accepted command broke the image"
+    );
+    let (stored, layout) = entry_of(format, before, bytes);
+    let (now, _) = entry_of(format, after, bytes);
+    let command = Command::parse(format, bytes).expect("accepted");
     let card = command.card;
     let mut expected = stored;
     expected.pair.s = stored.pair.s.max(command.update.s);
     expected.pair.x = stored.pair.x.max(command.update.x);
     expected.mark = command.next;
-    let mut originals = text(layout, before, card, Language::Original);
-    let mut translations = text(layout, before, card, Language::Translation);
     let mut reply_expected = reply_before.to_vec();
     let mut length = 0;
+    let mut written = None;
+    let payload = command.payload.len() as u16;
     match command.act {
         Act::Read(language) => {
             let read = text(layout, before, card, language);
             reply_expected[..read.len()].copy_from_slice(&read);
             length = read.len() as u16;
         }
-        Act::Write(Language::Original) => {
+        Act::Write(language @ Language::Original) => {
             expected.edition = stored.edition + 1;
-            expected.original_length = command.payload.len() as u16;
-            originals = command.payload.to_vec();
+            expected.original_length = payload;
+            written = Some(language);
         }
-        Act::Write(Language::Translation) => {
-            expected.translated_from = stored.edition;
-            expected.translation_length = command.payload.len() as u16;
-            translations = command.payload.to_vec();
+        Act::Write(language @ Language::Translation(_)) => {
+            let translation = &mut expected.translations[named(format, bytes)];
+            (translation.from, translation.length) = (stored.edition, payload);
+            written = Some(language);
         }
         Act::Verify => {}
     }
     assert_eq!(now, expected);
-    assert_eq!(answer.fields, fields_of(now, length));
+    let fields = fields_of(named(format, bytes), now, length);
+    assert_eq!(answer.fields, fields);
     assert!(reply == reply_expected, "the reply buffer");
-    assert_eq!(text(layout, after, card, Language::Original), originals);
-    assert_eq!(
-        text(layout, after, card, Language::Translation),
-        translations
-    );
-    let own = [
-        layout.entry_range(card).expect("exists"),
-        layout.body_range(card, Language::Original).expect("exists"),
-        layout
-            .body_range(card, Language::Translation)
-            .expect("exists"),
-    ];
+    // Every byte but the entry and the body that is written.
     let mut image_expected = before.to_vec();
-    for range in own {
-        image_expected[range.clone()].copy_from_slice(&after[range]);
+    let entry = layout.entry_range(card).expect("exists");
+    image_expected[entry.clone()].copy_from_slice(&after[entry]);
+    if let Some(language) = written {
+        let body = layout.body_range(card, language).expect("exists");
+        let (text, rest) = image_expected[body].split_at_mut(command.payload.len());
+        text.copy_from_slice(command.payload);
+        rest.fill(0);
     }
-    assert!(after == image_expected, "a byte elsewhere changed");
+    assert!(after == image_expected, "a byte elsewhere");
 }
 
 /// Takes a turn and checks the answer and the queue.

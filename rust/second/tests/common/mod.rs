@@ -15,8 +15,8 @@ use second::{Answer, Layout};
 /// Answers a command with a reply buffer of C bytes and checks what every
 /// answer must keep.
 pub fn send(image: &mut [u8], command: &[u8]) -> Answer {
-    let room = Layout::of_header(image).map_or(16, Layout::room);
-    check::answer(image, command, &mut vec![0xaa; room])
+    let room = Layout::of_header(V1, image).map_or(16, Layout::room);
+    check::answer(V1, image, command, &mut vec![0xaa; room])
 }
 
 /// The number of the answer to a command.

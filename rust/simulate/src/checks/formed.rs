@@ -1,6 +1,6 @@
 //! A command as the rules read it (rules 1.2 to 1.7, 3.1 to 3.4).
 
-use second::{CommandFields, Mark, Pair};
+use second::{CommandFields, Format, Mark, Pair};
 
 /// Modes.
 pub const SHARED: u8 = 1;
@@ -79,7 +79,7 @@ impl Sent<'_> {
 
 /// The command in these bytes, or none if they are malformed.
 pub fn formed(bytes: &[u8]) -> Option<Sent<'_>> {
-    let fields = CommandFields::from_bytes(bytes)?;
+    let fields = CommandFields::from_bytes(Format::V1, bytes)?;
     let payload = &bytes[52..];
     let (act, mode, verifier) = (fields.act, fields.mode, fields.pair);
     let same = fields.update == Pair::default();

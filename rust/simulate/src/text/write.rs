@@ -2,7 +2,7 @@
 
 use std::fmt::Write;
 
-use second::{CommandFields, Pair};
+use second::{CommandFields, Format, Pair};
 
 use super::{Line, List};
 use crate::checks::store::Store;
@@ -66,7 +66,7 @@ fn mode_words(mode: u8) -> String {
 
 /// A command in words; bytes that are no whole command, as bytes.
 pub fn command_words(bytes: &[u8]) -> String {
-    let fields = CommandFields::from_bytes(bytes);
+    let fields = CommandFields::from_bytes(Format::V1, bytes);
     let whole = fields.filter(|fields| bytes.len() == 52 + usize::from(fields.length));
     let Some(fields) = whole else {
         return format!("bytes {}", bytes_words(bytes)).trim_end().into();

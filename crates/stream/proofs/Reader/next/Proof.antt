@@ -43,6 +43,7 @@ use denote.Triple.Table.{entered, cited}
 use denote.Triple.Walked.{says, Stays, stay-none, walkOf, goes-none, Walks, ends-at, walked, walk-meets}
 use denote.Exit.{yes}
 use denote.Triple.Clauses.{ensured, lasts}
+use Rattle.formats.specs.declared.Format.the-variants.{V1}
 use Rattle.stream.specs.Stream.{nextAt, onward, movedTo}
 use Rattle.stream.specs.declared.Reader.{Reader}
 use Rattle.stream.proofs.Reader as T
@@ -78,7 +79,7 @@ module _ {M : Type 1} (𝓤 : URA M) (H : Heap 𝓤) (A : Atoms 𝓤) (W : Given
 
   -- where the reader goes on, and the reader there
   abbrev goes : ℕ
-  goes = onward (d .at) (nextAt (now (d .stream)) (d .at))
+  goes = onward (d .at) (nextAt V1 (now (d .stream)) (d .at))
 
   abbrev d′ : ℕ → Reader
   d′ n = movedTo d n

@@ -32,17 +32,17 @@ next-from-requires c κs = search needs
 
 sub-one : tie.Need-sub-one Inv-loop μ-loop
 sub-one c =
-    let w = running-within (c .before .before .before .loop .inv .0) _ (went _ _ (c .before .before .next-from .ensures) (c .before .if1 .left)) in
+    let w = running-within (c .before .before .before .loop .inv .0) _ (went V1 _ _ (c .before .before .next-from .ensures) (c .before .if1 .left)) in
     omega (arith, w .0, w .1, w .2, w .3)
 
 part-one-start : tie.Need-part-one-start Inv-loop μ-loop
 part-one-start c =
-    let w = running-within (c .before .before .before .loop .inv .0) _ (went _ _ (c .before .before .next-from .ensures) (c .before .if1 .left)) in
+    let w = running-within (c .before .before .before .loop .inv .0) _ (went V1 _ _ (c .before .before .next-from .ensures) (c .before .if1 .left)) in
     omega (arith, w .0, w .1, w .2, w .3)
 
 part-one-end : tie.Need-part-one-end Inv-loop μ-loop
 part-one-end c =
-    let w = running-within (c .before .before .before .loop .inv .0) _ (went _ _ (c .before .before .next-from .ensures) (c .before .if1 .left)) in
+    let w = running-within (c .before .before .before .loop .inv .0) _ (went V1 _ _ (c .before .before .next-from .ensures) (c .before .if1 .left)) in
     omega (arith, w .0, w .1, w .2, w .3)
 
 slice-aggregate-one : tie.Need-slice-aggregate-one Inv-loop μ-loop
@@ -56,21 +56,21 @@ slice-aggregate-put-line c = search needs
 
 put-line-requires : tie.Need-put-line-requires Inv-loop μ-loop
 put-line-requires c κs =
-    let w = running-within (c .before .before .before .before .before .before .before .before .before .before .before .before .before .before .loop .inv .0) _ (went _ _ (c .before .before .before .before .before .before .before .before .before .before .before .before .before .next-from .ensures) (c .before .before .before .before .before .before .before .before .before .before .before .before .if1 .left)) in
+    let w = running-within (c .before .before .before .before .before .before .before .before .before .before .before .before .before .before .loop .inv .0) _ (went V1 _ _ (c .before .before .before .before .before .before .before .before .before .before .before .before .before .next-from .ensures) (c .before .before .before .before .before .before .before .before .before .before .before .before .if1 .left)) in
     (omega (arith, w .0, w .1, w .2, w .3), ap length (c .before .before .before .before .before .before .before .one .ensures .1 .1 .1 .0) ∙ per-line _)
 
 add-place : tie.Need-add-place Inv-loop μ-loop
 add-place c =
-    let w = running-within (c .before .before .before .before .before .before .before .before .before .before .before .before .before .before .before .before .before .loop .inv .0) _ (went _ _ (c .before .before .before .before .before .before .before .before .before .before .before .before .before .before .before .before .next-from .ensures) (c .before .before .before .before .before .before .before .before .before .before .before .before .before .before .before .if1 .left)) in
+    let w = running-within (c .before .before .before .before .before .before .before .before .before .before .before .before .before .before .before .before .before .loop .inv .0) _ (went V1 _ _ (c .before .before .before .before .before .before .before .before .before .before .before .before .before .before .before .before .next-from .ensures) (c .before .before .before .before .before .before .before .before .before .before .before .before .before .before .before .if1 .left)) in
     omega (arith, w .0, w .1, w .2, w .3)
 
 loop-less : tie.Need-loop-less Inv-loop μ-loop
-loop-less c = running-less (c .before .before .before .before .before .before .before .before .before .before .before .before .before .before .before .before .before .loop .inv .0) _ (went _ _ (c .before .before .before .before .before .before .before .before .before .before .before .before .before .before .before .before .next-from .ensures) (c .before .before .before .before .before .before .before .before .before .before .before .before .before .before .before .if1 .left))
+loop-less c = running-less (c .before .before .before .before .before .before .before .before .before .before .before .before .before .before .before .before .before .loop .inv .0) _ (went V1 _ _ (c .before .before .before .before .before .before .before .before .before .before .before .before .before .before .before .before .next-from .ensures) (c .before .before .before .before .before .before .before .before .before .before .before .before .before .before .before .if1 .left))
 
 loop-again : tie.Need-loop-again Inv-loop μ-loop
 loop-again c =
     let e = c .before .before .before .before .before .before .before .before .before .before .one .ensures in (
-      running-more (c .before .before .before .before .before .before .before .before .before .before .before .before .before .before .before .before .before .loop .inv .0) _ _ _ _ _ _ (went _ _ (c .before .before .before .before .before .before .before .before .before .before .before .before .before .before .before .before .next-from .ensures) (c .before .before .before .before .before .before .before .before .before .before .before .before .before .before .before .if1 .left)) refl (e .1 .0) (e .1 .1 .0) (line-put _ _ (e .1 .1 .1 .0) (c .before .before .put-line .ensures)) (search needs) (search needs),
+      running-more (c .before .before .before .before .before .before .before .before .before .before .before .before .before .before .before .before .before .loop .inv .0) _ _ _ _ _ _ (went V1 _ _ (c .before .before .before .before .before .before .before .before .before .before .before .before .before .before .before .before .next-from .ensures) (c .before .before .before .before .before .before .before .before .before .before .before .before .before .before .before .if1 .left)) refl (e .1 .0) (e .1 .1 .0) (line-put _ _ (e .1 .1 .1 .0) (c .before .before .put-line .ensures)) (search needs) (search needs),
       e .1 .1 .1 .1,
       ap length (e .1 .1 .1 .0) ∙ per-line _,
     )
@@ -79,7 +79,7 @@ sub-put-last : tie.Need-sub-put-last Inv-loop μ-loop
 sub-put-last c = omega (arith, c .before .before .before .loop .inv .0 .walked .within)
 
 put-last-requires : tie.Need-put-last-requires Inv-loop μ-loop
-put-last-requires c κs = running-fits (c .before .before .before .loop .inv .0) (stayed _ _ (c .before .before .next-from .ensures) (c .before .if1 .taken))
+put-last-requires c κs = running-fits (c .before .before .before .loop .inv .0) (stayed V1 _ _ (c .before .before .next-from .ensures) (c .before .if1 .taken))
 
 same-length : tie.Need-same-length Inv-loop μ-loop
 same-length c = search needs
@@ -91,7 +91,7 @@ same-length-3 : tie.Need-same-length-3 Inv-loop μ-loop
 same-length-3 c = search needs
 
 returns : tie.Need-returns Inv-loop μ-loop
-returns c = running-done (c .before .before .before .before .before .before .loop .inv .0) (stayed _ _ (c .before .before .before .before .before .next-from .ensures) (c .before .before .before .before .if1 .taken)) (search needs) (c .before .before .put-last .ensures)
+returns c = running-done (c .before .before .before .before .before .before .loop .inv .0) (stayed V1 _ _ (c .before .before .before .before .before .next-from .ensures) (c .before .before .before .before .if1 .taken)) (search needs) (c .before .before .put-last .ensures)
 
 pub run-spec : {M : Type 1} → statement M
 run-spec =

@@ -4,7 +4,6 @@ use native.Mathlib.Omega.{arith}
 use mathlib.Core.Path.{sym, ap, _∙_}
 use mathlib.Core.List.{List}
 use lib.ListN.{getD}
-use Rattle.formats.specs.declared.Format.the-variants.{V1}
 use Rattle.store.proofs.Step.{serve-unsound, serve-malformed}
 use Rattle.store.proofs.One.{not-one, small, one-image, one-reply, one-line, first-number, refused-exits}
 use borrow.Author.Needs.{needs}
@@ -24,9 +23,9 @@ cast-result : tie.Need-cast-result
 cast-result c =
     let start = c .before .before .before .before .before .before .before .before .before .before .before .before .before .before .before .before .before in
     let chosen = sym (c .before .before .before .before .before .before .before .before .before .before .before .before .is-one .ensures) ∙ c .before .before .before .before .before .before .before .before .before .before .before .if1 .taken in
-    let after = c .before .before .before .before .before .before .before .run-checked .ensures .1 .1 .1 .0 ∙ one-line (start .args .image .now) (start .args .reply .now) (start .args .command .now) (start .args .line .now) chosen (start .pre .1) in
+    let after = c .before .before .before .before .before .before .before .run-checked .ensures .1 .1 .1 .0 ∙ one-line (start .args .f) (start .args .image .now) (start .args .reply .now) (start .args .command .now) (start .args .line .now) chosen (start .pre .1) in
     let number = ap (λ (l : List ℕ). getD l 0 0) after ∙ first-number _ in
-    omega (arith, number, small (start .args .image .now) (start .args .command .now) (start .args .reply .now))
+    omega (arith, number, small (start .args .f) (start .args .image .now) (start .args .command .now) (start .args .reply .now))
 
 same-length : tie.Need-same-length
 same-length c = search needs
@@ -42,12 +41,12 @@ returns c =
     let start = c .before .before .before .before .before .before .before .before .before .before .before .before .before .before .before .before .before in
     let e = c .before .before .before .before .before .before .before .run-checked .ensures in
     let chosen = sym (c .before .before .before .before .before .before .before .before .before .before .before .before .is-one .ensures) ∙ c .before .before .before .before .before .before .before .before .before .before .before .if1 .taken in
-    let after = c .before .before .before .before .before .before .before .run-checked .ensures .1 .1 .1 .0 ∙ one-line (start .args .image .now) (start .args .reply .now) (start .args .command .now) (start .args .line .now) chosen (start .pre .1) in (
+    let after = c .before .before .before .before .before .before .before .run-checked .ensures .1 .1 .1 .0 ∙ one-line (start .args .f) (start .args .image .now) (start .args .reply .now) (start .args .command .now) (start .args .line .now) chosen (start .pre .1) in (
       ap (λ (l : List ℕ). getD l 0 0) after ∙ first-number _,
       (
-        e .1 .0 ∙ one-image (start .args .image .now) (start .args .reply .now) (start .args .command .now) (start .args .line .now) chosen (start .pre .1),
+        e .1 .0 ∙ one-image (start .args .f) (start .args .image .now) (start .args .reply .now) (start .args .command .now) (start .args .line .now) chosen (start .pre .1),
         (
-          e .1 .1 .0 ∙ one-reply (start .args .image .now) (start .args .reply .now) (start .args .command .now) (start .args .line .now) chosen (start .pre .1),
+          e .1 .1 .0 ∙ one-reply (start .args .f) (start .args .image .now) (start .args .reply .now) (start .args .command .now) (start .args .line .now) chosen (start .pre .1),
           (after, e .1 .1 .1 .1),
         ),
       ),
@@ -65,9 +64,9 @@ same-length-4 c = search needs
 returns-2 : tie.Need-returns-2
 returns-2 c =
     let start = c .before .before .before .before .before .before .before .before .before .before .before .before in
-    let none = not-one (start .args .command .now) (sym (c .before .before .before .before .before .before .before .is-one .ensures) ∙ c .before .before .before .before .before .before .if1 .left) in
+    let none = not-one (start .args .f) (start .args .command .now) (sym (c .before .before .before .before .before .before .before .is-one .ensures) ∙ c .before .before .before .before .before .before .if1 .left) in
     refused-exits (start .args .line .now) 1
-    (serve-malformed V1 (start .args .image .now) (start .args .command .now) (start .args .reply .now) (sym (start .pre .0) ∙ c .before .before .before .before .before .if2 .taken) none)
+    (serve-malformed (start .args .f) (start .args .image .now) (start .args .command .now) (start .args .reply .now) (sym (start .pre .0) ∙ c .before .before .before .before .before .if2 .taken) none)
     (c .before .before .before .refusal .ensures)
     (c .before .before .put-line .ensures)
     (start .pre .1)
@@ -86,7 +85,7 @@ returns-3 : tie.Need-returns-3
 returns-3 c =
     let start = c .before .before .before .before .before .before .before .before .before .before .before .before in
     refused-exits (start .args .line .now) 9
-    (serve-unsound V1 (start .args .image .now) (start .args .command .now) (start .args .reply .now) (sym (start .pre .0) ∙ c .before .before .before .before .before .if2 .left))
+    (serve-unsound (start .args .f) (start .args .image .now) (start .args .command .now) (start .args .reply .now) (sym (start .pre .0) ∙ c .before .before .before .before .before .if2 .left))
     (c .before .before .before .refusal2 .ensures)
     (c .before .before .put-line2 .ensures)
     (start .pre .1)

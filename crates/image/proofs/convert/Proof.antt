@@ -1,0 +1,96 @@
+-- Refused by the source, refused by the target, or written card by card. Assumes nothing.
+use Prim.Native.Nat.{ℕ, _≤_, _-_}
+use native.Mathlib.Omega.{arith}
+use mathlib.Core.Path.{_≡_, refl, sym, ap, _∙_}
+use borrow.Author.Tests.{not-true, not-false}
+use lib.ListN.{length}
+use Rattle.lists.proofs.Tests.{to-T}
+use Rattle.formats.specs.declared.Format.the-variants.{V1, V2}
+use Rattle.image.specs.Bytes.{countOf, roomOf}
+use Rattle.image.specs.Image.{encode, sound, makeNumber}
+use Rattle.image.specs.Convert.{widenedUpTo}
+use Rattle.image.proofs.Widen.{sound-header, all-widened, unsound-source, not-made, as-it-was, begins, converts}
+use borrow.Author.Needs.{needs}
+use Rattle.image.proofs.convert.Statement.{statement}
+use Rattle.image.proofs.convert.Tie as tie
+
+abbrev Inv-loop : tie.InvT-loop
+Inv-loop image target₀ n c k₀ target k = (k ≤ n) × (length target ≡ length target₀) × (target ≡ encode V2 (widenedUpTo k image))
+
+abbrev μ-loop : tie.MeasureT-loop
+μ-loop image target₀ n c k₀ target k = n - k
+
+sound-requires : tie.Need-sound-requires Inv-loop μ-loop
+sound-requires c κs = search needs
+
+returns : tie.Need-returns Inv-loop μ-loop
+returns c = let refused = unsound-source (c .before .before .before .before .args .image .now) (length (c .before .before .before .before .args .target .now)) (sym (c .before .sound .ensures) ∙ not-true _ (c .if1 .taken)) in
+    (rw refused, rw refused)
+
+count-requires : tie.Need-count-requires Inv-loop μ-loop
+count-requires c κs = sound-header (c .before .before .before .before .args .image .now) (sym (c .before .sound .ensures) ∙ not-false _ (c .if1 .left))
+
+room-requires : tie.Need-room-requires Inv-loop μ-loop
+room-requires c κs = sound-header (c .before .before .before .before .before .args .image .now) (sym (c .before .before .sound .ensures) ∙ not-false _ (c .before .if1 .left))
+
+cast-make-as : tie.Need-cast-make-as Inv-loop μ-loop
+cast-make-as c = search needs
+
+cast-make-as-2 : tie.Need-cast-make-as-2 Inv-loop μ-loop
+cast-make-as-2 c = search needs
+
+make-as-requires : tie.Need-make-as-requires Inv-loop μ-loop
+make-as-requires c κs = search needs
+
+same-length : tie.Need-same-length Inv-loop μ-loop
+same-length c = search needs
+
+returns-2 : tie.Need-returns-2 Inv-loop μ-loop
+returns-2 c = let refused = not-made (c .before .before .before .before .before .before .before .before .before .before .before .args .image .now) (c .before .before .before .before .before .before .before .before .before .before .before .args .target .now) (c .before .before .before .make-as .last .1 .0) (c .before .before .before .before .before .before .count .ensures) (c .before .before .before .before .before .room .ensures) (c .before .before .before .make-as .ensures .0) (c .before .before .before .make-as .ensures .1) (sym (c .before .before .before .before .before .before .before .before .sound .ensures) ∙ not-false _ (c .before .before .before .before .before .before .before .if1 .left)) (c .if2 .taken) in
+    (rw refused, rw refused (as-it-was (c .before .before .before .before .before .before .before .before .before .before .before .args .image .now) (c .before .before .before .before .before .before .before .before .before .before .before .args .target .now) (c .before .before .before .make-as .last .1 .0) (c .before .before .before .before .before .before .count .ensures) (c .before .before .before .before .before .room .ensures) (c .before .before .before .make-as .ensures .0) (c .before .before .before .make-as .ensures .1) (c .if2 .taken)))
+
+loop-holds : tie.Need-loop-holds Inv-loop μ-loop
+loop-holds c = (omega arith, refl, begins (c .before .before .before .before .before .before .before .before .before .before .before .args .image .now) (c .before .before .before .before .before .before .before .before .before .before .before .args .target .now) (c .before .before .before .make-as .last .1 .0) (c .before .before .before .before .before .before .count .ensures) (c .before .before .before .before .before .room .ensures) (c .before .before .before .make-as .ensures .0) (c .before .before .before .make-as .ensures .1) (c .if2 .left))
+
+widen-requires : tie.Need-widen-requires Inv-loop μ-loop
+widen-requires c κs = (to-T (sym (c .before .before .before .before .before .before .before .before .before .before .before .sound .ensures) ∙ not-false _ (c .before .before .before .before .before .before .before .before .before .before .if1 .left)), omega (arith, c .before .before .before .before .before .before .before .before .before .count .ensures), c .before .before .loop .inv .2)
+
+add-k : tie.Need-add-k Inv-loop μ-loop
+add-k c = omega arith
+
+loop-less : tie.Need-loop-less Inv-loop μ-loop
+loop-less c = omega arith
+
+loop-again : tie.Need-loop-again Inv-loop μ-loop
+loop-again c = (omega arith, omega arith, c .before .before .widen .ensures ∙ ap (λ (k : ℕ). encode V2 (widenedUpTo k (c .before .before .before .before .before .before .before .before .before .before .before .before .before .before .before .before .before .args .image .now))) (omega arith))
+
+same-length-2 : tie.Need-same-length-2 Inv-loop μ-loop
+same-length-2 c = omega arith
+
+returns-3 : tie.Need-returns-3 Inv-loop μ-loop
+returns-3 c = let accepted = converts (c .before .before .before .before .before .before .before .before .before .before .before .before .before .args .image .now) (c .before .before .before .before .before .before .before .before .before .before .before .before .before .args .target .now) (c .before .before .before .before .before .make-as .last .1 .0) (c .before .before .before .before .before .before .before .before .count .ensures) (c .before .before .before .before .before .before .before .room .ensures) (c .before .before .before .before .before .make-as .ensures .0) (c .before .before .before .before .before .make-as .ensures .1) (sym (c .before .before .before .before .before .before .before .before .before .before .sound .ensures) ∙ not-false _ (c .before .before .before .before .before .before .before .before .before .if1 .left)) (c .before .before .if2 .left) in
+    let last : c .before .loop .k ≡ countOf (c .before .before .before .before .before .before .before .before .before .before .before .before .before .args .image .now) = omega (arith, c .before .before .before .before .before .before .before .before .count .ensures) in
+    (rw accepted, rw accepted (c .before .loop .inv .2 ∙ ap (λ (k : ℕ). encode V2 (widenedUpTo k (c .before .before .before .before .before .before .before .before .before .before .before .before .before .args .image .now))) last ∙ all-widened (c .before .before .before .before .before .before .before .before .before .before .before .before .before .args .image .now)))
+
+pub convert-spec : {M : Type 1} → statement M
+convert-spec =
+    tie.close
+    (tie.spec
+    Inv-loop
+    μ-loop
+    sound-requires
+    returns
+    count-requires
+    room-requires
+    cast-make-as
+    cast-make-as-2
+    make-as-requires
+    same-length
+    returns-2
+    loop-holds
+    widen-requires
+    add-k
+    loop-less
+    loop-again
+    same-length-2
+    returns-3)

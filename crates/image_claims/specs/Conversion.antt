@@ -1,0 +1,81 @@
+-- What a conversion keeps, as claims and as worked cases; the theorems stand in proofs/.
+-- Assumes nothing.
+use Prim.Native.Nat.{ℕ, _<_}
+use mathlib.Core.Path.{_≡_}
+use mathlib.Core.List.{List, [], _∷_, _++_, map}
+use lib.Dec.{T}
+use lib.ListN.{length, set, replicate}
+use Rattle.lists.specs.Parts.{Bytes}
+use Rattle.formats.specs.declared.Format.the-variants.{V1, V2}
+use Rattle.image.specs.Bytes.{countOf, roomOf}
+use Rattle.image.specs.Image.{Card, translationOf, noTranslation, cardAt, encode, decode, sound}
+use Rattle.image.specs.Convert.{widenedCards, converted, convertNumber}
+use Rattle.image_claims.specs.Cases.{oneCard}
+
+-- Rule 15.9: a card keeps its stamps, its mark, its edition and its original; its translation is that of language 0, and no other language was ever written.
+pub record Keeps (old new : Card) : Type 0 where
+  pub pair : new .pair ≡ old .pair
+  pub mark : new .mark ≡ old .mark
+  pub edition : new .edition ≡ old .edition
+  pub original : new .original ≡ old .original
+  pub first : translationOf 0 new ≡ translationOf 0 old
+  pub others : (t : ℕ) → 0 < t → translationOf t new ≡ noTranslation
+
+-- Rule 15.11: a conversion that is answered 0 leaves a sound image of version 2, as long as what was lent, of as many cards with the same room, and keeps each card.
+pub record Converts (image : List ℕ) (lent : ℕ) : Type 0 where
+  pub bytes : Bytes (converted image)
+  pub sounds : T (sound V2 (converted image))
+  pub long : length (converted image) ≡ lent
+  pub count : countOf (converted image) ≡ countOf image
+  pub room : roomOf (converted image) ≡ roomOf image
+  pub cards : decode V2 (converted image) ≡ widenedCards (decode V1 image)
+  pub each : (k : ℕ) → k < countOf image → Keeps (cardAt V1 image k) (cardAt V2 (converted image) k)
+
+abbrev pub Conversion : Type 0
+Conversion = (image : List ℕ) (lent : ℕ) → Bytes image → convertNumber image lent ≡ 0 → Converts image lent
+
+-- ---- Worked cases: the image of one card, converted, and the numbers for it and for one with its zero field broken (rule 15.10).
+
+-- The header of version 2; the stamps; the mark; edition 2, 3 bytes of original; made from edition 1, and three times none; 2 bytes, and three times none;
+-- the zeros behind; the original, the translation, and three empty bodies.
+abbrev pub oneConverted : List ℕ
+oneConverted =
+    (0x52 ∷ 0x43 ∷ 0x31 ∷ 0 ∷ 2 ∷ 0 ∷ 1 ∷ 0 ∷ 16 ∷ 0 ∷ 0 ∷ 0 ∷ 0 ∷ 0 ∷ 0 ∷ 0 ∷ [])
+    ++ (0 ∷ 0 ∷ 1 ∷ 0 ∷ 1 ∷ 0 ∷ 0 ∷ 0 ∷ [])
+    ++ (0 ∷ 0 ∷ 1 ∷ 0 ∷ 1 ∷ 0 ∷ 0 ∷ 0 ∷ [])
+    ++ (1 ∷ 0 ∷ 0 ∷ 0 ∷ 7 ∷ 0 ∷ 0 ∷ 0 ∷ [])
+    ++ (2 ∷ 0 ∷ 3 ∷ 0 ∷ [])
+    ++ (1 ∷ 0 ∷ 0 ∷ 0 ∷ 0 ∷ 0 ∷ 0 ∷ 0 ∷ [])
+    ++ (2 ∷ 0 ∷ 0 ∷ 0 ∷ 0 ∷ 0 ∷ 0 ∷ 0 ∷ [])
+    ++ replicate 4 0
+    ++ (50 ∷ 48 ∷ 53 ∷ [])
+    ++ replicate 13 0
+    ++ (52 ∷ 48 ∷ [])
+    ++ replicate 62 0
+
+pub record ConvertCase : Type 0 where
+  pub source : List ℕ
+  pub lent : ℕ
+  pub number : ℕ
+
+abbrev pub lending : List ℕ → ℕ → ℕ → ConvertCase
+lending source lent number = record { source = source; lent = lent; number = number }
+
+abbrev pub conversions : List ConvertCase
+conversions =
+    lending (encode V1 oneCard) 144 0
+    ∷ lending (encode V1 oneCard) 143 14
+    ∷ lending (encode V1 oneCard) 145 14
+    ∷ lending (encode V1 oneCard) 80 14
+    ∷ lending (encode V1 oneCard) 0 14
+    -- its zero field broken: whatever is lent
+    ∷ lending (set (encode V1 oneCard) 34 1) 144 9
+    ∷ lending (set (encode V1 oneCard) 34 1) 143 9
+    -- nothing, and an image of version 2
+    ∷ lending [] 0 9
+    ∷ lending oneConverted 144 9
+    ∷ []
+
+pub record ConvertCases : Type 0 where
+  pub image : converted (encode V1 oneCard) ≡ oneConverted
+  pub numbers : map (λ (a : ConvertCase). convertNumber (a .source) (a .lent)) conversions ≡ map (λ (a : ConvertCase). a .number) conversions

@@ -1,0 +1,26 @@
+-- The two cases of what stands there. Assumes nothing.
+use mathlib.Core.Path.{sym, ap, _∙_}
+use Rattle.stream.specs.Stream.{onward}
+use borrow.Author.Needs.{needs}
+use Rattle.stream.proofs.onward_as.Statement.{statement}
+use Rattle.stream.proofs.onward_as.Tie as tie
+
+next-at-as-requires : tie.Need-next-at-as-requires
+next-at-as-requires c κs = search needs
+
+enum-known-end : tie.Need-enum-known-end
+enum-known-end c = search needs
+
+enum-told : tie.Need-enum-told
+enum-told c = search needs
+
+returns : tie.Need-returns
+returns c =
+    ap (onward (c .before .before .before .before .before .args .at)) (sym (c .before .end .given .1) ∙ c .before .before .before .next-at-as .ensures)
+
+returns-2 : tie.Need-returns-2
+returns-2 c =
+    ap (onward (c .before .before .before .before .args .at)) (sym (c .enum-told .given .1) ∙ c .before .before .next-at-as .ensures)
+
+pub onward-as-spec : {M : Type 1} → statement M
+onward-as-spec = tie.close (tie.spec next-at-as-requires enum-known-end enum-told returns returns-2)
