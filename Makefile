@@ -1,7 +1,7 @@
 # make run: the program's example. make test: exactly what the gate runs. make soak N=..: the comparison with a new seed, N cases
 # (2,000,000 at the least). make sim N=..: the town of desks with a new seed, N steps (1,000,000 at the least). make pictures: the pictures of
-# docs/pictures, from their texts. make audit: the further must-fail edits.
-.PHONY: run test soak sim pictures audit
+# docs/pictures, from their texts. make bench: the store against a straightforward Rust version, and the picture of docs/PERFORMANCE.md. make audit: the further must-fail edits.
+.PHONY: run test soak sim pictures bench audit
 N = 20000000
 SHELL = /bin/bash
 .SHELLFLAGS = -o pipefail -c
@@ -26,6 +26,10 @@ pictures:
 	tools/build
 	cd rust && cargo build --offline --release --quiet -p simulate
 	for text in late-exclusive power-cut; do rust/target/release/lupaniele-draw docs/pictures/$$text.txt > docs/pictures/$$text.svg || exit 1; done
+
+bench:
+	tools/build
+	cd rust && cargo run --offline --release --quiet -p bench -- table ../docs/pictures/speed.svg
 
 audit:
 	tools/audit

@@ -2,3 +2,4 @@ pub mod Arrays
 pub mod Proposed
 pub mod Exits
 pub mod Neither
+pub mod Line

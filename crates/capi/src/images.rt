@@ -6,7 +6,8 @@ ghost use Rattle.lists.specs.Table.{settled};
 ghost use Rattle.image.specs.Image.{sound, makeNumber, fresh};
 ghost use Rattle.model.specs.Serve.{serve};
 ghost use Rattle.guard.specs.Replies.{replyFields};
-use crate::inner::answers::write_fields;
+use crate::inner::answers::answer;
+use formats::Format;
 
 // Makes a fresh image of `cards` cards with room `room`: 0, or 14 and nothing written.
 #[no_mangle]
@@ -40,7 +41,5 @@ pub extern "C" fn lupaniele_answer(
     ensures image { λ _. ⌜ now (image .exit) ≡ serve V1 (now (image .entry)) (now (command .entry)) (now (reply .entry)) .image ⌝ }
     ensures reply { λ _. ⌜ now (reply .exit) ≡ serve V1 (now (image .entry)) (now (command .entry)) (now (reply .entry)) .reply ⌝ }
 {
-    let served = store::answer(image, command, reply);
-    write_fields(fields, served);
-    served.number
+    answer(Format::V1, image, command, reply, fields)
 }

@@ -2,10 +2,8 @@
 // A slice is a pointer and a length, a reference to a number or to an array a pointer.
 pub mod agree;
 pub mod desks;
-pub mod histories;
 pub mod images;
 pub mod inner;
-pub mod log;
 pub mod outputs;
 pub mod queues;
 pub mod shown;

@@ -1,5 +1,9 @@
 // Streams of commands of each version, for Rust and C.
 ghost use mathlib.Core.Path.{_≡_};
+ghost use lib.ListN.{length};
+ghost use Rattle.lists.specs.Parts.{splice};
+ghost use Rattle.store.specs.Runs.{runs};
+ghost use Rattle.store.specs.Ran.{judgedOf, ranOf, lined};
 ghost use Rattle.formats.specs.declared.Format.the-variants.{V1, V2};
 ghost use Rattle.capi.specs.Numbers.{isWhole};
 ghost use Rattle.stream.specs.Stream.{nextAt, endOf, onward};
@@ -49,4 +53,25 @@ pub extern "C" fn lupaniele_end_v2(stream: &[u8]) -> u64
     ensures { λ r. ⌜ r ≡ endOf V2 (now (stream .entry)) ⌝ }
 {
     stream::end_of_as(Format::V2, stream) as u64
+}
+
+// Judges the whole commands of a stream in their order, with the image checked once, until the stream or the room in `lines` ends: how many there were,
+// and in `end` the byte where it stopped. The number and the seven reply fields of each answer are written to `lines`, 8 numbers for each command.
+#[no_mangle]
+pub extern "C" fn lupaniele_run(
+    image: &mut [u8],
+    stream: &[u8],
+    reply: &mut [u8],
+    lines: &mut [u64],
+    end: &mut u64,
+) -> u64
+    ensures count { λ r. ⌜ r ≡ ranOf V1 (now (stream .entry)) (length (now (lines .entry))) .count ⌝ }
+    ensures end { λ _. ⌜ now (end .exit) ≡ ranOf V1 (now (stream .entry)) (length (now (lines .entry))) .end ⌝ }
+    ensures image { λ _. ⌜ now (image .exit) ≡ runs V1 (now (image .entry)) (now (reply .entry)) (judgedOf V1 (now (stream .entry)) (length (now (lines .entry)))) .image ⌝ }
+    ensures reply { λ _. ⌜ now (reply .exit) ≡ runs V1 (now (image .entry)) (now (reply .entry)) (judgedOf V1 (now (stream .entry)) (length (now (lines .entry)))) .reply ⌝ }
+    ensures lines { λ _. ⌜ now (lines .exit) ≡ splice 0 (lined (runs V1 (now (image .entry)) (now (reply .entry)) (judgedOf V1 (now (stream .entry)) (length (now (lines .entry)))))) (now (lines .entry)) ⌝ }
+{
+    let ran = store::run(image, stream, reply, lines);
+    *end = ran.end as u64;
+    ran.count as u64
 }

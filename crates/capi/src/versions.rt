@@ -7,7 +7,7 @@ ghost use Rattle.image.specs.Image.{sound, makeNumber, fresh};
 ghost use Rattle.image.specs.Convert.{converted, convertNumber};
 ghost use Rattle.model.specs.Serve.{serve};
 ghost use Rattle.guard.specs.Replies.{replyFields};
-use crate::inner::answers::write_fields;
+use crate::inner::answers::answer;
 use formats::Format;
 
 // Makes a fresh image of version 2, of `cards` cards with room `room`: 0, or 14 and nothing written.
@@ -41,9 +41,7 @@ pub extern "C" fn lupaniele_answer_v2(
     ensures image { λ _. ⌜ now (image .exit) ≡ serve V2 (now (image .entry)) (now (command .entry)) (now (reply .entry)) .image ⌝ }
     ensures reply { λ _. ⌜ now (reply .exit) ≡ serve V2 (now (image .entry)) (now (command .entry)) (now (reply .entry)) .reply ⌝ }
 {
-    let served = store::answer_as(Format::V2, image, command, reply);
-    write_fields(fields, served);
-    served.number
+    answer(Format::V2, image, command, reply, fields)
 }
 
 // Converts an image of version 1 into one of version 2 in the whole of target: 0, or 9 or 14 and nothing written.

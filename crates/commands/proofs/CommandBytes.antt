@@ -46,6 +46,18 @@ pub formed-by : (f : Format) (bytes : List ℕ) {c : Command} {size : ℕ} {z w 
 unfolding formed fieldsOf
 formed-by f bytes p n q r = rw (r, q, n, p)
 
+-- The same, test by test.
+module _ (f : Format) (bytes : List ℕ) {c : Command} {size : ℕ} (p : c ≡ fieldsOf f bytes) (n : size ≡ fixed f) where
+  pub not-whole : (length bytes ≡ size + c .length → ⊥) → formed f bytes ≡ false
+  not-whole h = formed-by f bytes p n refl refl ∙ rw (ne-eqb (length bytes) (size + c .length) h)
+
+  module _ (h : length bytes ≡ size + c .length) {z : Bool} (q : z ≡ zeros (blanks f bytes)) where
+    pub not-blank : z ≡ false → formed f bytes ≡ false
+    not-blank g = formed-by f bytes p n q refl ∙ rw (eq-eqb (length bytes) (size + c .length) h, g)
+
+    pub by-rules : z ≡ true → {w : Bool} → w ≡ wellFormed c → formed f bytes ≡ w
+    by-rules g r = formed-by f bytes p n q r ∙ rw (eq-eqb (length bytes) (size + c .length) h, g)
+
 -- What holds of bytes that are a command.
 pub record Formedness (f : Format) (bytes : List ℕ) : Type 0 where
   pub whole : length bytes ≡ fixed f + fieldsOf f bytes .length

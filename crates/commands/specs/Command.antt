@@ -43,8 +43,11 @@ languageNamed c = leb (c .language) 3 && (readsTranslation c || writesTranslatio
 abbrev pub verifier : Command → Pair
 verifier c = c .pair
 
+abbrev pub opensNone : Command → Bool
+opensNone c = eqb (c .opened .s) 0 && eqb (c .opened .x) 0
+
 abbrev pub update : Command → Pair
-update c = cond (eqb (c .opened .s) 0 && eqb (c .opened .x) 0) (c .pair) (c .opened)
+update c = cond (opensNone c) (c .pair) (c .opened)
 
 -- The rules of a verifier (rule 3.3): valid stamps, zero or not, and none above the update pair's.
 abbrev pub verifierChecks : Command → List Bool
@@ -65,9 +68,9 @@ pub record Session : Type 0 where
 abbrev pub session : Command → Session
 session c = record { card = c .card; desk = deskOf (c .mode) (update c); mode = c .mode; pair = update c }
 
--- The rules of a command's numbers, one test for each part of rule 3.3.
-abbrev pub checks : Command → List Bool
-checks c =
+-- The rules of a command's numbers, one test for each part of rule 3.3: those that go by the act,
+abbrev pub actChecks : Command → List Bool
+actChecks c =
     -- acts are 1 to 5
     (leb 1 (c .act) && leb (c .act) 5)
     -- a write is exclusive
@@ -76,8 +79,17 @@ checks c =
     ∷ Bool·beq (eqb (c .act) 4) (not (eqb (c .edition) 0))
     -- only a write has a payload
     ∷ (eqb (c .length) 0 || isWrite c)
-    -- the mode and the update pair (rule 1.4), the verifier, both marks (rule 1.7), and the language
-    ∷ (sessionChecks (c .mode) (update c) ++ (verifierChecks c ++ (markWhole (c .expected) ∷ markWhole (c .next) ∷ languageNamed c ∷ [])))
+    -- the language
+    ∷ languageNamed c
+    ∷ []
+
+-- those of the mode and the update pair (rule 1.4) and of the verifier,
+abbrev pub pairChecks : Command → List Bool
+pairChecks c = sessionChecks (c .mode) (update c) ++ verifierChecks c
+
+-- and those of both marks (rule 1.7).
+abbrev pub checks : Command → List Bool
+checks c = actChecks c ++ (pairChecks c ++ (markWhole (c .expected) ∷ markWhole (c .next) ∷ []))
 
 unfoldable pub wellFormed : Command → Bool
 wellFormed c = all (checks c)

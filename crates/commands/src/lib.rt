@@ -2,11 +2,8 @@
 pub mod inner;
 
 ghost use mathlib.Core.Path.{_≡_};
-ghost use mathlib.Core.Bool.{Bool·beq, not, _&&_, _||_};
-ghost use lib.Dec.{leb, eqb};
-ghost use Rattle.stamps.specs.Stamp.{exclusive};
 ghost use Rattle.lists.specs.Table.{all};
-ghost use Rattle.commands.specs.Command.{Language, readsTranslation, writesTranslation, reads, writes, isWrite, languageNamed, update, verifierChecks, wellFormed};
+ghost use Rattle.commands.specs.Command.{Language, readsTranslation, writesTranslation, reads, writes, opensNone, update, actChecks, verifierChecks, pairChecks, wellFormed};
 ghost use Prim.Native.Nat.{_+_, _≤_};
 ghost use lib.ListN.{length};
 ghost use Rattle.formats.specs.declared.Format.the-variants.{V1};
@@ -79,60 +76,45 @@ impl Command {
         self.act == WRITE_TRANSLATION
     }
 
-    // Whether the command writes a text.
-    fn is_write(self) -> bool
-        ensures { λ r. ⌜ r ≡ isWrite self ⌝ }
+    // The rules that go by the act: a write is exclusive; act 4 names an edition and no other act does; only a write has a payload; acts 2 and 4
+    // name a language, 0 to 3, and the others have 0 there.
+    fn act_ok(self) -> bool
+        ensures { λ r. ⌜ r ≡ all (actChecks self) ⌝ }
     {
-        (self.act == WRITE_ORIGINAL) | (self.act == WRITE_TRANSLATION)
+        if self.writes_original() {
+            return (self.mode == EXCLUSIVE) & (self.edition == 0) & (self.language == 0);
+        }
+        if self.writes_translation() {
+            return (self.mode == EXCLUSIVE)
+                & !(self.edition == 0)
+                & (self.language <= MOST_LANGUAGE);
+        }
+        if self.reads_translation() {
+            return (self.edition == 0) & (self.length == 0) & (self.language <= MOST_LANGUAGE);
+        }
+        (READ_ORIGINAL <= self.act)
+            & (self.act <= VERIFY)
+            & (self.edition == 0)
+            & (self.length == 0)
+            & (self.language == 0)
     }
 
-    // Acts are 1 to 5.
-    fn act_known(self) -> bool
-        ensures { λ r. ⌜ r ≡ (leb 1 (self .act) && leb (self .act) 5) ⌝ }
+    // Whether no update pair was sent.
+    fn opens_none(self) -> bool
+        ensures { λ r. ⌜ r ≡ opensNone self ⌝ }
     {
-        (READ_ORIGINAL <= self.act) & (self.act <= VERIFY)
-    }
-
-    // Writes must be exclusive.
-    fn write_exclusive(self) -> bool
-        ensures { λ r. ⌜ r ≡ (not (isWrite self) || eqb (self .mode) exclusive) ⌝ }
-    {
-        !self.is_write() | (self.mode == EXCLUSIVE)
-    }
-
-    // The edition is nonzero for act 4 and zero for every other act.
-    fn edition_named(self) -> bool
-        ensures { λ r. ⌜ r ≡ Bool·beq (eqb (self .act) 4) (not (eqb (self .edition) 0)) ⌝ }
-    {
-        (self.act == WRITE_TRANSLATION) == !(self.edition == 0)
-    }
-
-    // The length is zero unless act 3 or 4.
-    fn payload_written(self) -> bool
-        ensures { λ r. ⌜ r ≡ (eqb (self .length) 0 || isWrite self) ⌝ }
-    {
-        (self.length == 0) | self.is_write()
-    }
-
-    // The language is 0 to 3 for acts 2 and 4 and zero for every other act.
-    fn language_named(self) -> bool
-        ensures { λ r. ⌜ r ≡ languageNamed self ⌝ }
-    {
-        (self.language <= MOST_LANGUAGE)
-            & ((self.act == READ_TRANSLATION)
-                | (self.act == WRITE_TRANSLATION)
-                | (self.language == 0))
+        let opened = self.opened;
+        (opened.s == 0) & (opened.x == 0)
     }
 
     // The update pair: the verifier where none was sent.
     pub fn update(self) -> Pair
         ensures { λ r. ⌜ r ≡ update self ⌝ }
     {
-        let opened = self.opened;
-        if (opened.s == 0) & (opened.x == 0) {
+        if self.opens_none() {
             return self.pair;
         }
-        opened
+        self.opened
     }
 
     // The verifier's stamps are valid, and none is above the update pair's.
@@ -147,19 +129,27 @@ impl Command {
             & (verifier.x <= update.x)
     }
 
+    // The rules of the mode and of the two pairs. Where no update pair was sent, those of a session are all.
+    fn pairs_ok(self) -> bool
+        ensures { λ r. ⌜ r ≡ all (pairChecks self) ⌝ }
+    {
+        if self.opens_none() {
+            return session_ok(self.mode, self.pair);
+        }
+        session_ok(self.mode, self.opened) & self.verifier_ok()
+    }
+
     // Whether the numbers keep the rules of a command.
     pub fn well_formed(self) -> bool
         ensures { λ r. ⌜ r ≡ wellFormed self ⌝ }
     {
-        self.act_known()
-            & self.write_exclusive()
-            & self.edition_named()
-            & self.payload_written()
-            & session_ok(self.mode, self.update())
-            & self.verifier_ok()
-            & mark_whole(self.expected)
-            & mark_whole(self.next)
-            & self.language_named()
+        if !self.act_ok() {
+            return false;
+        }
+        if !self.pairs_ok() {
+            return false;
+        }
+        mark_whole(self.expected) & mark_whole(self.next)
     }
 }
 
@@ -234,13 +224,16 @@ pub fn parse_as(f: Format, bytes: &[u8]) -> Parsed
     }
     let c = inner::fields(f, bytes);
     let blank = formats::inner::blank_at(f);
-    if (bytes.len() == fixed + (c.length as usize))
-        & slices::all_zero(&bytes[blank..EXPECTED])
-        & c.well_formed()
-    {
-        return Parsed::Formed(c);
+    if bytes.len() != fixed + (c.length as usize) {
+        return Parsed::Malformed;
     }
-    Parsed::Malformed
+    if !slices::all_zero(&bytes[blank..EXPECTED]) {
+        return Parsed::Malformed;
+    }
+    if !c.well_formed() {
+        return Parsed::Malformed;
+    }
+    Parsed::Formed(c)
 }
 
 // Lent bytes as a command of version 1.

@@ -1,10 +1,10 @@
 -- Laws of an entry that judges a command. Assumes nothing.
 use Prim.Native.Nat.{ℕ, suc, _+_, _≤_}
 use native.Mathlib.Omega.{arith}
-use mathlib.Core.Path.{_≡_, refl}
+use mathlib.Core.Path.{_≡_, refl, sym, ap, _∙_}
 use mathlib.Core.Logic.{_↔_, _⊎_}
-use mathlib.Core.Bool.{Bool, true, false, not, _&&_}
-use borrow.Author.Tests.{ltb-false, eqb-true, eqb-false, not-false}
+use mathlib.Core.Bool.{Bool, true, false, not, _&&_, or-false}
+use borrow.Author.Tests.{le-ltb, ltb-false, eqb-true, eqb-false, not-false}
 use lib.Dec.{T, eqb, ltb}
 use Rattle.lists.proofs.Tests.{never-both, or-fails}
 use Rattle.stamps.specs.Stamp.{shared, exclusive, stale, mostAhead, stampT, tooFar, markFits}
@@ -21,6 +21,15 @@ use Rattle.stamps.proofs.Stamp.{larger-old, stale-more, near-raises}
 second-fails : (a b : Bool) → (a && b) ≡ false → a ≡ true → b ≡ false
 second-fails true b h e = h
 second-fails false b h e = absurd (never-both e refl)
+
+-- A command that writes nothing has no payload.
+pub no-payload : (room : ℕ) (c : Command) → wellFormed c ≡ true → writes original c ≡ false → writesTranslation c ≡ false → ltb room (c .length) ≡ false
+no-payload room c h a b =
+    let none : c .length ≡ 0 = eqb-true (c .length) 0 (sym (or-false (eqb (c .length) 0)) ∙ rw (a, b) at (command-rules c h .length)) in
+    le-ltb room (c .length) (omega arith)
+
+pub read-no-payload : (room : ℕ) (c : Command) → wellFormed c ≡ true → {a : ℕ} → c .act ≡ a → eqb a 3 ≡ false → eqb a 4 ≡ false → ltb room (c .length) ≡ false
+read-no-payload room c h p f g = no-payload room c h (ap (λ (n : ℕ). eqb n 3) p ∙ f) (ap (λ (n : ℕ). eqb n 4) p ∙ g)
 
 -- What an accepted command passed, row by row.
 pub record Accepted (e : Entry) (c : Command) (room lent : ℕ) : Type 0 where

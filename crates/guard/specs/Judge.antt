@@ -67,17 +67,22 @@ editionsSpent e c = writes original c && eqb (e .edition) lastEdition
 abbrev pub replyShort : Entry → Command → ℕ → Bool
 replyShort e c lent = reads original c && ltb lent (e .original) || readsTranslation c && ltb lent (e .translation)
 
--- The table's rows from 3 on (3, 17, then 4 to 8), for the card's entry, a command, the room C and the length of the lent reply buffer.
+-- The rows that go by the act, 5 to 8, for the card's entry, a command, the room C and the length of the lent reply buffer.
+abbrev pub actRows : Entry → Command → ℕ → ℕ → List Row
+actRows e c room lent =
+    row (ltb room (c .length)) PAYLOAD-LONG
+    ∷ row (wrongEdition e c) EDITION-WRONG
+    ∷ row (editionsSpent e c) EDITIONS-SPENT
+    ∷ row (replyShort e c lent) REPLY-SHORT
+    ∷ []
+
+-- The table's rows from 3 on: 3, 17, 4, then those.
 abbrev pub entryRows : Entry → Command → ℕ → ℕ → List Row
 entryRows e c room lent =
     row (stale (c .mode) (e .pair) (verifier c)) STALE
     ∷ row (tooFar (e .pair) (update c)) TOO-FAR
     ∷ row (not (markFits (e .mark) (c .expected))) MARK-DIFFERS
-    ∷ row (ltb room (c .length)) PAYLOAD-LONG
-    ∷ row (wrongEdition e c) EDITION-WRONG
-    ∷ row (editionsSpent e c) EDITIONS-SPENT
-    ∷ row (replyShort e c lent) REPLY-SHORT
-    ∷ []
+    ∷ actRows e c room lent
 
 -- The rows of an entry that judges a command, whoever made it: row 1, command malformed, on its numbers, then those rows.
 abbrev pub judgeRows : Entry → Command → ℕ → ℕ → List Row

@@ -1,4 +1,6 @@
 // What other crates need, and what asks something of its caller.
+pub mod rows;
+
 ghost use mathlib.Core.Path.{_≡_};
 ghost use mathlib.Core.Bool.{false, cond};
 ghost use Rattle.guard.specs.Judge.{editionsSpent, raise};

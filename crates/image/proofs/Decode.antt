@@ -96,7 +96,7 @@ module _ (f : Format) (image : List ℕ) where
           and-left (entrySound (roomOf image) (entryAt f image k t)) (tailZero f image k (suc t) (entryAt f image k t .translation)) (language-holds t h)
 
       -- The length of a side's text, by the entry.
-      abbrev sideLength : ℕ → ℕ
+      abbrev pub sideLength : ℕ → ℕ
       sideLength zero = entryAt f image k 0 .original
       sideLength (suc t) = entryAt f image k t .translation
 

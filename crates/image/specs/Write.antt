@@ -1,7 +1,8 @@
--- An image with an entry written as it is seen in one translation: the numbers of the others stay.
+-- What is written to an image: an entry as it is seen in one translation, where the numbers of the others stay, and a text over an old one.
 -- Assumes nothing.
-use Prim.Native.Nat.{ℕ, _+_, _*_}
-use mathlib.Core.List.{List}
+use Prim.Native.Nat.{ℕ, _+_, _-_, _*_}
+use mathlib.Core.List.{List, _++_}
+use lib.ListN.{length, replicate}
 use Rattle.lists.specs.Parts.{splice}
 use Rattle.lists.specs.Le.{toLe}
 use Rattle.guard.specs.declared.Entry.{Entry}
@@ -19,3 +20,7 @@ countsWith f t e at l =
 
 unfoldable pub entryWith : Format → ℕ → Entry → ℕ → List ℕ → List ℕ
 entryWith f t e at l = countsWith f t e at (splice (at + 16) (entryMark (e .mark)) (splice at (pairBytes (e .pair)) l))
+
+-- A text over an old one of this length: the text, and zeros in place of what is left of the old one.
+unfoldable pub overOld : ℕ → List ℕ → List ℕ
+overOld old text = text ++ replicate (old - length text) 0

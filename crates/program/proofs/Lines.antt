@@ -7,11 +7,7 @@ use Rattle.lists.specs.Parts.{spread}
 use Rattle.lists.proofs.Parts.{drop-left}
 use Rattle.program.specs.Text.{spaced}
 use Rattle.guard.specs.declared.Answer.{Answer}
-use Rattle.program.specs.Program.{numbersOf, perLine}
-
-pub per-line : (a : Answer) → length (numbersOf a) ≡ perLine
-unfolding numbersOf
-per-line a = refl
+use Rattle.store.specs.Runs.{numbersOf, perLine}
 
 -- The numbers from place i on, by the first of them, and behind the last.
 pub numbers-left : (l : List ℕ) {i : ℕ} → i < length l → spread spaced (drop i l) ≡ spaced (getD l i 0) ++ spread spaced (drop (i + 1) l)

@@ -1,6 +1,6 @@
 -- Laws of a run: what the loop of `run` keeps. Assumes nothing.
 use Prim.Native.Nat.{ℕ, _+_, _-_, _*_, _/_, _≤_, _<_}
-use mathlib.Core.Path.{_≡_, refl, sym, ap, _∙_}
+use mathlib.Core.Path.{_≡_, refl, sym, ap, subst, _∙_}
 use mathlib.Core.List.{List, []}
 use lib.ListN.{length, take, drop}
 use native.Mathlib.Omega.{arith}
@@ -10,7 +10,8 @@ use Rattle.program.specs.Text.{Put}
 use Rattle.program.proofs.Puts.{put-put, put-wide, Putting, putting-none, putting-more, putting-done}
 use Rattle.guard.specs.declared.Answer.{Answer}
 use Rattle.formats.specs.Format.{fixed}
-use Rattle.program.specs.Program.{lineOf, linesFrom, lastLine, mostLine, runs, printed, mostPrinted}
+use Rattle.program.specs.Program.{lineBy, lineOf, linesFrom, lastLine, mostLine, printed, mostPrinted}
+use Rattle.store.specs.Runs.{runs, numbersOf}
 use Rattle.model.specs.Serve.{serve}
 use Rattle.stream.specs.Stream.{commands, nextAt, endOf}
 use Rattle.stream.specs.declared.Next.the-variants.{Whole, Cut}
@@ -25,7 +26,7 @@ pub record Running (start : ℕ) (image₀ reply₀ stream out₀ image reply ou
   pub far : to + mostLine ≤ start + place * mostLine
   pub wide : length image ≡ length image₀
   pub deep : length reply ≡ length reply₀
-  pub lines : Putting start to (linesFrom 1 (runs image₀ reply₀ (commands V1 stream) .answers)) (linesFrom place (runs image reply (commands V1 (drop from stream)) .answers)) out₀ out
+  pub lines : Putting start to (linesFrom 1 (runs V1 image₀ reply₀ (commands V1 stream) .answers)) (linesFrom place (runs V1 image reply (commands V1 (drop from stream)) .answers)) out₀ out
 
 pub running-none : (start : ℕ) (image reply stream out : List ℕ) → start + mostPrinted stream ≤ length out → Running start image reply stream out image reply out 0 1 start
 running-none start image reply stream out h =
@@ -81,3 +82,8 @@ module _ {start : ℕ} {image₀ reply₀ stream out₀ image reply out : List �
         let last : left ≡ length stream - endOf V1 stream = omega (arith, k, at) in
         let done = putting-done (to - start) (r .lines) (rw (walk.stops V1 stream from e)) (omega arith) in
         put-wide (omega (arith, r .walked .within, r .few, r .far)) (put-put (omega arith) done (rw last at p))
+
+-- A line written from the numbers of an answer is the answer's line.
+pub line-put : {to to′ : ℕ} {line out out′ : List ℕ} (place : ℕ) (a : Answer) → line ≡ numbersOf a → Put to mostLine (lineBy place line) out out′ to′ → Put to mostLine (lineOf place a) out out′ to′
+unfolding lineOf
+line-put {to} {to′} {out = out} {out′} place a e p = subst (λ (l : List ℕ). Put to mostLine (lineBy place l) out out′ to′) e p

@@ -9,31 +9,12 @@ use Rattle.formats.specs.declared.Format.the-variants.{V1}
 use Rattle.image.specs.Layout.{mostBytes, mostRoom}
 use Rattle.image.specs.Bytes.{countOf, roomOf}
 use Rattle.image.specs.Image.{goodFront, frontSize}
-use Rattle.guard.specs.Replies.{replyFields}
 use Rattle.guard.specs.declared.Answer.{Answer}
 use Rattle.lists.specs.Parts.{spread}
-use Rattle.model.specs.Serve.{serve}
+use Rattle.store.specs.Runs.{Run, runs, numbersOf, perLine}
 use Rattle.formats.specs.Format.{fixed}
 use Rattle.stream.specs.Stream.{commands, endOf}
 use Rattle.program.specs.Text.{quoted, decimal, spaced, mostDigits}
-
--- ---- A run of commands over one image (rule 8.5).
-
--- A run of commands over an image, with one reply buffer for all of them: the answers in order, the image and the reply buffer after.
-pub record Run : Type 0 where
-  pub answers : List Answer
-  pub image : List ℕ
-  pub reply : List ℕ
-
--- Command by command: each is judged on the image as the one before left it.
-unfoldable pub runs : List ℕ → List ℕ → List (List ℕ) → Run
-runs image reply [] = record { answers = []; image = image; reply = reply }
-runs image reply (c ∷ cs) =
-    record {
-      answers = serve V1 image c reply .answer ∷ runs (serve V1 image c reply .image) (serve V1 image c reply .reply) cs .answers;
-      image = runs (serve V1 image c reply .image) (serve V1 image c reply .reply) cs .image;
-      reply = runs (serve V1 image c reply .image) (serve V1 image c reply .reply) cs .reply;
-    }
 
 -- ---- The lines (rule 8.4).
 
@@ -41,16 +22,12 @@ runs image reply (c ∷ cs) =
 unfoldable pub firstLine : ℕ → List ℕ
 firstLine cards = quoted "cards" ++ spaced cards ++ quoted "\n"
 
--- The numbers that a command's line shows of its answer, and how many they are.
-unfoldable pub numbersOf : Answer → List ℕ
-numbersOf a = a .number ∷ replyFields a
+-- A command's line: its place, then the numbers of its answer.
+abbrev pub lineBy : ℕ → List ℕ → List ℕ
+lineBy place numbers = decimal place ++ spread spaced numbers ++ quoted "\n"
 
-abbrev pub perLine : ℕ
-perLine = 8
-
--- A command's line: its place, then these numbers.
 unfoldable pub lineOf : ℕ → Answer → List ℕ
-lineOf place a = decimal place ++ spread spaced (numbersOf a) ++ quoted "\n"
+lineOf place a = lineBy place (numbersOf a)
 
 -- The lines of answers, counted on from a place.
 unfoldable pub linesFrom : ℕ → List Answer → List ℕ
@@ -67,7 +44,7 @@ leftOver stream = length stream - endOf V1 stream
 
 -- The lines of a stream that is run over an image with a reply buffer: one for each whole command, counted from 1, and the last.
 abbrev pub printed : List ℕ → List ℕ → List ℕ → List ℕ
-printed image reply stream = linesFrom 1 (runs image reply (commands V1 stream) .answers) ++ lastLine (leftOver stream)
+printed image reply stream = linesFrom 1 (runs V1 image reply (commands V1 stream) .answers) ++ lastLine (leftOver stream)
 
 -- ---- The whole output for an input (rule 8.3).
 
@@ -87,7 +64,7 @@ blankOf input = replicate (roomOf input) 0
 
 -- The run of an input.
 abbrev pub runOf : List ℕ → Run
-runOf input = runs (imageOf input) (blankOf input) (commands V1 (streamOf input))
+runOf input = runs V1 (imageOf input) (blankOf input) (commands V1 (streamOf input))
 
 -- From the bytes of standard input to the bytes of standard output.
 unfoldable pub outputOf : List ℕ → List ℕ

@@ -19,7 +19,8 @@ use Rattle.image.specs.Image.{bodies, encode, cardAt, decode, tailZero, transla
 use Rattle.model.specs.Serve.{stepped, serveBy, serve}
 use Rattle.stream.specs.Stream.{extent, whole, commandsWithin, commands, endWithin, endOf}
 use Rattle.image.specs.Image.{goodFront}
-use Rattle.program.specs.Program.{numbersOf, lineOf, linesFrom, firstLine, lastLine, runs, outputOf}
+use Rattle.program.specs.Program.{lineOf, linesFrom, firstLine, lastLine, outputOf}
+use Rattle.store.specs.Runs.{numbersOf, runs}
 use Rattle.program.specs.Text.{quoted, decimalWithin, decimal}
 use Rattle.program_claims.specs.Cases.{CaseP, ShortCases, Decimals}
 

@@ -15,27 +15,28 @@ use Rattle.image.specs.Bytes.{countOf}
 use Rattle.image.specs.Image.{goodFront}
 use Rattle.image_claims.proofs.Claims.{noOldFront}
 use Rattle.program.specs.Text.{quoted}
-use Rattle.program.specs.Program.{lineOf, linesFrom, firstLine, printed, mostInput, imageOf, blankOf, streamOf, runs, outputOf}
+use Rattle.program.specs.Program.{lineOf, linesFrom, firstLine, printed, mostInput, imageOf, blankOf, streamOf, outputOf}
+use Rattle.store.specs.Runs.{runs}
 use Rattle.program_claims.specs.Claims.{NeverEmpty, NoVersion2, ProgramClaims}
 use Rattle.program_claims.proofs.Log.{logs}
 use Rattle.program_claims.proofs.Served.{guarded, serves}
 use Rattle.program_claims.proofs.Prints.{prints}
 use Rattle.program_claims.proofs.Numerals.{numerals}
 
-one-each : (image reply : List ℕ) (cs : List (List ℕ)) → length (runs image reply cs .answers) ≡ length cs
+one-each : (image reply : List ℕ) (cs : List (List ℕ)) → length (runs V1 image reply cs .answers) ≡ length cs
 unfolding runs
 one-each image reply [] = refl
 one-each image reply (c ∷ cs) = ap suc (one-each (serve V1 image c reply .image) (serve V1 image c reply .reply) cs)
 
 each : (image reply : List ℕ) (cs : List (List ℕ)) (i : ℕ) (none : Answer) → i < length cs →
-    getD (runs image reply cs .answers) i none ≡ serve V1 (runs image reply (take i cs) .image) (getD cs i []) (runs image reply (take i cs) .reply) .answer
+    getD (runs V1 image reply cs .answers) i none ≡ serve V1 (runs V1 image reply (take i cs) .image) (getD cs i []) (runs V1 image reply (take i cs) .reply) .answer
 unfolding runs
 each image reply [] i none h = absurd (not-suc-le-zero h)
 each image reply (c ∷ cs) zero none h = refl
 each image reply (c ∷ cs) (suc i) none h = each (serve V1 image c reply .image) (serve V1 image c reply .reply) cs i none (le-of-suc-le-suc h)
 
 -- Of the first commands, the first answers.
-first-answers : (image reply : List ℕ) (cs : List (List ℕ)) (i : ℕ) → runs image reply (take i cs) .answers ≡ take i (runs image reply cs .answers)
+first-answers : (image reply : List ℕ) (cs : List (List ℕ)) (i : ℕ) → runs V1 image reply (take i cs) .answers ≡ take i (runs V1 image reply cs .answers)
 unfolding runs
 first-answers image reply [] zero = refl
 first-answers image reply [] (suc i) = refl
@@ -54,14 +55,14 @@ lines-apart p (suc i) (a ∷ l) none h =
     ∙ sym (append-assoc (lineOf p a) _ _)
 
 lines : (image reply : List ℕ) (cs : List (List ℕ)) (i : ℕ) (none : Answer) → i < length cs →
-    linesFrom 1 (runs image reply cs .answers)
-    ≡ linesFrom 1 (runs image reply (take i cs) .answers)
-    ++ (lineOf (i + 1) (getD (runs image reply cs .answers) i none) ++ linesFrom (i + 2) (drop (i + 1) (runs image reply cs .answers)))
+    linesFrom 1 (runs V1 image reply cs .answers)
+    ≡ linesFrom 1 (runs V1 image reply (take i cs) .answers)
+    ++ (lineOf (i + 1) (getD (runs V1 image reply cs .answers) i none) ++ linesFrom (i + 2) (drop (i + 1) (runs V1 image reply cs .answers)))
 lines image reply cs i none h =
     let a : 1 + i ≡ i + 1 = omega arith in
     let b : i + 1 + 1 ≡ i + 2 = omega arith in
     let c : suc i ≡ i + 1 = omega arith in
-    rw (first-answers image reply cs i) (rw (c, b) at (rw a at (lines-apart 1 i (runs image reply cs .answers) none (rw (one-each image reply cs) h))))
+    rw (first-answers image reply cs i) (rw (c, b) at (rw a at (lines-apart 1 i (runs V1 image reply cs .answers) none (rw (one-each image reply cs) h))))
 
 never-empty : NeverEmpty
 unfolding outputOf quoted firstLine

@@ -8,7 +8,7 @@ use Rattle.model.specs.Serve.{serve}
 use Rattle.model.specs.Words.{Sent, Event, imageAfter}
 use Rattle.model.specs.Cases.{Got, run, shown}
 use Rattle.model.proofs.Cases.{run-logged, image-first}
-use Rattle.program.specs.Program.{runs}
+use Rattle.store.specs.Runs.{runs}
 use Rattle.program_claims.specs.Claims.{requests, logged, Logged}
 
 -- What `f` says of what is shown is what it says of the events.
@@ -24,7 +24,7 @@ sends image reply (c ∷ cs) = ap (λ (l : List (List ℕ)). c ∷ l) (sends (se
 -- ---- a run is the table's run of its requests
 
 lends-run : (image reply : List ℕ) (cs : List (List ℕ)) →
-    map (λ (s : Sent). s .lent) (requests image reply cs) ++ (runs image reply cs .reply ∷ [])
+    map (λ (s : Sent). s .lent) (requests image reply cs) ++ (runs V1 image reply cs .reply ∷ [])
     ≡ reply ∷ map (λ (g : Got). g .reply) (run V1 image (requests image reply cs))
 unfolding requests runs run
 lends-run image reply [] = refl
@@ -32,13 +32,13 @@ lends-run image reply (c ∷ cs) =
     ap (λ (l : List (List ℕ)). reply ∷ l) (lends-run (serve V1 image c reply .image) (serve V1 image c reply .reply) cs)
 
 answers-run : (image reply : List ℕ) (cs : List (List ℕ)) →
-    runs image reply cs .answers ≡ map (λ (g : Got). g .answer) (run V1 image (requests image reply cs))
+    runs V1 image reply cs .answers ≡ map (λ (g : Got). g .answer) (run V1 image (requests image reply cs))
 unfolding requests runs run
 answers-run image reply [] = refl
 answers-run image reply (c ∷ cs) =
     ap (λ (l : List Answer). serve V1 image c reply .answer ∷ l) (answers-run (serve V1 image c reply .image) (serve V1 image c reply .reply) cs)
 
-leaves : (image reply : List ℕ) (cs : List (List ℕ)) → runs image reply cs .image ≡ imageAfter V1 image (reverse (requests image reply cs))
+leaves : (image reply : List ℕ) (cs : List (List ℕ)) → runs V1 image reply cs .image ≡ imageAfter V1 image (reverse (requests image reply cs))
 unfolding requests runs imageAfter
 leaves image reply [] = refl
 leaves image reply (c ∷ cs) =

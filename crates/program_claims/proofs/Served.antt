@@ -36,7 +36,7 @@ use Rattle.model.proofs.Machine.{numberOn, cardsBy, passed}
 use Rattle.model.proofs.Simulation.{good-more, same-event, same-image}
 use Rattle.stream.specs.Stream.{commands, commandsWithin, extent, whole}
 use Rattle.image.specs.Image.{claimed}
-use Rattle.program.specs.Program.{runs}
+use Rattle.store.specs.Runs.{runs}
 use Rattle.image.proofs.InFront.{good-front}
 use Rattle.program_claims.specs.Claims.{requests, Guarded, Serves}
 
@@ -151,9 +151,9 @@ EachBytes (c ∷ cs) = Bytes c × EachBytes cs
 
 -- What a run from an image with a reply buffer keeps.
 record Kept (image reply : List ℕ) (cs : List (List ℕ)) : Type 0 where
-  no-9 : none (λ (a : Answer). eqb (a .number) 9) (runs image reply cs .answers) ≡ true
-  no-8 : none (λ (a : Answer). eqb (a .number) 8) (runs image reply cs .answers) ≡ true
-  stays : sound V1 (runs image reply cs .image) ≡ true
+  no-9 : none (λ (a : Answer). eqb (a .number) 9) (runs V1 image reply cs .answers) ≡ true
+  no-8 : none (λ (a : Answer). eqb (a .number) 8) (runs V1 image reply cs .answers) ≡ true
+  stays : sound V1 (runs V1 image reply cs .image) ≡ true
   bytes : AllBytes (requests image reply cs)
 
 none-more : {A : Type 0} (p : A → Bool) (a : A) (l : List A) → p a ≡ false → none p l ≡ true → none p (a ∷ l) ≡ true
@@ -170,7 +170,7 @@ kept cards reply (c ∷ cs) fit b =
     rw (leaves-by cards c reply fit, replies-by cards c reply fit)
     (kept (cardsBy V1 n cards s) (replyBy V1 n cards c reply) cs (fit-by cards c reply fit (b .0) n refl) (b .1)) in
     let answer = serve V1 (encode V1 cards) c reply .answer in
-    let rest = runs (serve V1 (encode V1 cards) c reply .image) (serve V1 (encode V1 cards) c reply .reply) cs .answers in
+    let rest = runs V1 (serve V1 (encode V1 cards) c reply .image) (serve V1 (encode V1 cards) c reply .reply) cs .answers in
     record {
       no-9 =
           none-more (λ (a : Answer). eqb (a .number) 9) answer rest

@@ -19,19 +19,20 @@ use Rattle.model.specs.Claims.{Claim}
 use Rattle.stream.specs.Stream.{commands}
 use Rattle.image.specs.Image.{goodFront}
 use Rattle.program.specs.Text.{decimal, quoted}
-use Rattle.program.specs.Program.{firstLine, lineOf, linesFrom, lastLine, leftOver, mostInput, runs, runOf, outputOf}
+use Rattle.program.specs.Program.{firstLine, lineOf, linesFrom, lastLine, leftOver, mostInput, runOf, outputOf}
+use Rattle.store.specs.Runs.{runs}
 
 -- The answers of a run are those of judging command by command: one for each command, and each is the store's, on the image and the reply
 -- buffer as the commands before leave them.
 pub record Stepwise (image reply : List ℕ) (cs : List (List ℕ)) : Type 0 where
-  pub whole : length (runs image reply cs .answers) ≡ length cs
+  pub whole : length (runs V1 image reply cs .answers) ≡ length cs
   pub each : (i : ℕ) (none : Answer) → i < length cs →
-      getD (runs image reply cs .answers) i none ≡ serve V1 (runs image reply (take i cs) .image) (getD cs i []) (runs image reply (take i cs) .reply) .answer
+      getD (runs V1 image reply cs .answers) i none ≡ serve V1 (runs V1 image reply (take i cs) .image) (getD cs i []) (runs V1 image reply (take i cs) .reply) .answer
   -- Line i, counted from 0, stands behind the lines of the first i commands, and shows its place, counted from 1, and answer i.
   pub lines : (i : ℕ) (none : Answer) → i < length cs →
-      linesFrom 1 (runs image reply cs .answers)
-      ≡ linesFrom 1 (runs image reply (take i cs) .answers)
-      ++ (lineOf (i + 1) (getD (runs image reply cs .answers) i none) ++ linesFrom (i + 2) (drop (i + 1) (runs image reply cs .answers)))
+      linesFrom 1 (runs V1 image reply cs .answers)
+      ≡ linesFrom 1 (runs V1 image reply (take i cs) .answers)
+      ++ (lineOf (i + 1) (getD (runs V1 image reply cs .answers) i none) ++ linesFrom (i + 2) (drop (i + 1) (runs V1 image reply cs .answers)))
 
 -- ---- a run and the log that demand 3 speaks of
 
@@ -52,11 +53,11 @@ pub record Logged (image reply : List ℕ) (cs : List (List ℕ)) : Type 0 where
   -- with one reply buffer: the first is lent it as it is at first, each later one as the log shows it after the one before, and the last one
   -- leaves it as the run does,
   pub lends :
-      map (λ (s : Sent). s .lent) (requests image reply cs) ++ (runs image reply cs .reply ∷ [])
+      map (λ (s : Sent). s .lent) (requests image reply cs) ++ (runs V1 image reply cs .reply ∷ [])
       ≡ reply ∷ map (λ (e : Event). e .reply) (reverse (logged image reply cs))
   -- the answers are those of the log, in order, and the image is left as the requests leave it
-  pub answers : runs image reply cs .answers ≡ map (λ (e : Event). e .answer) (reverse (logged image reply cs))
-  pub leaves : runs image reply cs .image ≡ imageAfter V1 image (reverse (requests image reply cs))
+  pub answers : runs V1 image reply cs .answers ≡ map (λ (e : Event). e .answer) (reverse (logged image reply cs))
+  pub leaves : runs V1 image reply cs .image ≡ imageAfter V1 image (reverse (requests image reply cs))
 
 -- So demand 3 speaks of the program: every sentence of it holds of the log of a stream's commands behind a fresh image, with a reply buffer of C
 -- zeros.
@@ -95,7 +96,7 @@ pub record Numeral (n : ℕ) : Type 0 where
 abbrev pub Prints : Type 0
 Prints =
     (image stream : List ℕ) → sound V1 image ≡ true → length (image ++ stream) ≤ mostInput
-    → outputOf (image ++ stream) ≡ firstLine (countOf image) ++ (linesFrom 1 (runs image (replicate (roomOf image) 0) (commands V1 stream) .answers) ++ lastLine (leftOver stream))
+    → outputOf (image ++ stream) ≡ firstLine (countOf image) ++ (linesFrom 1 (runs V1 image (replicate (roomOf image) 0) (commands V1 stream) .answers) ++ lastLine (leftOver stream))
 
 -- No output is empty. So where nothing is written, because too few bytes were lent, the count tells it.
 abbrev pub NeverEmpty : Type 0

@@ -4,12 +4,12 @@ use native.Mathlib.Omega.{arith}
 use native.Mathlib.Nat.{add-zero, sub-zero, one-le-pow}
 use mathlib.Core.Path.{_≡_, refl, sym, _∙_}
 use mathlib.Core.List.{List, [], _∷_}
-use mathlib.Core.Bool.{true, _&&_}
+use mathlib.Core.Bool.{Bool, true, false, _&&_}
 use lib.Dec.{eqb, lit<}
 use lib.ListN.{length, take, drop, getD, set, replicate, length-set, length-take, drop-of-length-le}
 use Rattle.lists.specs.Parts.{part, splice, zeros}
 use Rattle.lists.specs.Le.{le}
-use Rattle.lists.proofs.Parts.{drop-left, splice-nil, splice-cons}
+use Rattle.lists.proofs.Parts.{drop-left, splice-nil, splice-cons, splice-here}
 use Rattle.lists.proofs.Le.{le-from, digit}
 
 -- A loop that writes v over s₀ from place `at` on, one element after the other: it has made `s` when it has written i elements,
@@ -64,11 +64,22 @@ reading-more {at} {n} {left} {sum} l fits some byte r =
 pub reading-done : {at n sum : ℕ} (l : List ℕ) → Reading at n 0 sum l → (sum ≡ le (part at n l)) × (sum < 256 ^ n)
 reading-done {at} {n} l r = (r .reads, rw sub-zero at (r .small))
 
--- A loop that looks for an element that is not zero: where it has found none before place i, those from there on decide.
-pub zeros-from : (i : ℕ) (l : List ℕ) → i < length l → zeros (drop i l) ≡ (eqb (getD l i 0) 0 && zeros (drop (i + 1) l))
+-- A loop that asks whether every element is zero: `z` says so of those before place i, and those from there on decide the rest.
+pub zeros-more : (z : Bool) (i : ℕ) (l : List ℕ) → i < length l → (z && zeros (drop i l)) ≡ (z && eqb (getD l i 0) 0 && zeros (drop (i + 1) l))
 unfolding zeros
-zeros-from i l h = rw (drop-left l 0 h)
+zeros-more true i l h = rw (drop-left l 0 h)
+zeros-more false i l h = refl
 
-pub zeros-end : (i : ℕ) (l : List ℕ) → length l ≤ i → zeros (drop i l) ≡ true
+pub zeros-done : (z : Bool) (i : ℕ) (l : List ℕ) → length l ≤ i → (z && zeros (drop i l)) ≡ z
 unfolding zeros
-zeros-end i l h = rw (drop-of-length-le l h)
+zeros-done true i l h = rw (drop-of-length-le l h)
+zeros-done false i l h = refl
+
+-- Nothing written leaves everything, and what was written to the front is the front.
+pub none-written : (at : ℕ) (v l : List ℕ) → length v ≡ 0 → l ≡ splice at v l
+none-written at [] l e = sym (splice-nil at l)
+none-written at (a ∷ v) l e = absurd (omega arith)
+
+pub front-written : (v l : List ℕ) → take (length v) (splice 0 v l) ≡ v
+unfolding part
+front-written v l = splice-here 0 v l (omega arith)

@@ -46,6 +46,23 @@ pub fn put(s: &mut [u8], at: usize, v: &[u8])
     }
 }
 
+// The most bytes that are copied at once.
+const AT_ONCE: usize = 1024;
+
+// Copies the whole of `v` into `s` from `at` on, as `put`, but for no more than 1,024 bytes: through a local array, of which the compiler makes one
+// move of a block.
+pub fn put_short(s: &mut [u8], at: usize, v: &[u8])
+    requires { ⌜ (length (now v) ≤ 1024) × (at + length (now v) ≤ length (now s)) ⌝ }
+    ensures { λ _. ⌜ now (s .exit) ≡ splice at (now (v .entry)) (now (s .entry)) ⌝ }
+{
+    if v.len() == 0 {
+        return;
+    }
+    let mut held = [0u8; AT_ONCE];
+    put(&mut held, 0, v);
+    put(s, at, &held[..v.len()]);
+}
+
 // Makes the `count` bytes from `at` on zero.
 pub fn clear(s: &mut [u8], at: usize, count: usize)
     requires { ⌜ at + count ≤ length (now s) ⌝ }

@@ -58,14 +58,14 @@ pub fn desk_of(mode: u8, pair: Pair) -> u32
     (own_stamp(mode, pair) % DESK_STARTS) as u32
 }
 
-// Whether a mode and a pair keep the rules for sessions.
+// Whether a mode and a pair keep the rules for sessions: by the mode, so that the own stamp is known.
 pub fn session_ok(mode: u8, pair: Pair) -> bool
     ensures { λ r. ⌜ r ≡ all (sessionChecks mode pair) ⌝ }
 {
-    ((mode == SHARED) | (mode == EXCLUSIVE))
-        & stamp_valid(pair.s)
-        & stamp_valid(pair.x)
-        & !(own_stamp(mode, pair) == 0)
+    if mode == EXCLUSIVE {
+        return stamp_valid(pair.s) & stamp_valid(pair.x) & !(pair.x == 0);
+    }
+    (mode == SHARED) & stamp_valid(pair.s) & stamp_valid(pair.x) & !(pair.s == 0)
 }
 
 // Whether a pair is stale against the stored one. Equal is not stale.

@@ -20,18 +20,20 @@ use Rattle.guard.specs.Judge.{raise}
 use Rattle.guard.specs.declared.Entry.{Entry}
 use Rattle.formats.specs.declared.Format.{Format}
 use Rattle.formats.specs.Format.{translations, entrySize}
-use Rattle.image.specs.Layout.{headerSize, sides, entryPlace, bodyPlace}
+use Rattle.image.specs.Layout.{headerSize, mostRoom, sides, entryPlace, bodyPlace}
 use Rattle.image.specs.Bytes.{entryBytes, pad, countOf, roomOf, entryAt}
-use Rattle.image.specs.Image.{Card, view, sideText, withCard, cardEntry, bodies, translationAt, cardAt, encode, decode, sound}
+use Rattle.image.specs.Image.{Card, Translation, translationOf, view, sideText, noCard, withCard, cardEntry, bodies, translationAt, cardAt, encode, decode, tailZero, sound}
 use Rattle.image.proofs.Encode.{length-pad}
 use Rattle.image.proofs.Entry.{entryBytes-ext}
-use Rattle.image.proofs.Decode.{count-decode, room-decode, card-decode, view-at, entry-lies, body-lies, entry-back, long, encode-decode}
+use Rattle.image.proofs.Decode.{count-decode, room-decode, card-decode, view-at, entry-lies, body-lies, sideLength, side-fits, side-tail, places, entry-back, long, encode-decode}
 use Rattle.image.proofs.Put.{side-written, put-entry, put-text-entry}
-use Rattle.image.specs.Write.{entryWith}
+use Rattle.image.specs.Write.{entryWith, overOld}
+use Rattle.image.proofs.Written.{over-body}
 use Rattle.image.proofs.EntryWritten.{seenAfter, entry-written}
 use Rattle.model.specs.Serve.{stepped}
 use Rattle.model.proofs.Stepped.{text-step, seen-named, seen-other}
 use Rattle.store.specs.Carried.{bodyWritten, textWritten}
+use Rattle.store.proofs.Texts.{one-original, one-translation}
 
 -- ---- the card after an accepted command
 
@@ -182,23 +184,50 @@ header-in f image s = omega (arith, long f image (to-T s))
 
 -- ---- the bytes with a command's payload written
 
-module _ (f : Format) (image : List ℕ) (c : Command) (t : List ℕ) {at room : ℕ} {after : List ℕ} (same : room ≡ roomOf image) (done : after ≡ splice at (pad room t) image) where
-  pub written-original : writes original c ≡ true → at ≡ bodyPlace f (countOf image) (roomOf image) (c .card) 0 → after ≡ textWritten f image c t
-  unfolding textWritten
-  written-original h place = rw (h, ← place, ← same) done
+module _ (f : Format) (image : List ℕ) (s : sound f image ≡ true) (c : Command) (below : c .card < countOf image) (known : c .language < translations f)
+    {e : Entry} (p : e ≡ entryAt f image (c .card) (c .language)) (t : List ℕ) (fits : length t ≤ roomOf image) where
+  abbrev bodyOf : ℕ → ℕ
+  bodyOf side = bodyPlace f (countOf image) (roomOf image) (c .card) side
 
-  pub written-translation : writes original c ≡ false → writesTranslation c ≡ true
-      → at ≡ bodyPlace f (countOf image) (roomOf image) (c .card) (c .language + 1) → after ≡ textWritten f image c t
-  unfolding textWritten
-  written-translation g h place =
-      let here : at ≡ bodyPlace f (countOf image) (roomOf image) (c .card) (suc (c .language)) = place ∙ ap (bodyPlace f (countOf image) (roomOf image) (c .card)) (add-one (c .language)) in
-      rw (g, h, ← here, ← same) done
+  module _ (side : ℕ) (within : side < sides f) {at old : ℕ} (place : at ≡ bodyOf side) (same : old ≡ sideLength f image (to-T s) (c .card) below side) where
+    -- A payload fits the places that it is written to.
+    side-room : (length t ≤ mostRoom) × (at + length t ≤ length image) × (at + old ≤ length image)
+    side-room =
+        let most = places f image (c .card) (to-T s) below .shape .most in
+        let lies = body-lies f image (to-T s) (c .card) below side within in
+        let text = side-fits f image (to-T s) (c .card) below side within in
+        (omega (arith, most, fits), omega (arith, lies, fits, place), omega (arith, lies, text, place, same))
+
+    -- Over the old text it makes the whole body.
+    side-over : {after : List ℕ} → after ≡ splice at (overOld old t) image → after ≡ bodyWritten f image (c .card) side t
+    unfolding tailZero
+    side-over done =
+        done
+        ∙ rw (place, same)
+        (over-body (bodyOf side) (roomOf image) (sideLength f image (to-T s) (c .card) below side) t image fits
+        (side-fits f image (to-T s) (c .card) below side within)
+        (body-lies f image (to-T s) (c .card) below side within)
+        (side-tail f image (to-T s) (c .card) below side within))
+
+  module _ {at : ℕ} (place : at ≡ bodyOf 0) where
+    pub original-room : (length t ≤ mostRoom) × (at + length t ≤ length image) × (at + e .original ≤ length image)
+    original-room = side-room 0 (omega arith) place (one-original f image s c below known p)
+
+    pub written-original : {after : List ℕ} → after ≡ splice at (overOld (e .original) t) image → writes original c ≡ true → after ≡ textWritten f image c t
+    unfolding textWritten
+    written-original done h = rw h (side-over 0 (omega arith) place (one-original f image s c below known p) done)
+
+  module _ {at : ℕ} (place : at ≡ bodyOf (c .language + 1)) where
+    here : at ≡ bodyOf (suc (c .language))
+    here = place ∙ ap bodyOf (add-one (c .language))
+
+    pub translation-room : (length t ≤ mostRoom) × (at + length t ≤ length image) × (at + e .translation ≤ length image)
+    translation-room = side-room (suc (c .language)) (omega arith) here (one-translation f image s c below known p)
+
+    pub written-translation : {after : List ℕ} → after ≡ splice at (overOld (e .translation) t) image → writes original c ≡ false → writesTranslation c ≡ true → after ≡ textWritten f image c t
+    unfolding textWritten
+    written-translation done g h = rw (g, h) (side-over (suc (c .language)) (omega arith) here (one-translation f image s c below known p) done)
 
 pub written-none : (f : Format) (image : List ℕ) (c : Command) (t : List ℕ) → writes original c ≡ false → writesTranslation c ≡ false → image ≡ textWritten f image c t
 unfolding textWritten
 written-none f image c t h g = rw (h, g)
-
--- A body lies within a sound image.
-pub body-in : (f : Format) (image : List ℕ) (k side : ℕ) {at : ℕ} → sound f image ≡ true → k < countOf image → side < sides f
-    → at ≡ bodyPlace f (countOf image) (roomOf image) k side → at + roomOf image ≤ length image
-body-in f image k side s below within place = rw place (body-lies f image (to-T s) k below side within)

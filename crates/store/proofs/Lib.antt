@@ -1,3 +1,5 @@
 pub mod Texts
 pub mod Kept
 pub mod Step
+pub mod Running
+pub mod One

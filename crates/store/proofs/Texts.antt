@@ -15,28 +15,29 @@ use Rattle.guard.specs.declared.Entry.{Entry}
 use Rattle.guard.specs.Replies.{readLength}
 use Rattle.formats.specs.declared.Format.{Format}
 use Rattle.formats.specs.Format.{translations}
-use Rattle.image.specs.Layout.{bodyPlace}
+use Rattle.image.specs.Layout.{mostRoom, sides, bodyPlace}
 use Rattle.image.specs.Bytes.{countOf, roomOf, readEntry, entryAt}
 use Rattle.image.specs.Image.{Card, Translation, cardAt, sound}
-use Rattle.image.proofs.Decode.{side-fits, body-lies, translation-at}
+use Rattle.image.proofs.Decode.{side-fits, body-lies, places, translation-at}
 use Rattle.model.specs.Serve.{textRead}
 
 module _ (f : Format) (image : List ℕ) (s : sound f image ≡ true) (c : Command) (below : c .card < countOf image) (known : c .language < translations f)
     {e : Entry} (p : e ≡ entryAt f image (c .card) (c .language)) where
   -- The original's length is the same in whatever language the entry is seen.
-  one-original : e .original ≡ entryAt f image (c .card) 0 .original
+  pub one-original : e .original ≡ entryAt f image (c .card) 0 .original
   unfolding entryAt readEntry
   one-original = ap (λ (x : Entry). x .original) p
 
-  one-translation : e .translation ≡ entryAt f image (c .card) (c .language) .translation
+  pub one-translation : e .translation ≡ entryAt f image (c .card) (c .language) .translation
   one-translation = ap (λ (x : Entry). x .translation) p
 
   module _ {at : ℕ} (r : reads original c ≡ true) (place : at ≡ bodyPlace f (countOf image) (roomOf image) (c .card) 0) where
-    pub original-fits : {lent : ℕ} → readLength e c ≤ lent → (at + e .original ≤ length image) × (e .original ≤ lent)
+    pub original-fits : {lent : ℕ} → readLength e c ≤ lent → (e .original ≤ mostRoom) × (at + e .original ≤ length image) × (e .original ≤ lent)
     original-fits fits =
         let most = side-fits f image (to-T s) (c .card) below 0 (omega arith) in
         let lies = body-lies f image (to-T s) (c .card) below 0 (omega arith) in
-        (omega (arith, most, lies, one-original, place), rw r at fits)
+        let room = places f image (c .card) (to-T s) below .shape .most in
+        (omega (arith, most, room, one-original), omega (arith, most, lies, one-original, place), rw r at fits)
 
     pub shows-original : (reply : List ℕ) {after : List ℕ} → after ≡ splice 0 (part at (e .original) image) reply → after ≡ splice 0 (textRead (cardAt f image (c .card)) c) reply
     unfolding cardAt
@@ -46,11 +47,12 @@ module _ (f : Format) (image : List ℕ) (s : sound f image ≡ true) (c : Comma
     here : at ≡ bodyPlace f (countOf image) (roomOf image) (c .card) (suc (c .language))
     here = place ∙ ap (bodyPlace f (countOf image) (roomOf image) (c .card)) (add-one (c .language))
 
-    pub translation-fits : {lent : ℕ} → readLength e c ≤ lent → (at + e .translation ≤ length image) × (e .translation ≤ lent)
+    pub translation-fits : {lent : ℕ} → readLength e c ≤ lent → (e .translation ≤ mostRoom) × (at + e .translation ≤ length image) × (e .translation ≤ lent)
     translation-fits fits =
         let most = side-fits f image (to-T s) (c .card) below (suc (c .language)) (omega arith) in
         let lies = body-lies f image (to-T s) (c .card) below (suc (c .language)) (omega arith) in
-        (omega (arith, most, lies, one-translation, here), rw (o, r) at fits)
+        let room = places f image (c .card) (to-T s) below .shape .most in
+        (omega (arith, most, room, one-translation), omega (arith, most, lies, one-translation, here), rw (o, r) at fits)
 
     pub shows-translation : (reply : List ℕ) {after : List ℕ} → after ≡ splice 0 (part at (e .translation) image) reply → after ≡ splice 0 (textRead (cardAt f image (c .card)) c) reply
     shows-translation reply copied =

@@ -1,1 +1,3 @@
+pub mod Runs
 pub mod Carried
+pub mod Ran

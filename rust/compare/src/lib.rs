@@ -39,6 +39,7 @@ pub mod proposals;
 pub mod proved;
 pub mod queues;
 pub mod run;
+pub mod runs;
 pub mod sessions;
 pub mod streams;
 pub mod swaps;

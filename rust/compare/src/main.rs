@@ -11,7 +11,7 @@ use compare::coverage::Run;
 use compare::run::Compared;
 use compare::{
     answers, conversions, desks, history, images, languages, lapses, lists, logs, outputs, program,
-    proposals, queues, streams, swaps, systems, texts, trials, upgrades,
+    proposals, queues, runs, streams, swaps, systems, texts, trials, upgrades,
 };
 use second::random::Random;
 use second::Format;
@@ -94,6 +94,7 @@ fn round(run: &mut Run, random: &mut Random) -> Compared<()> {
     lapses::any(run, random)?;
     desks::any(run, random)?;
     proposals::any(run, random)?;
+    runs::any(run, random)?;
     texts::any(run, random)?;
     history::any(run, random)?;
     logs::any(run, random)

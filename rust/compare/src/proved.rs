@@ -70,6 +70,17 @@ mod exported {
         pub fn lupaniele_end(stream: *const u8, length: usize) -> u64;
         pub fn lupaniele_next_v2(stream: *const u8, length: usize, at: u64, end: *mut u64) -> bool;
         pub fn lupaniele_end_v2(stream: *const u8, length: usize) -> u64;
+        pub fn lupaniele_run(
+            image: *mut u8,
+            image_length: usize,
+            stream: *const u8,
+            stream_length: usize,
+            reply: *mut u8,
+            reply_length: usize,
+            lines: *mut u64,
+            lines_length: usize,
+            end: *mut u64,
+        ) -> u64;
         pub fn lupaniele_output(
             input: *const u8,
             input_length: usize,
@@ -142,6 +153,27 @@ pub fn answer(format: Format, image: &mut [u8], command: &[u8], reply: &mut [u8]
         )
     };
     Answer { number, fields }
+}
+
+/// A run of a stream: how many commands were judged, and the byte where it
+/// stopped.
+pub fn run(image: &mut [u8], stream: &[u8], reply: &mut [u8], lines: &mut [u64]) -> (usize, usize) {
+    let mut end = u64::MAX;
+    // SAFETY: the pointers and lengths are the slices', which do not overlap.
+    let count = unsafe {
+        exported::lupaniele_run(
+            image.as_mut_ptr(),
+            image.len(),
+            stream.as_ptr(),
+            stream.len(),
+            reply.as_mut_ptr(),
+            reply.len(),
+            lines.as_mut_ptr(),
+            lines.len(),
+            &mut end,
+        )
+    };
+    (count as usize, end as usize)
 }
 
 /// A queue of the proved library.

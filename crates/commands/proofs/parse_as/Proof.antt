@@ -1,12 +1,13 @@
--- Too few bytes are no command; else the one test decides. Assumes nothing.
+-- Test by test. Assumes nothing.
 use borrow.Author.Needs.{needs}
+use borrow.Author.Tests.{not-true, not-false}
 use Prim.Native.Nat.{ℕ, _-_}
 use native.Mathlib.Omega.{arith}
 use mathlib.Core.Path.{sym, ap, _∙_}
 use Rattle.lists.specs.Parts.{part, zeros}
 use Rattle.formats.proofs.Numbers.{numbers}
 use Rattle.commands.specs.declared.Parsed.the-variants.{Formed}
-use Rattle.commands.proofs.CommandBytes.{parsed-formed, parsed-malformed, formed-short, formed-by}
+use Rattle.commands.proofs.CommandBytes.{parsed-formed, parsed-malformed, formed-short, not-whole, not-blank, by-rules}
 use Rattle.commands.proofs.parse_as.Statement.{statement}
 use Rattle.commands.proofs.parse_as.Tie as tie
 
@@ -28,37 +29,45 @@ cast-if2 c = search needs
 add-if2 : tie.Need-add-if2
 add-if2 c = search needs
 
+returns-2 : tie.Need-returns-2
+returns-2 c = sym (parsed-malformed _ _ (not-whole _ _ (c .before .before .before .fields .ensures) (c .before .before .before .before .before .fixed .ensures) (c .if2 .taken)))
+
 sub-all-zero : tie.Need-sub-all-zero
-sub-all-zero c = let n = numbers (c .before .before .before .before .before .before .args .f) in omega (arith, c .before .blank-at .ensures)
+sub-all-zero c = let n = numbers (c .before .before .before .before .before .before .before .args .f) in omega (arith, c .before .before .blank-at .ensures)
 
 part-all-zero-start : tie.Need-part-all-zero-start
-part-all-zero-start c = let n = numbers (c .before .before .before .before .before .before .args .f) in omega (arith, c .before .blank-at .ensures)
+part-all-zero-start c = let n = numbers (c .before .before .before .before .before .before .before .args .f) in omega (arith, c .before .before .blank-at .ensures)
 
 part-all-zero-end : tie.Need-part-all-zero-end
-part-all-zero-end c = let n = numbers (c .before .before .before .before .before .before .args .f) in omega (arith, c .before .before .before .before .fixed .ensures, c .before .before .before .if1 .left)
+part-all-zero-end c = let n = numbers (c .before .before .before .before .before .before .before .args .f) in omega (arith, c .before .before .before .before .before .fixed .ensures, c .before .before .before .before .if1 .left)
 
 all-zero-requires : tie.Need-all-zero-requires
 all-zero-requires c κs = search needs
 
-well-formed-requires : tie.Need-well-formed-requires
-well-formed-requires c κs = search needs
-
-returns-2 : tie.Need-returns-2
-unfolding part
-returns-2 c =
-    let b = c .before .before .before .before .before in
-    let bytes = c .before .before .before .before .before .before .before .before .before .before .args .bytes .now in
-    let blank = c .before .before .all-zero .ensures ∙ ap (λ (n : ℕ). zeros (part n (36 - n) bytes)) (b .blank-at .ensures) in
-    ap Formed (b .before .fields .ensures)
-    ∙ sym (parsed-formed _ _ (formed-by _ bytes (b .before .fields .ensures) (b .before .before .before .fixed .ensures) blank (c .before .well-formed .ensures) ∙ c .if2 .taken))
-
 returns-3 : tie.Need-returns-3
 unfolding part
 returns-3 c =
-    let b = c .before .before .before .before .before in
     let bytes = c .before .before .before .before .before .before .before .before .before .before .args .bytes .now in
-    let blank = c .before .before .all-zero .ensures ∙ ap (λ (n : ℕ). zeros (part n (36 - n) bytes)) (b .blank-at .ensures) in
-    sym (parsed-malformed _ _ (formed-by _ bytes (b .before .fields .ensures) (b .before .before .before .fixed .ensures) blank (c .before .well-formed .ensures) ∙ c .if2 .left))
+    let blank = c .before .all-zero .ensures ∙ ap (λ (n : ℕ). zeros (part n (36 - n) bytes)) (c .before .before .before .before .before .blank-at .ensures) in
+    sym (parsed-malformed _ _ (not-blank _ bytes (c .before .before .before .before .before .before .fields .ensures) (c .before .before .before .before .before .before .before .before .fixed .ensures) (c .before .before .before .if2 .left) blank (not-true _ (c .if3 .taken))))
+
+well-formed-requires : tie.Need-well-formed-requires
+well-formed-requires c κs = search needs
+
+returns-4 : tie.Need-returns-4
+unfolding part
+returns-4 c =
+    let bytes = c .before .before .before .before .before .before .before .before .before .before .before .before .args .bytes .now in
+    let blank = c .before .before .before .all-zero .ensures ∙ ap (λ (n : ℕ). zeros (part n (36 - n) bytes)) (c .before .before .before .before .before .before .before .blank-at .ensures) in
+    sym (parsed-malformed _ _ (by-rules _ bytes (c .before .before .before .before .before .before .before .before .fields .ensures) (c .before .before .before .before .before .before .before .before .before .before .fixed .ensures) (c .before .before .before .before .before .if2 .left) blank (not-false _ (c .before .before .if3 .left)) (c .before .well-formed .ensures) ∙ not-true _ (c .if4 .taken)))
+
+returns-5 : tie.Need-returns-5
+unfolding part
+returns-5 c =
+    let bytes = c .before .before .before .before .before .before .before .before .before .before .before .before .args .bytes .now in
+    let blank = c .before .before .before .all-zero .ensures ∙ ap (λ (n : ℕ). zeros (part n (36 - n) bytes)) (c .before .before .before .before .before .before .before .blank-at .ensures) in
+    ap Formed (c .before .before .before .before .before .before .before .before .fields .ensures)
+    ∙ sym (parsed-formed _ _ (by-rules _ bytes (c .before .before .before .before .before .before .before .before .fields .ensures) (c .before .before .before .before .before .before .before .before .before .before .fixed .ensures) (c .before .before .before .before .before .if2 .left) blank (not-false _ (c .before .before .if3 .left)) (c .before .well-formed .ensures) ∙ not-false _ (c .if4 .left)))
 
 pub parse-as-spec : {M : Type 1} → statement M
 parse-as-spec =
@@ -70,10 +79,12 @@ parse-as-spec =
     blank-at-requires
     cast-if2
     add-if2
+    returns-2
     sub-all-zero
     part-all-zero-start
     part-all-zero-end
     all-zero-requires
+    returns-3
     well-formed-requires
-    returns-2
-    returns-3)
+    returns-4
+    returns-5)

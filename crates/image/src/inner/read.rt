@@ -4,7 +4,7 @@ ghost use Prim.Native.Nat.{_+_, _*_, _≤_, _<_};
 ghost use lib.ListN.{length};
 ghost use Rattle.lists.specs.Parts.{part, splice};
 ghost use Rattle.formats.specs.Format.{translations, entrySize, originalAt, fromsAt, lengthsAt};
-ghost use Rattle.image.specs.Layout.{entryPlace};
+ghost use Rattle.image.specs.Layout.{entryPlace, mostRoom};
 ghost use Rattle.image.specs.Bytes.{countOf, roomOf, readEntry, entryAt};
 use crate::inner::layout;
 use crate::inner::layout::CARDS_AT;
@@ -65,9 +65,9 @@ pub fn entry_at(f: Format, image: &[u8], k: u16, t: u8) -> Entry
 
 // Reads the `count` bytes at `at` into the first bytes of a reply buffer.
 pub fn copy_text(image: &[u8], at: usize, count: u16, reply: &mut [u8])
-    requires { ⌜ (at + count ≤ length (now image)) × (count ≤ length (now reply)) ⌝ }
+    requires { ⌜ (count ≤ mostRoom) × (at + count ≤ length (now image)) × (count ≤ length (now reply)) ⌝ }
     ensures { λ _. ⌜ now (reply .exit) ≡ splice 0 (part at count (now (image .entry))) (now (reply .entry)) ⌝ }
 {
     let end = at + (count as usize);
-    slices::inner::put(reply, 0, &image[at..end]);
+    slices::inner::put_short(reply, 0, &image[at..end]);
 }

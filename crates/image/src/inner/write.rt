@@ -4,10 +4,10 @@ ghost use Prim.Native.Nat.{_+_, _*_, _≤_, _<_};
 ghost use lib.ListN.{length};
 ghost use Rattle.lists.specs.Parts.{splice};
 ghost use Rattle.formats.specs.Format.{translations, entrySize, originalAt, fromsAt, lengthsAt};
-ghost use Rattle.image.specs.Layout.{entryPlace};
+ghost use Rattle.image.specs.Layout.{entryPlace, mostRoom};
 ghost use Rattle.commands.specs.Bytes.{pairBytes};
-ghost use Rattle.image.specs.Bytes.{entryMark, pad};
-ghost use Rattle.image.specs.Write.{countsWith, entryWith};
+ghost use Rattle.image.specs.Bytes.{entryMark};
+ghost use Rattle.image.specs.Write.{countsWith, entryWith, overOld};
 use crate::inner::layout;
 use formats::Format;
 use guard::Entry;
@@ -60,12 +60,14 @@ pub fn store_entry(f: Format, image: &mut [u8], k: u16, t: u8, e: Entry)
     write_counts(f, image, at, t, e);
 }
 
-// Writes a text into the body at `at`, and makes the rest of its room zero.
-pub fn store_text(image: &mut [u8], at: usize, room: u16, text: &[u8])
-    requires { ⌜ (length (now text) ≤ room) × (at + room ≤ length (now image)) ⌝ }
-    ensures { λ _. ⌜ now (image .exit) ≡ splice at (pad room (now (text .entry))) (now (image .entry)) ⌝ }
+// Writes a text at `at`, and makes zero what is left there of an old text of this length.
+pub fn store_text(image: &mut [u8], at: usize, old: u16, text: &[u8])
+    requires { ⌜ (length (now text) ≤ mostRoom) × (at + length (now text) ≤ length (now image)) × (at + old ≤ length (now image)) ⌝ }
+    ensures { λ _. ⌜ now (image .exit) ≡ splice at (overOld old (now (text .entry))) (now (image .entry)) ⌝ }
 {
-    let room = room as usize;
-    slices::inner::put(image, at, text);
-    slices::inner::clear(image, at + text.len(), room - text.len());
+    let old = old as usize;
+    slices::inner::put_short(image, at, text);
+    if text.len() < old {
+        slices::inner::clear(image, at + text.len(), old - text.len());
+    }
 }

@@ -3,40 +3,19 @@ ghost use mathlib.Core.Path.{_≡_};
 ghost use Prim.Native.Nat.{_+_, _*_, _≤_};
 ghost use lib.ListN.{length};
 ghost use Rattle.lists.specs.Parts.{spread};
-ghost use Rattle.program.specs.Program.{numbersOf, lineOf, firstLine, lastLine, perLine, mostLine};
+ghost use Rattle.program.specs.Program.{lineBy, firstLine, lastLine, mostLine};
+ghost use Rattle.store.specs.Runs.{perLine};
 ghost use Rattle.program.specs.Text.{spaced, mostDigits, Put};
 use crate::inner::text::put_decimal;
 use crate::inner::text::put_spaced;
 use crate::inner::text::put_text;
-use guard::Answer;
-
-// How many numbers a line has behind its place: the answer's number and seven fields.
-pub const PER_LINE: usize = 8;
-
-// The numbers of a line: the answer's number, then its seven fields.
-pub fn numbers_of(a: Answer) -> [u64; PER_LINE]
-    ensures { λ r. ⌜ r ≡ numbersOf a ⌝ }
-{
-    let pair = a.pair;
-    let mark = a.mark;
-    [
-        a.number as u64,
-        pair.s,
-        pair.x,
-        mark.desk as u64,
-        mark.transaction as u64,
-        a.edition as u64,
-        a.from as u64,
-        a.length as u64,
-    ]
-}
+use store::inner::run::PER_LINE;
 
 // The numbers of an answer's line, each behind a space.
-fn put_numbers(out: &mut [u8], at: usize, a: Answer) -> usize
-    requires { ⌜ at + perLine * (1 + mostDigits) ≤ length (now out) ⌝ }
-    ensures { λ r. ⌜ Put at (perLine * (1 + mostDigits)) (spread spaced (numbersOf a)) (now (out .entry)) (now (out .exit)) r ⌝ }
+fn put_numbers(out: &mut [u8], at: usize, numbers: &[u64]) -> usize
+    requires { ⌜ (at + perLine * (1 + mostDigits) ≤ length (now out)) × (length (now numbers) ≡ perLine) ⌝ }
+    ensures { λ r. ⌜ Put at (perLine * (1 + mostDigits)) (spread spaced (now (numbers .entry))) (now (out .entry)) (now (out .exit)) r ⌝ }
 {
-    let numbers = numbers_of(a);
     let mut to = at;
     let mut i = 0;
     while i < PER_LINE {
@@ -46,13 +25,13 @@ fn put_numbers(out: &mut [u8], at: usize, a: Answer) -> usize
     to
 }
 
-// The line of an answer: the command's place, then its numbers.
-pub fn put_line(out: &mut [u8], at: usize, place: u64, a: Answer) -> usize
-    requires { ⌜ at + mostLine ≤ length (now out) ⌝ }
-    ensures { λ r. ⌜ Put at mostLine (lineOf place a) (now (out .entry)) (now (out .exit)) r ⌝ }
+// The line of an answer: the command's place, then the answer's numbers.
+pub fn put_line(out: &mut [u8], at: usize, place: u64, numbers: &[u64]) -> usize
+    requires { ⌜ (at + mostLine ≤ length (now out)) × (length (now numbers) ≡ perLine) ⌝ }
+    ensures { λ r. ⌜ Put at mostLine (lineBy place (now (numbers .entry))) (now (out .entry)) (now (out .exit)) r ⌝ }
 {
-    let numbers = put_decimal(out, at, place);
-    let end = put_numbers(out, numbers, a);
+    let behind = put_decimal(out, at, place);
+    let end = put_numbers(out, behind, numbers);
     put_text(out, end, b"\n")
 }
 

@@ -4,13 +4,18 @@ ghost use lib.ListN.{length};
 ghost use Rattle.program.specs.Text.{Put};
 ghost use Rattle.program.specs.Program.{printed, mostPrinted};
 use crate::inner::lines;
+use formats::Format;
+use store::inner::run::PER_LINE;
+use store::inner::run::one;
 
-// Judges the stream's commands in one walk, and writes a line for each and the last line into `out` from `at` on. Hands back the place behind
+// Judges the stream's commands in one walk, with the image checked once, and writes a line for each and the last line into `out` from `at` on. Hands back the place behind
 // them.
 pub fn run(image: &mut [u8], stream: &[u8], reply: &mut [u8], out: &mut [u8], at: usize) -> usize
     requires { ⌜ at + mostPrinted (now stream) ≤ length (now out) ⌝ }
     ensures { λ r. ⌜ Put at (mostPrinted (now (stream .entry))) (printed (now (image .entry)) (now (reply .entry)) (now (stream .entry))) (now (out .entry)) (now (out .exit)) r ⌝ }
 {
+    let checked = image::sound(image);
+    let mut line = [0u64; PER_LINE];
     let mut from = 0;
     let mut place = 1;
     let mut to = at;
@@ -19,8 +24,15 @@ pub fn run(image: &mut [u8], stream: &[u8], reply: &mut [u8], out: &mut [u8], at
         if end == from {
             break from;
         }
-        let answer = store::answer(image, &stream[from..end], reply);
-        to = lines::put_line(out, to, place, answer);
+        one(
+            Format::V1,
+            image,
+            &stream[from..end],
+            reply,
+            checked,
+            &mut line,
+        );
+        to = lines::put_line(out, to, place, &line);
         place += 1;
         from = end;
     };

@@ -47,30 +47,31 @@ pub fn show(f: Format, image: &[u8], c: Command, e: Entry, reply: &mut [u8])
     }
 }
 
-// Writes the payload of an accepted command in place of the text that it writes, if it writes one.
-pub fn write(f: Format, image: &mut [u8], c: Command, text: &[u8])
-    requires { ⌜ (sound f (now image) ≡ true) × (c .card < countOf (now image)) × (c .language < translations f) × (length (now text) ≤ roomOf (now image)) ⌝ }
+// Writes the payload of an accepted command over the text that it writes, if it writes one; `e` is the entry before, which has that text's length.
+pub fn write(f: Format, image: &mut [u8], c: Command, e: Entry, text: &[u8])
+    requires { ⌜ (sound f (now image) ≡ true) × (c .card < countOf (now image)) × (c .language < translations f)
+        × (e ≡ entryAt f (now image) (c .card) (c .language)) × (length (now text) ≤ roomOf (now image)) ⌝ }
     ensures { λ _. ⌜ now (image .exit) ≡ textWritten f (now (image .entry)) c (now (text .entry)) ⌝ }
 {
-    let room = image::inner::read::room(image);
     if c.writes_original() {
         let at = body_at(f, image, c.card, 0);
-        image::inner::write::store_text(image, at, room, text);
+        image::inner::write::store_text(image, at, e.original, text);
         return;
     }
     if c.writes_translation() {
         let at = body_at(f, image, c.card, c.language + 1);
-        image::inner::write::store_text(image, at, room, text);
+        image::inner::write::store_text(image, at, e.translation, text);
     }
 }
 
-// Carries out an accepted command on the image: its payload in place of the text that it writes, and the raised entry.
-pub fn keep(f: Format, image: &mut [u8], c: Command, e: Entry, text: &[u8])
+// Carries out an accepted command on the image: its payload in place of the text that it writes, and the raised entry in place of `e`.
+pub fn keep(f: Format, image: &mut [u8], c: Command, e: Entry, raised: Entry, text: &[u8])
     requires { ⌜ (sound f (now image) ≡ true) × (c .card < countOf (now image)) × (c .language < translations f)
-        × (length (now text) ≡ c .length) × (c .length ≤ roomOf (now image)) × (e ≡ raise (entryAt f (now image) (c .card) (c .language)) c) ⌝ }
+        × (e ≡ entryAt f (now image) (c .card) (c .language))
+        × (length (now text) ≡ c .length) × (c .length ≤ roomOf (now image)) × (raised ≡ raise (entryAt f (now image) (c .card) (c .language)) c) ⌝ }
     ensures { λ _. ⌜ now (image .exit)
         ≡ encode f (withCard (c .card) (stepped (cardAt f (now (image .entry)) (c .card)) c (now (text .entry))) (decode f (now (image .entry)))) ⌝ }
 {
-    write(f, image, c, text);
-    image::inner::write::store_entry(f, image, c.card, c.language, e);
+    write(f, image, c, e, text);
+    image::inner::write::store_entry(f, image, c.card, c.language, raised);
 }

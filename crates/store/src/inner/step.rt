@@ -2,6 +2,7 @@ ghost use mathlib.Core.Path.{_≡_};
 ghost use mathlib.Core.Bool.{true};
 ghost use Prim.Native.Nat.{_<_};
 ghost use lib.ListN.{length};
+ghost use Rattle.commands.specs.Command.{wellFormed};
 ghost use Rattle.formats.specs.Format.{translations};
 ghost use Rattle.image.specs.Bytes.{countOf};
 ghost use Rattle.image.specs.Image.{sound};
@@ -14,22 +15,23 @@ use formats::Format;
 use guard::ACCEPTED;
 use guard::Answer;
 use guard::NO_CARD;
+use guard::UNSOUND;
 use stamps::MALFORMED;
 
-// A command for a card that exists, on a sound image: its entry judges, and an accepted command is carried out.
+// A well-formed command for a card that exists, on a sound image: its entry judges, and an accepted command is carried out.
 pub fn carry(f: Format, image: &mut [u8], c: Command, text: &[u8], reply: &mut [u8]) -> Answer
-    requires { ⌜ (sound f (now image) ≡ true) × (c .card < countOf (now image)) × (c .language < translations f) × (length (now text) ≡ c .length) ⌝ }
+    requires { ⌜ (sound f (now image) ≡ true) × (c .card < countOf (now image)) × (c .language < translations f) × (length (now text) ≡ c .length) × (wellFormed c ≡ true) ⌝ }
     ensures answer { λ r. ⌜ r ≡ carried f (now (image .entry)) c (now (text .entry)) (now (reply .entry)) .answer ⌝ }
     ensures image { λ _. ⌜ now (image .exit) ≡ carried f (now (image .entry)) c (now (text .entry)) (now (reply .entry)) .image ⌝ }
     ensures reply { λ _. ⌜ now (reply .exit) ≡ carried f (now (image .entry)) c (now (text .entry)) (now (reply .entry)) .reply ⌝ }
 {
     let e = image::inner::read::entry_at(f, image, c.card, c.language);
-    let judged = e.judge(c, image::inner::read::room(image), reply.len());
+    let judged = e.judge_formed(c, image::inner::read::room(image), reply.len());
     if judged.number != ACCEPTED {
         return guard::reply(judged, c);
     }
     effects::show(f, image, c, e, reply);
-    effects::keep(f, image, c, judged.entry, text);
+    effects::keep(f, image, c, e, judged.entry, text);
     guard::reply(judged, c)
 }
 
@@ -49,4 +51,18 @@ pub fn step(f: Format, image: &mut [u8], command: &[u8], reply: &mut [u8]) -> An
     }
     let start = formats::inner::fixed(f);
     carry(f, image, c, &command[start..], reply)
+}
+
+// One request on an image that has been checked: `checked` says whether it is sound, and does so still of what the request leaves.
+pub fn judge(f: Format, image: &mut [u8], command: &[u8], reply: &mut [u8], checked: bool) -> Answer
+    requires { ⌜ checked ≡ sound f (now image) ⌝ }
+    ensures answer { λ r. ⌜ r ≡ serve f (now (image .entry)) (now (command .entry)) (now (reply .entry)) .answer ⌝ }
+    ensures image { λ _. ⌜ now (image .exit) ≡ serve f (now (image .entry)) (now (command .entry)) (now (reply .entry)) .image ⌝ }
+    ensures reply { λ _. ⌜ now (reply .exit) ≡ serve f (now (image .entry)) (now (command .entry)) (now (reply .entry)) .reply ⌝ }
+    ensures kept { λ _. ⌜ checked ≡ sound f (now (image .exit)) ⌝ }
+{
+    if !checked {
+        return guard::refusal(UNSOUND);
+    }
+    step(f, image, command, reply)
 }

@@ -1,29 +1,25 @@
+-- Test by test. Assumes nothing.
 use borrow.Author.Needs.{needs}
-use mathlib.Core.Path.{sym}
-use Rattle.commands.proofs.Rules.{by-session}
+use borrow.Author.Tests.{not-true, not-false}
+use mathlib.Core.Path.{sym, _∙_}
+use Rattle.commands.proofs.Rules.{act-fails, pairs-fail, marks-left}
 use Rattle.commands.proofs.Command.well_formed.Statement.{statement}
 use Rattle.commands.proofs.Command.well_formed.Tie as tie
 
-act-known-requires : tie.Need-act-known-requires
-act-known-requires c κs = search needs
+act-ok-requires : tie.Need-act-ok-requires
+act-ok-requires c κs = search needs
 
-write-exclusive-requires : tie.Need-write-exclusive-requires
-write-exclusive-requires c κs = search needs
+returns : tie.Need-returns
+returns c = act-fails (c .before .before .args .self) (sym (c .before .act-ok .ensures) ∙ not-true _ (c .if1 .taken))
 
-edition-named-requires : tie.Need-edition-named-requires
-edition-named-requires c κs = search needs
+pairs-ok-requires : tie.Need-pairs-ok-requires
+pairs-ok-requires c κs = search needs
 
-payload-written-requires : tie.Need-payload-written-requires
-payload-written-requires c κs = search needs
-
-update-requires : tie.Need-update-requires
-update-requires c κs = search needs
-
-session-ok-requires : tie.Need-session-ok-requires
-session-ok-requires c κs = search needs
-
-verifier-ok-requires : tie.Need-verifier-ok-requires
-verifier-ok-requires c κs = search needs
+returns-2 : tie.Need-returns-2
+returns-2 c =
+    pairs-fail (c .before .before .before .before .args .self)
+    (sym (c .before .before .before .act-ok .ensures) ∙ not-false _ (c .before .before .if1 .left))
+    (sym (c .before .pairs-ok .ensures) ∙ not-true _ (c .if2 .taken))
 
 mark-whole-requires : tie.Need-mark-whole-requires
 mark-whole-requires c κs = search needs
@@ -31,37 +27,14 @@ mark-whole-requires c κs = search needs
 mark-whole-requires-2 : tie.Need-mark-whole-requires-2
 mark-whole-requires-2 c κs = search needs
 
-language-named-requires : tie.Need-language-named-requires
-language-named-requires c κs = search needs
-
-returns : tie.Need-returns
-returns c =
-    rw (
-      c .language-named .ensures,
-      c .before .mark-whole2 .ensures,
-      c .before .before .mark-whole .ensures,
-      c .before .before .before .verifier-ok .ensures,
-      c .before .before .before .before .session-ok .ensures,
-      c .before .before .before .before .before .update .ensures,
-      c .before .before .before .before .before .before .payload-written .ensures,
-      c .before .before .before .before .before .before .before .edition-named .ensures,
-      c .before .before .before .before .before .before .before .before .write-exclusive .ensures,
-      c .before .before .before .before .before .before .before .before .before .act-known .ensures,
-    )
-    (sym (by-session (c .before .before .before .before .before .before .before .before .before .before .args .self)))
+returns-3 : tie.Need-returns-3
+returns-3 c =
+    rw (c .mark-whole2 .ensures, c .before .mark-whole .ensures)
+    (marks-left (c .before .before .before .before .before .before .args .self)
+    (sym (c .before .before .before .before .before .act-ok .ensures) ∙ not-false _ (c .before .before .before .before .if1 .left))
+    (sym (c .before .before .before .pairs-ok .ensures) ∙ not-false _ (c .before .before .if2 .left)))
 
 pub well-formed-spec : {M : Type 1} → statement M
 well-formed-spec =
     tie.close
-    (tie.spec
-    act-known-requires
-    write-exclusive-requires
-    edition-named-requires
-    payload-written-requires
-    update-requires
-    session-ok-requires
-    verifier-ok-requires
-    mark-whole-requires
-    mark-whole-requires-2
-    language-named-requires
-    returns)
+    (tie.spec act-ok-requires returns pairs-ok-requires returns-2 mark-whole-requires mark-whole-requires-2 returns-3)

@@ -1,24 +1,23 @@
--- By the number of the first row that applies. Assumes nothing.
+-- By row 1. Assumes nothing.
 use borrow.Author.Needs.{needs}
-use mathlib.Core.Path.{sym, _∙_}
-use Rattle.lists.proofs.Table.{settled-new, settled-old}
-use Rattle.guard.proofs.Judge.{judged-by, accepted-none}
+use borrow.Author.Tests.{not-false}
+use mathlib.Core.Path.{refl, sym, ap, _∙_}
+use mathlib.Core.Bool.{not}
+use Rattle.guard.proofs.Judge.{judged-by}
 use Rattle.guard.proofs.Entry.judge.Statement.{statement}
 use Rattle.guard.proofs.Entry.judge.Tie as tie
 
-number-requires : tie.Need-number-requires
-number-requires c κs = search needs
+well-formed-requires : tie.Need-well-formed-requires
+well-formed-requires c κs = search needs
 
 returns : tie.Need-returns
-returns c = judged-by _ _ _ _ (c .before .number .ensures) (sym (settled-old _ _ (c .if1 .taken)))
+returns c = judged-by _ _ _ _ (sym (rw (ap not (sym (c .before .well-formed .ensures)) ∙ c .if1 .taken))) refl
 
-raised-requires : tie.Need-raised-requires
-raised-requires c κs =
-    let a = c .before .before .args in
-    accepted-none (a .self) (a .c) (a .room) (a .lent) (sym (c .before .number .ensures) ∙ c .if1 .left) 7
+judge-formed-requires : tie.Need-judge-formed-requires
+judge-formed-requires c κs = sym (c .before .well-formed .ensures) ∙ not-false _ (c .if1 .left)
 
 returns-2 : tie.Need-returns-2
-returns-2 c = judged-by _ _ _ _ (c .before .before .number .ensures) (c .raised .ensures ∙ sym (settled-new _ _ (c .before .if1 .left)))
+returns-2 c = c .judge-formed .ensures
 
 pub judge-spec : {M : Type 1} → statement M
-judge-spec = tie.close (tie.spec number-requires returns raised-requires returns-2)
+judge-spec = tie.close (tie.spec well-formed-requires returns judge-formed-requires returns-2)

@@ -9,25 +9,25 @@ use Rattle.image.proofs.inner.read.copy_text.Tie as tie
 add-end : tie.Need-add-end
 add-end c = search needs
 
-sub-put : tie.Need-sub-put
-sub-put c = search needs
+sub-put-short : tie.Need-sub-put-short
+sub-put-short c = search needs
 
-part-put-start : tie.Need-part-put-start
-part-put-start c = search needs
+part-put-short-start : tie.Need-part-put-short-start
+part-put-short-start c = search needs
 
-part-put-end : tie.Need-part-put-end
-part-put-end c = search needs
+part-put-short-end : tie.Need-part-put-short-end
+part-put-short-end c = search needs
 
-put-requires : tie.Need-put-requires
-put-requires c κs = search needs
+put-short-requires : tie.Need-put-short-requires
+put-short-requires c κs = search needs
 
 same-length : tie.Need-same-length
 same-length c = search needs
 
 returns : tie.Need-returns
-returns c = rw (c .before .before .put .ensures, cut (c .before .before .before .before .before .before .before .args .at) (c .before .before .before .before .before .before .before .args .count) (c .before .before .before .before .before .before .before .args .at + c .before .before .before .before .before .before .before .args .count) (c .before .before .before .before .before .before .before .args .image .now) refl)
+returns c = rw (c .before .before .put-short .ensures, cut (c .before .before .before .before .before .before .before .args .at) (c .before .before .before .before .before .before .before .args .count) (c .before .before .before .before .before .before .before .args .at + c .before .before .before .before .before .before .before .args .count) (c .before .before .before .before .before .before .before .args .image .now) refl)
 
 pub copy-text-spec : {M : Type 1} → statement M
 copy-text-spec =
     tie.close
-    (tie.spec add-end sub-put part-put-start part-put-end put-requires same-length returns)
+    (tie.spec add-end sub-put-short part-put-short-start part-put-short-end put-short-requires same-length returns)

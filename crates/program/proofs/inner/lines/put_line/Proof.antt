@@ -2,7 +2,6 @@
 use native.Mathlib.Omega.{arith}
 use Rattle.program.proofs.Puts.{put-put, put-wide}
 use Rattle.program.specs.Text.{quoted}
-use Rattle.program.specs.Program.{lineOf}
 use borrow.Author.Needs.{needs}
 use Rattle.program.proofs.inner.lines.put_line.Statement.{statement}
 use Rattle.program.proofs.inner.lines.put_line.Tie as tie
@@ -23,7 +22,7 @@ same-length : tie.Need-same-length
 same-length c = search needs
 
 returns : tie.Need-returns
-unfolding lineOf quoted
+unfolding quoted
 returns c = put-wide (omega arith) (put-put (omega arith) (put-put (omega arith) (c .before .before .before .before .before .before .before .before .before .before .before .put-decimal .ensures) (c .before .before .before .before .before .before .before .put-numbers .ensures)) (c .before .before .put-text .ensures))
 
 pub put-line-spec : {M : Type 1} → statement M

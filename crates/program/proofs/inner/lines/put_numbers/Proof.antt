@@ -1,6 +1,5 @@
 -- The loop: after i numbers those from place i on are left to write. Assumes nothing.
 use Prim.Native.Nat.{_+_, _-_, _*_, _≤_, _<_}
-use mathlib.Core.Path.{_≡_, sym, ap, _∙_}
 use native.Mathlib.Omega.{arith}
 use borrow.Author.Needs.{needs}
 use lib.ListN.{length, drop, drop-of-length-le}
@@ -8,8 +7,8 @@ use Rattle.lists.specs.Parts.{spread}
 use Rattle.lists.proofs.Parts.{drop-left}
 use Rattle.program.specs.Text.{spaced, mostDigits}
 use Rattle.program.proofs.Puts.{Putting, putting-none, putting-more, putting-done}
-use Rattle.program.specs.Program.{perLine}
-use Rattle.program.proofs.Lines.{per-line, numbers-left, numbers-end}
+use Rattle.store.specs.Runs.{perLine}
+use Rattle.program.proofs.Lines.{numbers-left, numbers-end}
 use Rattle.program.proofs.inner.lines.put_numbers.Statement.{statement}
 use Rattle.program.proofs.inner.lines.put_numbers.Tie as tie
 
@@ -19,17 +18,14 @@ Inv-loop out₀ at numbers to₀ i₀ out to i = Putting at to (spread spaced nu
 abbrev μ-loop : tie.MeasureT-loop
 μ-loop out₀ at numbers to₀ i₀ out to i = perLine - i
 
-numbers-of-requires : tie.Need-numbers-of-requires Inv-loop μ-loop
-numbers-of-requires c κs = search needs
-
 loop-holds : tie.Need-loop-holds Inv-loop μ-loop
 loop-holds c = (putting-none _ _ _, omega arith, omega arith)
 
 mul-put-spaced : tie.Need-mul-put-spaced Inv-loop μ-loop
 mul-put-spaced c = omega arith
 
-array-read-put-spaced : tie.Need-array-read-put-spaced Inv-loop μ-loop
-array-read-put-spaced c = omega arith
+shared-slice-read-put-spaced : tie.Need-shared-slice-read-put-spaced Inv-loop μ-loop
+shared-slice-read-put-spaced c = omega arith
 
 put-spaced-requires : tie.Need-put-spaced-requires Inv-loop μ-loop
 put-spaced-requires c κs = omega arith
@@ -42,10 +38,9 @@ loop-less c = omega arith
 
 loop-again : tie.Need-loop-again Inv-loop μ-loop
 loop-again c =
-    let n : length (c .before .before .before .before .before .before .numbers-of .result) ≡ perLine = ap length (c .before .before .before .before .before .before .numbers-of .ensures) ∙ per-line _ in
-    let h : c .before .before .before .before .before .loop .i < length (c .before .before .before .before .before .before .numbers-of .result) = omega arith in
+    let h : c .before .before .before .before .before .before .loop .i < length (c .before .before .before .before .before .before .before .before .before .args .numbers .now) = omega (arith, c .before .before .before .before .before .loop-test .taken, c .before .before .before .before .before .before .before .before .before .pre .1) in
     let p = c .before .before .put-spaced .ensures in (
-      putting-more _ _ (c .before .before .before .before .before .loop .inv .0) (numbers-left _ h) p (omega arith),
+      putting-more _ _ (c .before .before .before .before .before .before .loop .inv .0) (numbers-left _ h) p (omega arith),
       omega arith,
       omega (arith, p .few),
     )
@@ -55,9 +50,8 @@ same-length c = c .before .loop .inv .0 .long
 
 returns : tie.Need-returns Inv-loop μ-loop
 returns c =
-    let n : length (c .before .before .numbers-of .result) ≡ perLine = ap length (c .before .before .numbers-of .ensures) ∙ per-line _ in
-    let h : length (c .before .before .numbers-of .result) ≤ c .before .loop .i = omega arith in
-    rw (← c .before .before .numbers-of .ensures) (putting-done _ (c .before .loop .inv .0) (numbers-end _ h) (omega arith))
+    let h : length (c .before .before .before .before .args .numbers .now) ≤ c .before .loop .i = omega (arith, c .loop-test .left, c .before .before .before .before .pre .1) in
+    putting-done _ (c .before .loop .inv .0) (numbers-end _ h) (omega arith)
 
 pub put-numbers-spec : {M : Type 1} → statement M
 put-numbers-spec =
@@ -65,10 +59,9 @@ put-numbers-spec =
     (tie.spec
     Inv-loop
     μ-loop
-    numbers-of-requires
     loop-holds
     mul-put-spaced
-    array-read-put-spaced
+    shared-slice-read-put-spaced
     put-spaced-requires
     add-i
     loop-less

@@ -18,7 +18,7 @@ same-length c = search needs
 returns : tie.Need-returns
 returns c = let start = c .before .before .before .before .before .before .before .before .before .before in
     rw (c .before .before .store-entry .ensures, c .before .before .before .before .before .before .write .ensures)
-    (keeps (start .args .f) (start .args .image .now) (λ j. c .before .before .before .before .before .before .before .before .before .slice-known .given j .fits) (to-T (start .pre .0)) (start .args .c) (start .pre .1) (start .pre .2) (start .args .text .now) (start .pre .3) (start .pre .5))
+    (keeps (start .args .f) (start .args .image .now) (λ j. c .before .before .before .before .before .before .before .before .before .slice-known .given j .fits) (to-T (start .pre .0)) (start .args .c) (start .pre .1) (start .pre .2) (start .args .text .now) (start .pre .4) (start .pre .6))
 
 pub keep-spec : {M : Type 1} → statement M
 keep-spec = tie.close (tie.spec write-requires store-entry-requires same-length returns)

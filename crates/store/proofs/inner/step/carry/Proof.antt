@@ -11,10 +11,10 @@ use Rattle.store.proofs.inner.step.carry.Statement.{statement}
 use Rattle.store.proofs.inner.step.carry.Tie as tie
 
 -- The entry of the command's card judged it.
-known : (c : tie.After-judge) →
-    c .judge .result
+known : (c : tie.After-judge-formed) →
+    c .judge-formed .result
     ≡ judgedAt (c .before .before .before .before .before .before .before .before .args .f) (c .before .before .before .before .before .before .before .before .args .image .now) (c .before .before .before .before .before .before .before .before .args .c) (length (c .before .before .before .before .before .before .before .before .args .reply .now))
-known c = rw (← c .before .before .before .entry-at .ensures, ← c .before .room .ensures) (c .judge .ensures)
+known c = rw (← c .before .before .before .entry-at .ensures, ← c .before .room .ensures) (c .judge-formed .ensures)
 
 entry-at-requires : tie.Need-entry-at-requires
 entry-at-requires c κs = let start = c .before .before .before .before in (entry-lies (start .args .f) (start .args .image .now) (to-T (start .pre .0)) _ (start .pre .1), start .pre .2)
@@ -22,8 +22,8 @@ entry-at-requires c κs = let start = c .before .before .before .before in (entr
 room-requires : tie.Need-room-requires
 room-requires c κs = header-in _ _ (c .before .before .before .before .before .before .pre .0)
 
-judge-requires : tie.Need-judge-requires
-judge-requires c κs = search needs
+judge-formed-requires : tie.Need-judge-formed-requires
+judge-formed-requires c κs = c .before .before .before .before .before .before .before .pre .4
 
 reply-requires : tie.Need-reply-requires
 reply-requires c κs = search needs
@@ -59,6 +59,7 @@ keep-requires c κs =
       start .pre .0,
       start .pre .1,
       start .pre .2,
+      c .before .before .before .before .before .before .before .before .before .before .before .entry-at .ensures,
       start .pre .3,
       payload-fits (start .args .f) (start .args .image .now) (start .args .c) (start .args .text .now) (start .args .reply .now) judged zero,
       raises (start .args .f) (start .args .image .now) (start .args .c) (start .args .text .now) (start .args .reply .now) judged zero,
@@ -88,7 +89,7 @@ carry-spec =
     (tie.spec
     entry-at-requires
     room-requires
-    judge-requires
+    judge-formed-requires
     reply-requires
     same-length
     returns

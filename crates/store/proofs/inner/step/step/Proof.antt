@@ -4,7 +4,7 @@ use mathlib.Core.Bool.{true}
 use borrow.Author.Tests.{le-ltb}
 use Rattle.commands.specs.Bytes.{fieldsOf, formed}
 use Rattle.commands.proofs.Parsing.{is-malformed, is-formed}
-use Rattle.commands.proofs.CommandBytes.{length-payload, language-within}
+use Rattle.commands.proofs.CommandBytes.{length-payload, language-within, formedness}
 use Rattle.image.specs.Image.{sound}
 use Rattle.model.proofs.Sound.{stays-sound}
 use Rattle.store.proofs.Kept.{header-in}
@@ -74,6 +74,7 @@ carry-requires c κs = let start = c .before .before .before .before .before .be
       rw (← c .before .before .before .before .before .before .count .ensures) (c .before .before .before .before .if1 .left),
       rw (whole .1) (language-within (start .args .f) command (whole .0)),
       rw (behind-place (start .args .f) command (c .before .before .before .fixed .ensures), whole .1) (length-payload (start .args .f) command (whole .0)),
+      rw (whole .1) (formedness (start .args .f) command (whole .0) .rules),
     )
 
 same-length-2 : tie.Need-same-length-2

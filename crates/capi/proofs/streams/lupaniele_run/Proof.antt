@@ -1,0 +1,27 @@
+-- What the run leaves, and both numbers. Assumes nothing.
+use mathlib.Core.Path.{ap}
+use Rattle.store.specs.declared.Ran.{Ran}
+use borrow.Author.Needs.{needs}
+use Rattle.capi.proofs.streams.lupaniele_run.Statement.{statement}
+use Rattle.capi.proofs.streams.lupaniele_run.Tie as tie
+
+run-requires : tie.Need-run-requires
+run-requires c κs = search needs
+
+same-length : tie.Need-same-length
+same-length c = search needs
+
+same-length-2 : tie.Need-same-length-2
+same-length-2 c = search needs
+
+same-length-3 : tie.Need-same-length-3
+same-length-3 c = search needs
+
+returns : tie.Need-returns
+returns c =
+    let e = c .before .before .before .before .before .before .run .ensures in
+    (ap (λ (r : Ran). r .count) (e .0), (ap (λ (r : Ran). r .end) (e .0), (e .1 .0, (e .1 .1 .0, e .1 .1 .1))))
+
+pub lupaniele-run-spec : {M : Type 1} → statement M
+lupaniele-run-spec =
+    tie.close (tie.spec run-requires same-length same-length-2 same-length-3 returns)

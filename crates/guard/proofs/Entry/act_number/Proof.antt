@@ -1,0 +1,99 @@
+-- By the act: the rows that are left are tests of the stored entry. Assumes nothing.
+use borrow.Author.Needs.{needs}
+use mathlib.Core.Path.{refl, sym, _∙_}
+use borrow.Author.Tests.{eqb-true, lt-ltb, le-ltb, eq-eqb, ne-eqb}
+use Rattle.guard.proofs.Judge.{read-no-payload}
+use Rattle.guard.proofs.Entry.act_number.Statement.{statement}
+use Rattle.guard.proofs.Entry.act_number.Tie as tie
+
+reads-original-requires : tie.Need-reads-original-requires
+reads-original-requires c κs = search needs
+
+cast-if2 : tie.Need-cast-if2
+cast-if2 c = search needs
+
+returns : tie.Need-returns
+returns c =
+    let start = c .before .before .before .before in
+    let act = eqb-true (c .before .before .before .before .args .c .act) 1 (sym (c .before .before .before .reads-original .ensures) ∙ c .before .before .if1 .taken) in
+    sym (rw (read-no-payload (start .args .room) (start .args .c) (start .pre) act refl refl, act, lt-ltb _ _ (c .if2 .taken)))
+
+returns-2 : tie.Need-returns-2
+returns-2 c =
+    let start = c .before .before .before .before in
+    let act = eqb-true (c .before .before .before .before .args .c .act) 1 (sym (c .before .before .before .reads-original .ensures) ∙ c .before .before .if1 .taken) in
+    sym (rw (read-no-payload (start .args .room) (start .args .c) (start .pre) act refl refl, act, le-ltb _ _ (c .if2 .left)))
+
+reads-translation-requires : tie.Need-reads-translation-requires
+reads-translation-requires c κs = search needs
+
+behind-requires : tie.Need-behind-requires
+behind-requires c κs = search needs
+
+returns-3 : tie.Need-returns-3
+returns-3 c =
+    let start = c .before .before .before .before .before .before in
+    let act = eqb-true (c .before .before .before .before .before .before .args .c .act) 2 (sym (c .before .before .before .reads-translation .ensures) ∙ c .before .before .if3 .taken) in
+    sym (rw (read-no-payload (start .args .room) (start .args .c) (start .pre) act refl refl, act, sym (c .before .behind .ensures) ∙ c .if4 .taken))
+
+cast-if5 : tie.Need-cast-if5
+cast-if5 c = search needs
+
+returns-4 : tie.Need-returns-4
+returns-4 c =
+    let start = c .before .before .before .before .before .before .before .before in
+    let act = eqb-true (c .before .before .before .before .before .before .before .before .args .c .act) 2 (sym (c .before .before .before .before .before .reads-translation .ensures) ∙ c .before .before .before .before .if3 .taken) in
+    sym (rw (read-no-payload (start .args .room) (start .args .c) (start .pre) act refl refl, act, sym (c .before .before .before .behind .ensures) ∙ c .before .before .if4 .left, lt-ltb _ _ (c .if5 .taken)))
+
+returns-5 : tie.Need-returns-5
+returns-5 c =
+    let start = c .before .before .before .before .before .before .before .before in
+    let act = eqb-true (c .before .before .before .before .before .before .before .before .args .c .act) 2 (sym (c .before .before .before .before .before .reads-translation .ensures) ∙ c .before .before .before .before .if3 .taken) in
+    sym (rw (read-no-payload (start .args .room) (start .args .c) (start .pre) act refl refl, act, sym (c .before .before .before .behind .ensures) ∙ c .before .before .if4 .left, le-ltb _ _ (c .if5 .left)))
+
+returns-6 : tie.Need-returns-6
+returns-6 c = sym (rw (lt-ltb _ _ (c .if6 .taken)))
+
+writes-original-requires : tie.Need-writes-original-requires
+writes-original-requires c κs = search needs
+
+returns-7 : tie.Need-returns-7
+returns-7 c = sym (rw (le-ltb _ _ (c .before .before .before .before .if6 .left), eqb-true (c .before .before .before .before .before .before .before .before .before .before .args .c .act) 3 (sym (c .before .before .before .writes-original .ensures) ∙ c .before .before .if7 .taken), eq-eqb _ _ (c .if8 .taken)))
+
+returns-8 : tie.Need-returns-8
+returns-8 c = sym (rw (le-ltb _ _ (c .before .before .before .before .if6 .left), eqb-true (c .before .before .before .before .before .before .before .before .before .before .args .c .act) 3 (sym (c .before .before .before .writes-original .ensures) ∙ c .before .before .if7 .taken), ne-eqb _ _ (c .if8 .left)))
+
+writes-translation-requires : tie.Need-writes-translation-requires
+writes-translation-requires c κs = search needs
+
+returns-9 : tie.Need-returns-9
+returns-9 c = sym (rw (le-ltb _ _ (c .before .before .before .before .before .before .before .if6 .left), eqb-true (c .before .before .before .before .before .before .before .before .before .before .before .before .before .args .c .act) 4 (sym (c .before .before .before .before .writes-translation .ensures) ∙ c .before .before .before .if9 .taken), ne-eqb _ _ (c .if10 .taken)))
+
+returns-10 : tie.Need-returns-10
+returns-10 c = sym (rw (le-ltb _ _ (c .before .before .before .before .before .before .before .if6 .left), eqb-true (c .before .before .before .before .before .before .before .before .before .before .before .before .before .args .c .act) 4 (sym (c .before .before .before .before .writes-translation .ensures) ∙ c .before .before .before .if9 .taken), eq-eqb _ _ (c .if10 .left)))
+
+returns-11 : tie.Need-returns-11
+returns-11 c = sym (rw (le-ltb _ _ (c .before .before .before .before .if6 .left), sym (c .before .writes-translation .ensures) ∙ c .if9 .left, sym (c .before .before .before .writes-original .ensures) ∙ c .before .before .if7 .left, sym (c .before .before .before .before .before .before .before .reads-translation .ensures) ∙ c .before .before .before .before .before .before .if3 .left, sym (c .before .before .before .before .before .before .before .before .before .reads-original .ensures) ∙ c .before .before .before .before .before .before .before .before .if1 .left))
+
+pub act-number-spec : {M : Type 1} → statement M
+act-number-spec =
+    tie.close
+    (tie.spec
+    reads-original-requires
+    cast-if2
+    returns
+    returns-2
+    reads-translation-requires
+    behind-requires
+    returns-3
+    cast-if5
+    returns-4
+    returns-5
+    returns-6
+    writes-original-requires
+    returns-7
+    returns-8
+    writes-translation-requires
+    returns-9
+    returns-10
+    returns-11)

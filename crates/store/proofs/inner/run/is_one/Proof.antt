@@ -1,0 +1,36 @@
+-- Fewer bytes than the fixed part are none. Assumes nothing.
+use Prim.Native.Nat.{_+_}
+use native.Mathlib.Omega.{arith}
+use mathlib.Core.Path.{sym}
+use borrow.Author.Tests.{ne-eqb}
+use borrow.Author.Needs.{needs}
+use lib.ListN.{length}
+use Rattle.formats.specs.Format.{fixed}
+use Rattle.formats.proofs.Numbers.{numbers}
+use Rattle.lists.specs.Le.{field}
+use Rattle.store.proofs.inner.run.is_one.Statement.{statement}
+use Rattle.store.proofs.inner.run.is_one.Tie as tie
+
+fixed-requires : tie.Need-fixed-requires
+fixed-requires c κs = search needs
+
+returns : tie.Need-returns
+returns c =
+    let start = c .before .before .before in
+    let bytes = start .args .command .now in
+    sym (ne-eqb (length bytes) (fixed (start .args .f) + field 50 2 bytes) (λ e. omega (arith, e, c .before .fixed .ensures, c .if1 .taken)))
+
+read-u16-requires : tie.Need-read-u16-requires
+read-u16-requires c κs = let n = numbers (c .before .before .before .args .f) in omega (arith, n, c .before .fixed .ensures, c .if1 .left)
+
+cast-result : tie.Need-cast-result
+cast-result c = search needs
+
+add-result : tie.Need-add-result
+add-result c = let n = numbers (c .before .before .before .before .args .f) in omega (arith, n, c .before .before .fixed .ensures)
+
+returns-2 : tie.Need-returns-2
+returns-2 c = rw (c .read-u16 .ensures, c .before .before .fixed .ensures)
+
+pub is-one-spec : {M : Type 1} → statement M
+is-one-spec = tie.close (tie.spec fixed-requires returns read-u16-requires cast-result add-result returns-2)

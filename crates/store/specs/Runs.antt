@@ -1,0 +1,31 @@
+-- A run of commands over one image, and the numbers of its answers (rules 8.4 and 8.5).
+-- Assumes nothing.
+use Prim.Native.Nat.{ℕ}
+use mathlib.Core.List.{List, [], _∷_}
+use Rattle.formats.specs.declared.Format.{Format}
+use Rattle.guard.specs.Replies.{replyFields}
+use Rattle.guard.specs.declared.Answer.{Answer}
+use Rattle.model.specs.Serve.{serve}
+
+-- A run of commands over an image, with one reply buffer for all of them: the answers in order, the image and the reply buffer after.
+pub record Run : Type 0 where
+  pub answers : List Answer
+  pub image : List ℕ
+  pub reply : List ℕ
+
+-- Command by command, of a version: each is judged on the image as the one before left it.
+unfoldable pub runs : Format → List ℕ → List ℕ → List (List ℕ) → Run
+runs f image reply [] = record { answers = []; image = image; reply = reply }
+runs f image reply (c ∷ cs) =
+    record {
+      answers = serve f image c reply .answer ∷ runs f (serve f image c reply .image) (serve f image c reply .reply) cs .answers;
+      image = runs f (serve f image c reply .image) (serve f image c reply .reply) cs .image;
+      reply = runs f (serve f image c reply .image) (serve f image c reply .reply) cs .reply;
+    }
+
+-- The numbers of an answer, which its line shows, and how many they are.
+unfoldable pub numbersOf : Answer → List ℕ
+numbersOf a = a .number ∷ replyFields a
+
+abbrev pub perLine : ℕ
+perLine = 8

@@ -1,0 +1,19 @@
+//! Links the proved library, which `tools/build` writes.
+
+use std::path::Path;
+
+fn main() {
+    let folder = Path::new(env!("CARGO_MANIFEST_DIR")).join("../../target/staticlib");
+    println!("cargo:rustc-link-search=native={}", folder.display());
+    for name in ["capi"] {
+        let archive = folder.join(format!("lib{name}.a"));
+        println!("cargo:rerun-if-changed={}", archive.display());
+        if !archive.exists() {
+            println!(
+                "cargo:error=target/staticlib/lib{name}.a is missing: run `tools/build` at the repository's top first"
+            );
+            std::process::exit(1);
+        }
+        println!("cargo:rustc-link-lib=static={name}");
+    }
+}

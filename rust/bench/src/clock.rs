@@ -1,0 +1,73 @@
+//! By the clock: the sides take turns, and the best of many rounds counts.
+
+use std::hint::black_box;
+use std::time::{Duration, Instant};
+
+use crate::plain;
+use crate::sides::{work, Lent, Side};
+use crate::workloads::{Work, Workload};
+
+/// How long the rounds of one workload go on, and how many there are at least.
+const LONG: Duration = Duration::from_millis(250);
+const ROUNDS: usize = 100;
+
+/// The best times of a workload, in nanoseconds.
+#[derive(Clone, Copy)]
+pub struct Times {
+    pub rust: f64,
+    pub ours: f64,
+    pub limit: f64,
+    /// Where an image is checked, the check that looks at every byte.
+    pub at_once: Option<f64>,
+}
+
+impl Times {
+    pub fn ratio(&self) -> f64 {
+        self.ours / self.rust
+    }
+}
+
+/// The times of every workload.
+pub fn measured(all: &[Workload]) -> Vec<Times> {
+    all.iter().map(times).collect()
+}
+
+fn times(workload: &Workload) -> Times {
+    let mut lent = Lent::new(workload);
+    let mut best = [f64::MAX; 3];
+    let mut at_once = f64::MAX;
+    let begun = Instant::now();
+    let mut round = 0;
+    while round < ROUNDS || begun.elapsed() < LONG {
+        for turn in 0..3 {
+            let side = (turn + round) % 3;
+            lent.renew(workload);
+            best[side] = best[side].min(time(|| {
+                work(Side::ALL[side], black_box(workload), &mut lent)
+            }));
+        }
+        if workload.work == Work::Check {
+            at_once = at_once.min(time(|| {
+                black_box(at_once_sound(black_box(&workload.image)));
+            }));
+        }
+        round += 1;
+    }
+    Times {
+        rust: best[0],
+        ours: best[1],
+        limit: best[2],
+        at_once: (workload.work == Work::Check).then_some(at_once),
+    }
+}
+
+fn time(work: impl FnOnce()) -> f64 {
+    let begun = Instant::now();
+    work();
+    begun.elapsed().as_nanos() as f64
+}
+
+#[inline(never)]
+fn at_once_sound(image: &[u8]) -> bool {
+    plain::is_sound(image, plain::zeros_at_once)
+}

@@ -1,0 +1,69 @@
+//! Before anything is measured: on every workload the straightforward version,
+//! the proved library's run and the proved library command by command leave
+//! the same lines, image and reply buffer.
+
+use crate::plain;
+use crate::sides::{answer, sound, work, Lent, Side};
+use crate::workloads::{Work, Workload};
+
+/// Compares every workload; at the first difference it says which, and ends
+/// the program.
+pub fn or_exit(all: &[Workload]) {
+    for workload in all {
+        if let Err(what) = compared(workload) {
+            println!("bench: {}: {what}", workload.name);
+            std::process::exit(1);
+        }
+    }
+}
+
+fn compared(workload: &Workload) -> Result<(), &'static str> {
+    let mut by_rust = Lent::new(workload);
+    let mut by_ours = Lent::new(workload);
+    work(Side::Rust, workload, &mut by_rust);
+    work(Side::Ours, workload, &mut by_ours);
+    if by_rust != by_ours {
+        return Err("the proved library and the straightforward version differ");
+    }
+    match workload.work {
+        Work::Run => {
+            if by_rust.count != workload.commands() || by_rust.end != workload.stream.len() {
+                return Err("not every command was answered");
+            }
+            let answered = &by_rust.lines[..by_rust.count];
+            if answered.iter().any(|line| line[0] != workload.number) {
+                return Err("a command got another number than it should");
+            }
+            if one_by_one(workload) != (by_ours.lines, by_ours.image, by_ours.reply) {
+                return Err("the run and command by command differ");
+            }
+        }
+        Work::Answer if by_rust.lines[0][0] != workload.number => {
+            return Err("the command got another number than it should");
+        }
+        Work::Check if !plain::is_sound(&by_rust.image, plain::zeros_at_once) => {
+            return Err("the image is not sound");
+        }
+        Work::Answer | Work::Check => {}
+    }
+    if sound(&workload.image) != plain::is_sound(&workload.image, plain::zeros) {
+        return Err("the checks of the image differ");
+    }
+    Ok(())
+}
+
+/// The lines, the image and the reply buffer after each command was answered
+/// by itself.
+fn one_by_one(workload: &Workload) -> (Vec<plain::Line>, Vec<u8>, Vec<u8>) {
+    let mut lent = Lent::new(workload);
+    let mut rest = &workload.stream[..];
+    let mut count = 0;
+    while rest.len() >= 52 {
+        let length = u16::from_le_bytes([rest[50], rest[51]]);
+        let (command, more) = rest.split_at(52 + usize::from(length));
+        lent.lines[count] = answer(&mut lent.image, command, &mut lent.reply);
+        count += 1;
+        rest = more;
+    }
+    (lent.lines, lent.image, lent.reply)
+}

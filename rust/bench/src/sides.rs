@@ -1,0 +1,156 @@
+//! The three sides of a measurement, over the same lent bytes: the
+//! straightforward version, the proved library, and the limit.
+
+use crate::limit;
+use crate::plain;
+use crate::workloads::{Work, Workload};
+
+mod exported {
+    extern "C" {
+        pub fn lupaniele_sound(image: *const u8, length: usize) -> bool;
+        pub fn lupaniele_answer(
+            image: *mut u8,
+            image_length: usize,
+            command: *const u8,
+            command_length: usize,
+            reply: *mut u8,
+            reply_length: usize,
+            fields: *mut [u64; 7],
+        ) -> u8;
+        pub fn lupaniele_run(
+            image: *mut u8,
+            image_length: usize,
+            stream: *const u8,
+            stream_length: usize,
+            reply: *mut u8,
+            reply_length: usize,
+            lines: *mut u64,
+            lines_length: usize,
+            end: *mut u64,
+        ) -> u64;
+    }
+}
+
+/// Who works.
+#[derive(Clone, Copy, PartialEq, Eq)]
+pub enum Side {
+    Rust,
+    Ours,
+    Limit,
+}
+
+impl Side {
+    pub const ALL: [Side; 3] = [Side::Rust, Side::Ours, Side::Limit];
+}
+
+/// What is lent, and what a side left in it.
+#[derive(Clone, PartialEq, Eq)]
+pub struct Lent {
+    pub image: Vec<u8>,
+    pub reply: Vec<u8>,
+    pub lines: Vec<plain::Line>,
+    pub count: usize,
+    pub end: usize,
+}
+
+impl Lent {
+    /// What a workload lends: a place for each line, and one more that has to
+    /// stay as it is.
+    pub fn new(workload: &Workload) -> Lent {
+        Lent {
+            image: workload.image.clone(),
+            reply: vec![0x5a; workload.reply],
+            lines: vec![[0x5a5a; 8]; workload.commands() + 1],
+            count: 0,
+            end: 0,
+        }
+    }
+
+    /// The same again, in the same memory.
+    pub fn renew(&mut self, workload: &Workload) {
+        self.image.copy_from_slice(&workload.image);
+    }
+}
+
+/// A side does a workload's work.
+#[inline(never)]
+pub fn work(side: Side, workload: &Workload, lent: &mut Lent) {
+    match (workload.work, side) {
+        (Work::Run, Side::Rust) => {
+            let (image, reply) = (&mut lent.image, &mut lent.reply);
+            (lent.count, lent.end) = plain::run(image, &workload.stream, reply, &mut lent.lines);
+        }
+        (Work::Run, Side::Ours) => run(workload, lent),
+        (Work::Run, Side::Limit) => {
+            let (image, reply) = (&mut lent.image, &mut lent.reply);
+            lent.count = limit::run(image, &workload.stream, reply, &mut lent.lines);
+        }
+        (Work::Answer, Side::Rust) => {
+            let (image, reply) = (&mut lent.image, &mut lent.reply);
+            lent.lines[0] = plain::answer(image, workload.first(), reply);
+        }
+        (Work::Answer, Side::Ours) => {
+            lent.lines[0] = answer(&mut lent.image, workload.first(), &mut lent.reply);
+        }
+        (Work::Check, Side::Rust) => lent.count = plain::is_sound(&lent.image, plain::zeros).into(),
+        (Work::Check, Side::Ours) => lent.count = sound(&lent.image).into(),
+        (Work::Answer | Work::Check, Side::Limit) => {
+            lent.count = (limit::look(&lent.image) != 0).into();
+        }
+    }
+}
+
+/// Whether the bytes are a sound image, by the proved library.
+pub fn sound(image: &[u8]) -> bool {
+    // SAFETY: the pointer and the length are the slice's.
+    unsafe { exported::lupaniele_sound(image.as_ptr(), image.len()) }
+}
+
+/// One request, by the proved library.
+pub fn answer(image: &mut [u8], command: &[u8], reply: &mut [u8]) -> plain::Line {
+    let mut fields = [0; 7];
+    // SAFETY: the pointers and lengths are the slices', which do not overlap.
+    let number = unsafe {
+        exported::lupaniele_answer(
+            image.as_mut_ptr(),
+            image.len(),
+            command.as_ptr(),
+            command.len(),
+            reply.as_mut_ptr(),
+            reply.len(),
+            &mut fields,
+        )
+    };
+    let [s, x, desk, transaction, edition, from, length] = fields;
+    [
+        number.into(),
+        s,
+        x,
+        desk,
+        transaction,
+        edition,
+        from,
+        length,
+    ]
+}
+
+fn run(workload: &Workload, lent: &mut Lent) {
+    let mut end = 0;
+    let lines = lent.lines.as_flattened_mut();
+    // SAFETY: the pointers and lengths are the slices', which do not overlap.
+    let count = unsafe {
+        exported::lupaniele_run(
+            lent.image.as_mut_ptr(),
+            lent.image.len(),
+            workload.stream.as_ptr(),
+            workload.stream.len(),
+            lent.reply.as_mut_ptr(),
+            lent.reply.len(),
+            lines.as_mut_ptr(),
+            lines.len(),
+            &mut end,
+        )
+    };
+    lent.count = count as usize;
+    lent.end = end as usize;
+}
