@@ -70,9 +70,7 @@ impl<'a> List<'a> {
         accepted.filter(move |command| command.card == card)
     }
 
-    /// A command comes late if the update pair of an earlier accepted one for
-    /// its card has a larger x than its verifier or, where it is exclusive, a
-    /// larger s.
+    /// Whether a command is stale by what was accepted before (rule 9.2).
     fn late(&self, at: usize, command: &Command) -> bool {
         self.earlier(at, command.card).any(|before| {
             let (before, verifier) = (before.update, command.verifier);
@@ -81,9 +79,8 @@ impl<'a> List<'a> {
         })
     }
 
-    /// Whether a stamp of the update pair that is not zero has a T more than
-    /// 1,000,000 above the largest T that was accepted before for its card on
-    /// that side, which is 0 where there was none.
+    /// Whether a command is from too far ahead by what was accepted before
+    /// (rule 9.7); where that is nothing, by a T above 1,000,000.
     fn far_ahead(&self, at: usize, command: &Command) -> bool {
         let far = |side: fn(Pair) -> u64| {
             let before = self.earlier(at, command.card);
@@ -94,16 +91,16 @@ impl<'a> List<'a> {
         far(|pair| pair.s) || far(|pair| pair.x)
     }
 
-    /// The expected mark passes the next mark of the last earlier accepted
-    /// command for the card, or zeros.
+    /// Whether the expected mark is right by what was accepted before (rule
+    /// 9.3).
     fn right_mark(&self, at: usize, command: &Command) -> bool {
         let last = self.earlier(at, command.card).next();
         let stored = last.map_or(Mark::default(), |before| before.next);
         command.expected.desk == stored.desk && command.expected.transaction >= stored.transaction
     }
 
-    /// No translation into this language was accepted since the last accepted
-    /// write of the original.
+    /// Whether the translation into this language is behind by the list (rule
+    /// 9.3): none was accepted since an original was, or at all.
     fn behind(&self, at: usize, card: u16, language: u8) -> bool {
         let since = self
             .earlier(at, card)
@@ -113,7 +110,8 @@ impl<'a> List<'a> {
             .any(|before| before.act == Act::Write(Language::Translation(language)))
     }
 
-    /// The payload of the last earlier accepted write of a card and language.
+    /// The text that a read of a card and language is to show (rule 9.4), if
+    /// one was written.
     fn last_written(&self, at: usize, card: u16, language: Language) -> Option<&[u8]> {
         let mut earlier = self.earlier(at, card);
         earlier
@@ -143,8 +141,8 @@ impl<'a> List<'a> {
             .filter(move |other| other.mode == Mode::Exclusive && other.update.x == stamp)
     }
 
-    /// Whether the premise holds for a card, and whether any command carries
-    /// another desk's exclusive stamp.
+    /// Whether the premise holds for a card (rule 9.5), and whether it binds
+    /// any command at all.
     fn premise(&self, card: u16) -> (bool, bool) {
         let mut carried = self.sent_for(card).filter(|command| carries(command));
         let holds = carried.all(|shared| {
@@ -155,20 +153,20 @@ impl<'a> List<'a> {
     }
 }
 
-/// A shared command that carries another desk's exclusive stamp in its update
-/// pair.
+/// Whether the premise binds a command (rule 9.5): it is shared, and its x is a
+/// stamp of another desk than its s.
 fn carries(command: &Command) -> bool {
     let (mode, pair) = (&command.mode, command.update);
     *mode == Mode::Shared && pair.x != 0 && desk_and_start(pair.x) != desk_and_start(pair.s)
 }
 
-/// Whether the premise on shared stamps holds for a card of a list.
+/// Whether the premise holds for a card of a list (rule 9.5).
 pub fn premise(events: &[Event], card: u16) -> bool {
     List::new(events).premise(card).0
 }
 
-/// Whether some command for a card carries another desk's exclusive stamp, and
-/// some exclusive command stands under it.
+/// Whether the premise binds some command for a card, and some exclusive
+/// command has the same x.
 pub fn premise_speaks(events: &[Event], card: u16) -> bool {
     let list = List::new(events);
     let mut carried = list.sent_for(card).filter(|command| carries(command));
@@ -301,8 +299,8 @@ fn isolation(list: &List, card: u16, run: &mut Run) -> Result<(), String> {
     Ok(())
 }
 
-/// What stands between two accepted commands of one session that is not of its
-/// desk.
+/// What other desks sent for a session's card, between two of its accepted
+/// commands (rule 9.6).
 #[derive(Default)]
 struct Between {
     /// A command was accepted that does not go together with them.
@@ -315,7 +313,7 @@ struct Between {
     together: bool,
 }
 
-/// What stands between two accepted commands, if they are of one session.
+/// The same for two accepted commands, if they have one session.
 fn between(list: &List, (first, second): (usize, usize)) -> Option<Between> {
     let (a, b) = (list.accepted(first)?, list.accepted(second)?);
     if a.session() != b.session() {
@@ -346,7 +344,7 @@ fn let_in(at: usize, first: usize, second: usize) -> String {
     format!("command {at} was accepted between {first} and {second}, one session of another desk")
 }
 
-/// Two accepted commands of one session, and what stands between them.
+/// Holds two accepted commands to rule 9.6, if they have one session.
 fn isolated(
     list: &List,
     premise: bool,

@@ -192,7 +192,7 @@ fn next_length(random: &mut Random, lent: &Lent) -> usize {
 }
 
 /// The same request to the store: it answers as the engine did, and accepts
-/// where the engine first gives 22.
+/// what gets the first 22 there (rules 14.10 and 14.11).
 fn beside(
     run: &mut Run,
     image: &mut [u8],

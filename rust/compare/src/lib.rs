@@ -15,7 +15,7 @@
 //! - [`pairs`]: commands with two pairs, edge by edge. [`languages`]: commands
 //!   of version 2, and each version's images before the other.
 //! - [`conversions`]: from version 1 to version 2.
-//! - [`trials`]: the sheet's trials, by both.
+//! - [`trials`]: the trials, by both.
 //! - [`sessions`]: lists of commands as desks send them, sessions interleaved.
 //! - [`demand3`]: the sentences of demand 3, over a list of events.
 

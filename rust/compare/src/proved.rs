@@ -128,7 +128,7 @@ pub fn convert(image: &[u8], target: &mut [u8]) -> u8 {
 pub struct Answer {
     /// The number, 0 to 9 or 17.
     pub number: u8,
-    /// s, x, commit desk, transaction, edition, translated-from, length.
+    /// The reply fields, in the order of rule 4.8.
     pub fields: [u64; 7],
 }
 
@@ -191,8 +191,8 @@ pub struct Queue {
     pub places: u64,
 }
 
-/// A number, then holds (1 or 0), the largest s, the largest x, how many
-/// entries were looked at.
+/// A number, then holds (1 or 0), the largest s, the largest x, entries looked
+/// at.
 pub type QueueAnswer = (u8, [u64; 4]);
 
 impl Queue {

@@ -1,4 +1,4 @@
-//! The sheet's trials on both, and demand 3 on their lists.
+//! The trials on both, and demand 3 on their lists.
 
 use second::short::Kept;
 use second::trials::{self, Told, Trial, Tried, LANGUAGE_NAMES, NAMES};

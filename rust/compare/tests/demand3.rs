@@ -165,7 +165,7 @@ fn opens(mode: u8, verifier: Pair, update: Pair) -> Vec<u8> {
     fields.with_payload(b"")
 }
 
-/// Earlier update pairs are compared with the new verifier.
+/// A command is late by its verifier, whatever its update pair (rule 9.2).
 #[test]
 fn a_late_verifier_whose_update_pair_is_not_late() {
     let third = Pair::new(at(3, 3), at(3, 3));
@@ -187,7 +187,7 @@ fn a_late_verifier_whose_update_pair_is_not_late() {
 }
 
 /// Trial d with update pairs: the shared command's verifier has desk 1's
-/// stamps. The premise reads update pairs, and is broken; with a larger s in
+/// stamps. The premise is over update pairs, and is broken; with a larger s in
 /// the update pair alone it is not, and the same answers do not pass.
 #[test]
 fn an_intruder_by_its_update_pair() {

@@ -1,5 +1,5 @@
-//! A command: its bytes, its fields, and when it is well formed (sheet, "A
-//! command"; request 7, the update pair; request 13, the language).
+//! A command: its bytes in each version, its fields, and when it is well formed
+//! (rules 3.1 to 3.4).
 
 use crate::endian::{put, u16_at, u32_at, u64_at};
 use crate::format::Format;
@@ -60,8 +60,8 @@ pub struct CommandFields {
     pub card: u16,
     /// Offsets 4 and 12: the verifier.
     pub pair: Pair,
-    /// The update pair as it is sent, at offsets 20 and 28 of version 1, 52
-    /// and 60 of version 2; all zero means the same as the verifier.
+    /// The update pair as it is sent, at offsets 20 and 28 of version 1, 52 and
+    /// 60 of version 2; zeros where the verifier serves for both (rule 3.4).
     pub update: Pair,
     /// Offset 20 of version 2; zero in version 1, which has no such byte.
     pub language: u8,
@@ -160,9 +160,10 @@ pub struct Command<'a> {
     pub mode: Mode,
     /// The card, from 0.
     pub card: u16,
-    /// The pair that staleness judges; its stamps may be zero.
+    /// By this pair it is stale or not (rule 4.2); its stamps may be zero.
     pub verifier: Pair,
-    /// The pair that the stored one is raised by, and that names the session.
+    /// What it raises the stored pair by, and what tells its session (rule
+    /// 3.4).
     pub update: Pair,
     /// Its desk: desk and start in the mode's own stamp of the update pair.
     pub desk: u32,
@@ -219,8 +220,7 @@ impl<'a> Command<'a> {
     }
 }
 
-/// Writes are exclusive; the edition is nonzero for act 4 and zero for every
-/// other act; the length is zero unless act 3 or 4.
+/// Whether mode, edition and length are such as the act may have (rule 3.3).
 fn fits_act(act: Act, mode: Mode, fields: &CommandFields) -> bool {
     let names_edition = matches!(act, Act::Write(Language::Translation(_)));
     let mode_and_length = match act {

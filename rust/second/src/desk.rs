@@ -1,9 +1,9 @@
-//! The text a desk shows (sheet, "What a desk shows").
+//! The text that a desk shows (rules 6.1 to 6.3).
 
 use crate::language::Language;
 use crate::number::{ACCEPTED, BEHIND, BUFFER_SHORT};
 
-/// What a desk holds of a card, all at its own word: any values at all.
+/// What a desk holds of a card (rule 6.1); any values at all.
 #[derive(Clone, Copy, Debug, Default, PartialEq, Eq, Hash)]
 pub struct Held<'a> {
     /// The buffer with the original.
@@ -40,7 +40,7 @@ pub fn shown<'a>(held: &Held<'a>, language: Language) -> (u8, &'a [u8]) {
     }
 }
 
-/// A translation is behind if translated-from is 0 or is not the edition.
+/// Whether the translation that the desk holds is behind (rule 4.6).
 fn is_behind(held: &Held) -> bool {
     held.translated_from == 0 || held.translated_from != held.edition
 }

@@ -1,5 +1,4 @@
-//! Little-endian numbers at a place in a slice (sheet, "The image": all
-//! numbers are little-endian).
+//! Little-endian numbers at a place in a slice (rule 2.1).
 
 /// The two bytes at `at` as a number, if they are all there.
 pub fn u16_at(bytes: &[u8], at: usize) -> Option<u16> {

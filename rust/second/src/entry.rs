@@ -1,4 +1,5 @@
-//! A card's entry (sheet, "The image"; request 13, entries of 48 bytes).
+//! A card's entry: its fields (rule 2.4), and its bytes, 32 in version 1 and 48
+//! in version 2.
 
 use crate::endian::{put, u16_at, u32_at, u64_at};
 use crate::format::{Format, MOST_TRANSLATIONS};
@@ -8,7 +9,7 @@ use crate::stamp::{Mark, Pair};
 /// What an entry says of one translation.
 #[derive(Clone, Copy, Debug, Default, PartialEq, Eq, Hash)]
 pub struct Translation {
-    /// The edition it was made from.
+    /// Translated-from: the edition whose translation it is.
     pub from: u16,
     /// Its length.
     pub length: u16,

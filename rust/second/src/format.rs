@@ -1,5 +1,5 @@
-//! The two versions of an image and of the commands for it (sheet, "The image"
-//! and "A command"; requests 7 and 13).
+//! The two versions of an image and of the commands for it. Version 1 is that
+//! of rules 2.2 to 2.5 and 3.1.
 
 /// A version: where things stand, and how many translations a card has.
 #[derive(Clone, Copy, Debug, Default, PartialEq, Eq, Hash)]

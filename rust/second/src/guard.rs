@@ -1,6 +1,5 @@
-//! The guard of one card: its entry takes a command and comes back as the new
-//! entry (sheet, "How the guard judges" and rows 3 to 8 of "When the store
-//! says no", with 17 after 3).
+//! The guard of one card (rules 4.1 to 4.6 and 4.9): an entry judges a command,
+//! and answers the entry that stands afterwards or the number of its refusal.
 
 use crate::command::{Act, Command};
 use crate::entry::{Entry, Translation};
@@ -10,8 +9,7 @@ use crate::number::{
 };
 
 impl Entry {
-    /// The new entry if the command is accepted, else the number of the first
-    /// row that applies.
+    /// The new entry, or the number of the row by which the command is refused.
     pub fn take(self, command: &Command, room: usize, reply_length: usize) -> Result<Entry, u8> {
         match self.refusal(command, room, reply_length) {
             Some(number) => Err(number),
@@ -19,13 +17,13 @@ impl Entry {
         }
     }
 
-    /// A translation is behind if translated-from is 0 or is not the edition.
+    /// Whether the translation into this language is behind (rule 4.6).
     pub fn is_behind(self, language: u8) -> bool {
         let from = self.translation(language).from;
         from == 0 || from != self.edition
     }
 
-    /// Rows 3, 17 and 4 to 8, in the table's order.
+    /// The rows of rule 4.1 from 3 on, in order.
     fn refusal(self, command: &Command, room: usize, reply_length: usize) -> Option<u8> {
         if command.mode.is_below(command.verifier, self.pair) {
             Some(STALE)
@@ -63,7 +61,7 @@ impl Entry {
         }
     }
 
-    /// The entry after an accepted command.
+    /// The entry after an accepted command (rules 4.4 and 4.5).
     fn accepted(self, command: &Command) -> Entry {
         let mut entry = self;
         entry.pair = self.pair.larger(command.update);

@@ -1,6 +1,5 @@
-//! The history engine: a second, plain engine. It keeps the accepted commands
-//! and works every answer out from them; there is no image. It stays with
-//! version 1.
+//! The history engine (rules 14.1 to 14.9): it has no image, and finds each
+//! answer in the commands that it accepted before. It is for version 1 alone.
 
 use crate::command::{Act, Command, CommandFields};
 use crate::entry::{Entry, Translation};
@@ -100,7 +99,7 @@ impl History {
         }
     }
 
-    /// Whether one more accepted command would pass either limit.
+    /// Whether a limit is passed if this command is kept as well (rule 14.2).
     pub fn full_for(&self, command: &Command) -> bool {
         let payload = self.payload().saturating_add(command.payload.len());
         self.count() >= MOST_KEPT || payload > MOST_PAYLOAD

@@ -1,5 +1,5 @@
-//! The image: header, entries, bodies; soundness; a fresh image (sheet, "The
-//! image: contents first, then bodies"; request 13, version 2 and conversion).
+//! The image: header, entries, bodies; soundness; a fresh image (rules 2.1 to
+//! 2.7); conversion to version 2.
 
 use std::iter::repeat;
 use std::ops::Range;
@@ -151,7 +151,7 @@ impl Layout {
         }
     }
 
-    /// Writes a text into a body and zeroes the rest of that body. The length
+    /// Writes a text into a body, with zeros behind it (rule 4.5). The length
     /// in the entry is not touched.
     pub fn put_text(self, image: &mut [u8], card: u16, language: Language, text: &[u8]) {
         let range = self.body_range(card, language);
@@ -172,7 +172,7 @@ impl Layout {
         (card < self.cards).then_some(card)
     }
 
-    /// The sentences of "An image is sound if also" for one card.
+    /// What rule 2.6 asks of one card, of its entry and of its bodies.
     fn card_is_sound(self, image: &[u8], card: u16) -> Option<bool> {
         let entry = self.entry(image, card)?;
         let zero_past = |language| {
@@ -201,8 +201,9 @@ impl Format {
         Layout::of_sound(self, image).is_some()
     }
 
-    /// Makes a fresh image in the lent bytes and answers 0; or answers 14 and
-    /// writes nothing, if N, C or the lent length breaks the rules.
+    /// Makes a fresh image and answers 0 (rule 2.7). Where no image has this N
+    /// and C, or one has another length than the lent bytes, the answer is 14
+    /// and these stay as they are.
     pub fn make_fresh(self, image: &mut [u8], cards: u64, room: u64) -> u8 {
         match Layout::new(self, cards, room) {
             Some(layout) if layout.size() == image.len() => {
@@ -215,10 +216,11 @@ impl Format {
     }
 }
 
-/// Converts an image of version 1 to version 2 in the lent bytes: the
-/// translation becomes language 0, all else but the version is kept. Answers
-/// 0; or 9 if the image is not sound, or 14 if the target is not exactly the
-/// new size within the limit, and writes nothing.
+/// Converts an image of version 1 to version 2, in the lent bytes: every card
+/// as it is, its translation as language 0, nothing in the other three. Answers
+/// 0; 9 if the image is not sound; else 14 if no image of version 2 has its N
+/// and C, or one has another length than the target. With 9 and 14 nothing is
+/// written.
 pub fn convert(image: &[u8], target: &mut [u8]) -> u8 {
     let Some(old) = Layout::of_sound(Format::V1, image) else {
         return UNSOUND;

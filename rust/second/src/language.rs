@@ -1,5 +1,4 @@
-//! The texts of a card (sheet, "The image" and "What a desk shows"; request
-//! 13, languages).
+//! The texts of a card: its original and its translations (rule 2.1).
 
 /// Which of a card's texts is meant.
 #[derive(Clone, Copy, Debug, PartialEq, Eq, Hash)]

@@ -1,5 +1,5 @@
-//! Desks that fall silent: a lease period lengthened by clock drift, after
-//! which a failed desk's entry is removed from the lock queue.
+//! Desks that fall silent (rules 13.1 to 13.7): one that is held failed loses
+//! its place in the lock queue when its lease is over.
 
 use crate::number::{BAD_QUEUE, LEASE_REFUSED, NOT_STANDING, STILL_WAITING};
 use crate::queue::{Queue, QueueAnswer};
@@ -18,27 +18,27 @@ pub struct Lease {
     pub drift: f64,
 }
 
-/// A desk that the manager holds failed; any values at all.
+/// A desk that is held failed (rule 13.1); any values at all.
 #[derive(Clone, Copy, Debug, PartialEq)]
 pub struct Silence {
     /// Desk and start.
     pub desk: u32,
     /// Its lease term.
     pub lease: Lease,
-    /// When the manager began to wait.
+    /// Since when it is held failed.
     pub begin: f64,
-    /// The time by the same clock now.
+    /// The time now, by the same clock.
     pub now: f64,
 }
 
 impl Lease {
-    /// Period above 0 and at most 86,400, drift from 0 to 0.5.
+    /// Whether period and drift are in range (rule 13.2).
     fn is_fair(self) -> bool {
         let period = self.period > 0.0 && self.period <= PERIOD_LIMIT;
         period && (0.0..=DRIFT_LIMIT).contains(&self.drift)
     }
 
-    /// The period lengthened by the drift.
+    /// The wait: the sum is rounded before the product (rule 13.3).
     fn wait(self) -> f64 {
         let rate = 1.0 + self.drift;
         self.period * rate
@@ -46,14 +46,14 @@ impl Lease {
 }
 
 impl Silence {
-    /// The lease and both times are within their limits.
+    /// Whether all four numbers are in range (rule 13.2).
     fn is_fair(self) -> bool {
         let times = [self.begin, self.now];
         let good = |time: &f64| (0.0..=TIME_LIMIT).contains(time);
         self.lease.is_fair() && times.iter().all(good)
     }
 
-    /// As much time has passed as the wait asks for.
+    /// Whether the lease is over (rule 13.4).
     fn is_over(self) -> bool {
         let passed = self.now - self.begin;
         passed >= self.lease.wait()
@@ -61,8 +61,8 @@ impl Silence {
 }
 
 impl Queue<'_> {
-    /// Removes the entry of a silent desk once its lease is over. Every number
-    /// but 0 leaves the queue as it was; 0 does what leaving does.
+    /// Takes a silent desk out of the queue once its lease is over (rules 13.5
+    /// and 13.6). Every number but 0 leaves the queue as it was.
     pub fn lapse(&mut self, silence: Silence) -> QueueAnswer {
         let number = match self.stands(silence.desk) {
             None => BAD_QUEUE,

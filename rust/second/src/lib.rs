@@ -1,20 +1,19 @@
-//! The card store a second time: plain Rust that follows the sheet alone and
+//! The card store a second time: plain Rust that follows the rules alone and
 //! shares no code with the proved library, so that the two can be compared on
 //! random and damaged input.
 //!
-//! The modules stand in the sheet's order. Every function takes any input:
-//! what the sheet refuses gets a number of its tables, and nothing panics.
-//! The library prints nothing.
+//! Every function takes any input: what the rules refuse gets a number of rule
+//! 5.1, and nothing panics. The library prints nothing.
 //!
 //! - [`format`], [`stamp`], [`language`], [`entry`], [`image`]: the two
 //!   versions, stamps, pairs, the image and its soundness, a fresh image,
 //!   conversion from version 1 to version 2.
 //! - [`command`], [`guard`](Entry::take), [`store`]: commands and the answers
 //!   0 to 9 and 17.
-//! - [`desk`]: the text a desk shows.
+//! - [`desk`]: the text that a desk shows.
 //! - [`texts`]: structured texts and whether two agree, numbers 18 to 20.
 //! - [`proposal`]: what a desk knows and proposes, numbers 1 and 16.
-//! - [`queue`]: the lock queue of one card, upgrades too, numbers 10 to 13 and
+//! - [`queue`]: the lock queue of a card, upgrades too, numbers 10 to 13 and
 //!   15.
 //! - [`lease`]: desks that fall silent, numbers 21 and 25.
 //! - [`history`]: the history engine, number 22.
@@ -23,8 +22,7 @@
 //! - [`stream`], [`program`]: streams and the program's output.
 //! - [`number`]: the names of the numbers. [`endian`]: little-endian numbers.
 //!   [`random`]: random numbers for tests. [`short`], [`generate`], [`trials`]:
-//!   short names, random inputs and the sheet's trials, for tests and the
-//!   comparison.
+//!   short names, random inputs and trials, for tests and the comparison.
 
 #![forbid(unsafe_code)]
 #![deny(missing_docs)]

@@ -1,5 +1,5 @@
-//! A desk's redo log (request 6): its layout, what is read back of it, and
-//! appending with a number of one-byte stores.
+//! A desk's redo log (rules 11.1 to 11.13): its layout, what is read back of
+//! it, and appending with a budget of stores.
 
 use crate::endian::{u16_at, u32_at};
 use crate::number::{ACCEPTED, APPEND_CUT, BAD_LOG, LOG_FULL};
@@ -110,13 +110,13 @@ impl<'a> ReadBack<'a> {
     }
 }
 
-/// The sum of bytes in 32 bits, wrapping.
+/// The sum of these bytes, modulo 2^32 (rule 11.2).
 pub fn sum(bytes: &[u8]) -> u32 {
     let add = |sum: u32, byte: &u8| sum.wrapping_add(u32::from(*byte));
     bytes.iter().fold(0, add)
 }
 
-/// What is read back of a log, or none where it answers 23.
+/// What is read back of a log, or none if it is not good (rules 11.6 and 11.7).
 pub fn read_back(log: &[u8]) -> Option<ReadBack<'_>> {
     if !(BODIES..=LOG_LIMIT).contains(&log.len()) {
         return None;
@@ -146,7 +146,7 @@ pub fn check(log: &[u8]) -> u8 {
     read_back(log).map_or(BAD_LOG, |_| ACCEPTED)
 }
 
-/// Appends a record, as far as so many one-byte stores go.
+/// Appends a record, as far as so many stores go (rules 11.9 to 11.12).
 pub fn append(log: &mut [u8], kind: u8, body: &[u8], stores: u64) -> u8 {
     let Some(read) = read_back(log) else {
         return BAD_LOG;
@@ -176,7 +176,7 @@ pub fn append(log: &mut [u8], kind: u8, body: &[u8], stores: u64) -> u8 {
     }
 }
 
-/// The one-byte stores of an append: the body, its line, the count.
+/// The stores of an append, in order: places and bytes (rule 11.10).
 // The count is below 200 and the place at most 65,536.
 #[allow(clippy::arithmetic_side_effects)]
 fn all_stores(count: usize, end: usize, kind: u8, body: &[u8]) -> Vec<(usize, u8)> {

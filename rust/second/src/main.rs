@@ -1,5 +1,5 @@
-//! Reads standard input and prints what the store's program prints (sheet,
-//! "Streams and the program").
+//! Reads standard input and prints what the store's program prints (rules 8.3
+//! to 8.5).
 
 #![forbid(unsafe_code)]
 
@@ -11,7 +11,7 @@ use second::program::{output, INPUT_LIMIT};
 fn main() -> ExitCode {
     let one_too_many = INPUT_LIMIT as u64 + 1;
     let mut input = Vec::new();
-    // A read error counts as the end of input.
+    // Where reading fails, the input is what came before.
     let _ = stdin().lock().take(one_too_many).read_to_end(&mut input);
     let mut out = stdout().lock();
     let printed = out.write_all(output(&input).as_bytes());

@@ -1,25 +1,24 @@
-//! The answer numbers (sheet, "When the store says no" and "The lock queue of
-//! one card").
+//! The numbers of the answers (rule 5.1).
 
 /// Accepted; also an image made, a text shown, a lock asked for or left.
 pub const ACCEPTED: u8 = 0;
 /// The command is malformed; in the queue, its mode or stamps are.
 pub const MALFORMED: u8 = 1;
-/// The card is N or more.
+/// The store has no card of this number.
 pub const NO_SUCH_CARD: u8 = 2;
 /// The pair is stale.
 pub const STALE: u8 = 3;
 /// The expected commit mark has another desk than the stored one, or a lower
 /// transaction.
 pub const MARK_DIFFERS: u8 = 4;
-/// The payload is longer than C.
+/// The payload is longer than the room.
 pub const PAYLOAD_TOO_LONG: u8 = 5;
-/// Act 2: the translation is behind; act 4: the named edition is not the
-/// stored one.
+/// The translation to be read is behind, or the one to be written is of another
+/// edition than the stored one.
 pub const BEHIND: u8 = 6;
-/// Act 3 at edition 65,535.
+/// The original has edition 65,535, after which there is none.
 pub const LAST_EDITION: u8 = 7;
-/// The text is longer than the lent buffer.
+/// The buffer is too short for the text.
 pub const BUFFER_SHORT: u8 = 8;
 /// The image is not sound.
 pub const UNSOUND: u8 = 9;
@@ -27,13 +26,13 @@ pub const UNSOUND: u8 = 9;
 pub const BAD_QUEUE: u8 = 10;
 /// Asking is denied.
 pub const DENIED: u8 = 11;
-/// This desk and start already stands in the queue.
+/// The desk stands in the queue already.
 pub const ALREADY_STANDING: u8 = 12;
 /// The queue is full.
 pub const FULL: u8 = 13;
 /// No fresh image can be made of this N, C and lent length.
 pub const NOT_MADE: u8 = 14;
-/// This desk and start does not stand in the queue.
+/// The desk does not stand in the queue.
 pub const NOT_STANDING: u8 = 15;
 /// The desk has no stamp of its own left above the one it knows.
 pub const NO_STAMP_LEFT: u8 = 16;

@@ -1,5 +1,5 @@
-//! The program's whole output for any standard input (sheet, "Streams and the
-//! program"). It reads version 1 alone.
+//! The program's whole output for any standard input (rules 8.3 to 8.5). It
+//! reads version 1 alone.
 
 use crate::format::Format::V1;
 use crate::image::Layout;
@@ -20,15 +20,14 @@ pub fn output(input: &[u8]) -> String {
     }
 }
 
-/// The sound image at the front of the input, as long as its header says, and
-/// the stream after it.
+/// The sound image in front of the input (rule 2.9), and the stream behind it.
 fn split(input: &[u8]) -> Option<(Layout, &[u8], &[u8])> {
     let size = Layout::of_header(V1, input)?.size();
     let (image, commands) = input.split_at_checked(size)?;
     Some((Layout::of_sound(V1, image)?, image, commands))
 }
 
-/// Runs the stream with a reply buffer of C bytes and prints the lines.
+/// Runs the stream (rule 8.5) and prints the lines (rule 8.4).
 fn run(layout: Layout, image: &[u8], commands: &[u8]) -> String {
     let mut image = image.to_vec();
     let mut reply = vec![0; layout.room()];
@@ -42,7 +41,7 @@ fn run(layout: Layout, image: &[u8], commands: &[u8]) -> String {
     lines.concat()
 }
 
-/// One line: the command counted from 1, the number, the seven fields.
+/// The line of one command (rule 8.4).
 fn line((count, answer): (u64, &Answer)) -> String {
     let fields = answer.fields.numbers().map(|field| field.to_string());
     format!("{count} {} {}\n", answer.number, fields.join(" "))

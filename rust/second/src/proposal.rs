@@ -1,11 +1,10 @@
-//! A desk's own half (request 2): what it knows of a card, what it learns, and
-//! the pairs that it proposes.
+//! What a desk knows of a card, what it learns, and the pairs that it proposes
+//! (rules 10.1 to 10.7).
 
 use crate::number::{MALFORMED, NO_STAMP_LEFT};
 use crate::stamp::{stamp, Mode, Pair};
 
-/// What a desk with its start knows of one card: the largest s and x that it
-/// has heard of.
+/// A desk with its start, and the pair that it keeps for one card (rule 10.1).
 #[derive(Clone, Copy, Debug, Default, PartialEq, Eq, Hash)]
 pub struct Known {
     /// The desk.
@@ -26,13 +25,13 @@ impl Known {
         }
     }
 
-    /// It learns both stamps of a pair together.
+    /// It learns a pair, whole (rule 10.2).
     pub fn learn(&mut self, pair: Pair) {
         self.pair = self.pair.larger(pair);
     }
 
     /// Proposes a pair in the mode with this number and learns it, or says
-    /// which number it gets, 1 or 16, and changes nothing.
+    /// which number it gets, 1 or 16, and changes nothing (rules 10.4 to 10.7).
     pub fn propose(&mut self, mode: u8) -> Result<Pair, u8> {
         let mode = Mode::from_number(mode).filter(|_| self.desk != 0);
         let mode = mode.ok_or(MALFORMED)?;
@@ -45,8 +44,8 @@ impl Known {
         Ok(pair)
     }
 
-    /// The smallest stamp of this desk and start above a number: its T is the
-    /// number's own or the next, if there is one.
+    /// The smallest own stamp above a number (rule 10.3), of the number's T or,
+    /// where that is not enough, of the next; none if there is no next.
     fn smallest_above(&self, number: u64) -> Option<u64> {
         let first = (number >> 32) as u32;
         let times = [Some(first), first.checked_add(1)].into_iter().flatten();

@@ -1,4 +1,4 @@
-//! The lock queue of one card (sheet, "The lock queue of one card").
+//! The lock queue of a card (rules 7.1 to 7.14).
 
 use crate::number::{ACCEPTED, ALREADY_STANDING, BAD_QUEUE, DENIED, FULL, MALFORMED, NOT_STANDING};
 use crate::stamp::{Mode, Pair};
@@ -22,8 +22,8 @@ impl Place {
         Place { mode, pair }
     }
 
-    /// The desk and start that stands here, or none if mode or stamps are
-    /// malformed by a command's rules.
+    /// The desk and start of the entry here, or none where nobody can ask with
+    /// it (rule 7.6, number 1).
     pub fn desk(self) -> Option<u32> {
         Mode::from_number(self.mode)?.desk(self.pair)
     }
@@ -33,8 +33,8 @@ impl Place {
     }
 }
 
-/// A queue: lent places, how many stand, and the largest s and x ever
-/// accepted; any values at all.
+/// A queue: the lent places, and what is kept beside them (rule 7.1); any
+/// values at all.
 #[derive(Debug, PartialEq, Eq)]
 pub struct Queue<'a> {
     /// The lent places.
@@ -60,11 +60,11 @@ pub struct QueueAnswer {
     /// 0, 1 or 10 to 13 for asking; 0, 10 or 15 for leaving; 0, 10, 15, 21 or
     /// 25 for a silent desk.
     pub number: u8,
-    /// Whether that desk holds the lock in the queue as it now is.
+    /// Whether the desk holds the lock after its turn.
     pub holds: bool,
-    /// The largest pair as it now is; zeros for 10 and 1.
+    /// The largest pair after the turn; with 10 and 1 it has no stamps.
     pub largest: Pair,
-    /// How many entries were looked at, in the queue at entry.
+    /// Entries looked at, of those that stood before the turn (rule 7.14).
     pub looked_at: usize,
 }
 
@@ -76,7 +76,7 @@ impl QueueAnswer {
         }
     }
 
-    /// Holds (1 or 0), the largest s and x, how many entries were looked at.
+    /// Holds (1 or 0), the largest s, the largest x, entries looked at.
     pub fn numbers(&self) -> [u64; 4] {
         let looked_at = self.looked_at as u64;
         [self.holds.into(), self.largest.s, self.largest.x, looked_at]
@@ -151,7 +151,7 @@ impl Queue<'_> {
         }
     }
 
-    /// The entries that stand, or none if the queue is bad (number 10).
+    /// The entries that stand, or none if the queue is bad (rule 7.4).
     pub fn standing(&self) -> Option<&[Place]> {
         let length_is_right = (1..=PLACES_LIMIT).contains(&self.places.len());
         let standing = self.places.get(..self.count)?;
@@ -167,7 +167,7 @@ impl Queue<'_> {
         place.desk().is_some() && place.pair.s <= self.largest.s && place.pair.x <= self.largest.x
     }
 
-    /// An accepted entry joins the end and raises the largest s and x.
+    /// Takes in an accepted entry (rule 7.10).
     fn join(&mut self, asked: Place) {
         if let Some(place) = self.places.get_mut(self.count) {
             *place = asked;
@@ -176,7 +176,7 @@ impl Queue<'_> {
         }
     }
 
-    /// Leaving closes the gap and zeroes the freed last place.
+    /// Takes out the entry at a place (rule 7.13).
     fn close_gap(&mut self, at: usize) {
         if let Some(from_gap @ [_, ..]) = self.places.get_mut(at..self.count) {
             from_gap.rotate_left(1);
@@ -187,7 +187,7 @@ impl Queue<'_> {
         }
     }
 
-    /// The answer for a desk, on the queue as it now is.
+    /// The answer for a desk, from the queue after its turn.
     fn answer(&self, number: u8, desk: u32, looked_at: usize) -> QueueAnswer {
         let standing = self.places.get(..self.count).unwrap_or_default();
         QueueAnswer {
@@ -204,20 +204,18 @@ fn position(standing: &[Place], desk: u32) -> Option<usize> {
     standing.iter().position(|place| place.desk() == Some(desk))
 }
 
-/// Where the entry stands that an upgrade takes out: a shared one of a desk
-/// that now asks for exclusive.
+/// Where the entry stands that an upgrade takes out (rule 7.8), if this is one.
 fn upgrade(standing: &[Place], found: Option<usize>, mode: Mode) -> Option<usize> {
     let shared = |at: &usize| standing.get(*at).is_some_and(|own| !own.is_exclusive());
     found.filter(|at| mode == Mode::Exclusive && shared(at))
 }
 
-/// Those from the front up to and including the desk's own, or all standing.
+/// After how many entries a desk is found, or found missing (rule 7.14).
 fn looked_at(standing: &[Place], found: Option<usize>) -> usize {
     found.map_or(standing.len(), |at| at.saturating_add(1))
 }
 
-/// Shared holds the lock if no exclusive stands before it; exclusive holds if
-/// it is first.
+/// Whether a desk holds the lock (rule 7.5).
 fn holds(standing: &[Place], desk: u32) -> bool {
     match position(standing, desk).and_then(|at| standing.get(..=at)) {
         Some([before @ .., own]) if own.is_exclusive() => before.is_empty(),
@@ -226,7 +224,7 @@ fn holds(standing: &[Place], desk: u32) -> bool {
     }
 }
 
-/// No desk and start stands twice.
+/// Whether each entry is of another desk.
 fn desks_differ(standing: &[Place]) -> bool {
     standing.iter().enumerate().all(|(at, place)| {
         let mut earlier = standing.iter().take(at);

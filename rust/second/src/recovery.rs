@@ -1,5 +1,5 @@
-//! Recovery from a desk's redo log, through the guard (request 6). It stays
-//! with version 1.
+//! Recovery from a desk's redo log, through the guard (rules 11.15 to 11.19).
+//! It is for version 1 alone.
 
 use crate::command::CommandFields;
 use crate::format::Format::V1;
@@ -18,8 +18,8 @@ pub struct Recovered {
     pub line: u64,
 }
 
-/// Applies the updates of a log to an image, each under the exclusive pair
-/// given for its card in `s` and `x`.
+/// Sends the writes of the updates that are due, each under the pair that `s`
+/// and `x` have for its card (rules 11.16 to 11.18).
 pub fn recover(log: &[u8], image: &mut [u8], s: &[u64], x: &[u64]) -> Recovered {
     recover_by(log, image, s, x, |image, command| {
         answer(image, command, &mut []).number
@@ -56,7 +56,8 @@ pub fn recover_by(
     }
 }
 
-/// The write of a record that is to be applied, as a command.
+/// The write of an update that is due (rules 11.15 and 11.17); none for any
+/// other record.
 fn write(
     records: &[Logged],
     logged: &Logged,

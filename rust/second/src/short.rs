@@ -1,4 +1,4 @@
-//! Short names for the sheet's stamps, commands and images, for tests and the
+//! Short names for the trials' stamps, commands and images, for tests and the
 //! comparison.
 
 // Nothing here is part of the store: a wrong call stops the test.

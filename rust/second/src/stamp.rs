@@ -1,12 +1,12 @@
-//! Stamps, pairs, modes, commit marks and sessions (sheet, "Stamps, pairs and
-//! sessions").
+//! Stamps, pairs, modes, commit marks and sessions (rules 1.1 to 1.7).
 
-/// The stamp T.desk.start: 32, 16 and 16 bits, T highest.
+/// The stamp T.desk.start: T in the upper 32 bits, then desk and start in 16
+/// each (rule 1.1).
 pub fn stamp(time: u32, desk: u16, start: u16) -> u64 {
     u64::from(time) << 32 | u64::from(desk) << 16 | u64::from(start)
 }
 
-/// By how much the T of a stamp may exceed the T of the stored one.
+/// How far a T may be above the stored one (rule 4.9).
 pub const MOST_AHEAD: u32 = 1_000_000;
 
 /// The T of a stamp.
@@ -14,14 +14,14 @@ pub fn time(stamp: u64) -> u32 {
     (stamp >> 32) as u32
 }
 
-/// A stamp that is not zero is too far ahead if its T exceeds the T of the
-/// stored one by more than 1,000,000.
+/// Whether a stamp is too far ahead of the stored one (rule 4.9); zero never
+/// is.
 fn is_too_far(stamp: u64, stored: u64) -> bool {
     let more = time(stamp).checked_sub(time(stored));
     stamp != 0 && more.is_some_and(|more| more > MOST_AHEAD)
 }
 
-/// A stamp is valid if it is zero (none) or its desk is at least 1.
+/// Whether this is no stamp or a valid one (rule 1.2).
 pub fn is_valid(stamp: u64) -> bool {
     stamp == 0 || desk_and_start(stamp) >> 16 >= 1
 }
@@ -31,7 +31,7 @@ pub fn desk_and_start(stamp: u64) -> u32 {
     (stamp & 0xffff_ffff) as u32
 }
 
-/// A shared stamp s and an exclusive stamp x.
+/// A pair (rule 1.3).
 #[derive(Clone, Copy, Debug, Default, PartialEq, Eq, Hash)]
 pub struct Pair {
     /// The shared stamp.
@@ -89,7 +89,7 @@ impl Mode {
         }
     }
 
-    /// The mode's own stamp: s if shared, x if exclusive.
+    /// The mode's own stamp (rule 1.4).
     pub fn own_stamp(self, pair: Pair) -> u64 {
         match self {
             Mode::Shared => pair.s,
@@ -104,8 +104,7 @@ impl Mode {
         (pair.is_valid() && own != 0).then(|| desk_and_start(own))
     }
 
-    /// The test the guard and the queue have in common: shared looks at x
-    /// alone, exclusive at s and x; equal is not below.
+    /// What makes a command stale and an ask denied (rules 4.2 and 7.7).
     pub fn is_below(self, pair: Pair, largest: Pair) -> bool {
         match self {
             Mode::Shared => pair.x < largest.x,
@@ -129,19 +128,19 @@ impl Mark {
         Mark { desk, transaction }
     }
 
-    /// Whether this mark, as the expected one, passes the stored one: it is
-    /// refused if the desks differ or its transaction is lower.
+    /// Whether this mark, as the expected one, passes the stored one (rule
+    /// 4.3).
     pub fn passes(self, stored: Mark) -> bool {
         self.desk == stored.desk && self.transaction >= stored.transaction
     }
 
-    /// Whether desk and transaction are both zero or both not.
+    /// Whether this is no mark or a whole one (rule 1.7).
     pub fn is_valid(self) -> bool {
         (self.desk == 0) == (self.transaction == 0)
     }
 }
 
-/// A card, a desk, a mode and a pair.
+/// What tells a session (rule 1.6).
 #[derive(Clone, Copy, Debug, PartialEq, Eq, Hash)]
 pub struct Session {
     /// The card, from 0.

@@ -1,5 +1,4 @@
-//! The answer to one command (sheet, "When the store says no"; request 13,
-//! version 2).
+//! The answer to one command, in each version (rules 4.1, 4.7 and 4.8).
 
 use crate::command::{Act, Command};
 use crate::entry::Entry;
@@ -21,12 +20,13 @@ pub struct ReplyFields {
     /// Translated-from of the language that the command names; of language 0
     /// for an act that names none.
     pub translated_from: u16,
-    /// The length of the text read if a read is accepted, else 0.
+    /// How long the text is that an accepted read shows; with every other
+    /// answer 0.
     pub length: u16,
 }
 
 impl ReplyFields {
-    /// The seven fields in the sheet's order, as wide numbers.
+    /// The seven fields in the order of rule 4.8, as wide numbers.
     pub fn numbers(&self) -> [u64; 7] {
         [
             self.pair.s,
@@ -124,7 +124,7 @@ fn accept(
     Answer::of_entry(ACCEPTED, command.act, entry, length)
 }
 
-/// Fills the first bytes of the reply buffer; the rest keeps its bytes.
+/// Puts a text at the front of the reply buffer (rule 4.7).
 pub(crate) fn fill_first(reply: &mut [u8], text: &[u8]) {
     reply
         .iter_mut()

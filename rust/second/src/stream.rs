@@ -1,5 +1,4 @@
-//! Streams: commands of one version end to end (sheet, "Streams and the
-//! program").
+//! Streams: commands of one version end to end (rules 8.1 and 8.2).
 
 use crate::command::LENGTH_OFFSET;
 use crate::endian::u16_at;
@@ -22,8 +21,8 @@ pub enum Standing<'a> {
     Cut,
 }
 
-/// What stands at this place of a stream of commands of this version. The
-/// payload's length is always taken from offset 50.
+/// What stands at this place of a stream of commands of this version. Well
+/// formed or not, a command ends where its bytes at 50 say (rule 8.1).
 pub fn standing_at(format: Format, stream: &[u8], place: usize) -> Standing<'_> {
     match stream.get(place..) {
         Some([]) => Standing::End,
@@ -44,8 +43,8 @@ fn whole_command(format: Format, rest: &[u8]) -> Option<&[u8]> {
     rest.get(..format.command_bytes().saturating_add(payload))
 }
 
-/// A reader that keeps the lent stream and its place. It gives the whole
-/// commands in turn and then stays where it ended.
+/// A reader of a lent stream, from its place on. It gives the whole commands in
+/// turn and then stays where it ended.
 #[derive(Clone, Copy, Debug, PartialEq, Eq, Hash)]
 pub struct Reader<'a> {
     /// The version of its commands.
@@ -103,8 +102,7 @@ pub struct Walk {
     pub cut: bool,
 }
 
-/// Walks a stream from a place to its end or to the first command that is not
-/// whole.
+/// Walks a stream from a place on, as far as commands are whole (rule 8.2).
 pub fn walk(format: Format, stream: &[u8], place: usize) -> Walk {
     let mut reader = Reader {
         format,
@@ -115,8 +113,8 @@ pub fn walk(format: Format, stream: &[u8], place: usize) -> Walk {
     ended(reader, commands)
 }
 
-/// Answers every whole command of a stream in turn, on the image as the one
-/// before left it, all with the same reply buffer.
+/// Answers every whole command of a stream in turn, all with the same reply
+/// buffer (rule 8.5).
 pub fn run(
     format: Format,
     image: &mut [u8],

@@ -1,12 +1,12 @@
-//! Structured texts: sections of words, drops and sections, and whether two
-//! texts say the same (request, "Do both languages say the same drop?").
+//! Structured texts: sections of words, drops and sections, and whether two of
+//! them agree (rules 12.1 to 12.10).
 
 use crate::number::{ACCEPTED, FIRST_ILL_FORMED, SECOND_ILL_FORMED, TEXTS_DIFFER};
 
-/// How deep sections nest at most, the outer one counted.
+/// How many sections may stand within one another (rule 12.4).
 pub const DEEPEST: usize = 8;
 
-/// The most that two drops may differ by, in degrees Fahrenheit.
+/// How far apart near drops may be, in degrees Fahrenheit (rule 12.7).
 const TOLERANCE: f64 = 0.5;
 
 /// A drop, in degrees of its own unit.
@@ -54,8 +54,8 @@ pub fn read(text: &[u8]) -> Option<Section> {
     (bytes.at == text.len()).then_some(section)
 }
 
-/// 0 if two texts agree; else 18 or 19 if the first or the second is ill
-/// formed, or 20 and the byte of the first where they part.
+/// What comparing two texts answers: 0, 18, 19 or 20 (rule 12.9), and with 20
+/// the place where they part (rule 12.10), else 0.
 pub fn agree(first: &[u8], second: &[u8]) -> (u8, u64) {
     let Some(first) = read(first) else {
         return (FIRST_ILL_FORMED, 0);
@@ -85,7 +85,7 @@ pub enum Why {
 /// Where two texts part.
 #[derive(Clone, Copy, Debug, PartialEq, Eq)]
 pub struct Unmatched {
-    /// The byte of the first text.
+    /// The place in the first text.
     pub place: usize,
     /// How many sections stand around it.
     pub depth: usize,
@@ -93,8 +93,7 @@ pub struct Unmatched {
     pub why: Why,
 }
 
-/// Where the first unmatched step of the first section begins, or the place
-/// just past that section if the other has more steps.
+/// Where two sections part, if they do (rule 12.10).
 pub fn unmatched(first: &Section, second: &Section) -> Option<Unmatched> {
     unmatched_at(first, second, 1)
 }
@@ -148,7 +147,7 @@ impl Drop {
         }
     }
 
-    /// The same in degrees Fahrenheit, each operation rounded.
+    /// The same in degrees Fahrenheit (rule 12.6).
     pub fn fahrenheit(self) -> f64 {
         match self {
             Drop::Celsius(degrees) => degrees * 9.0 / 5.0 + 32.0,
@@ -156,7 +155,7 @@ impl Drop {
         }
     }
 
-    /// Whether two drops differ by no more than half a degree Fahrenheit.
+    /// Whether two drops are near (rule 12.7).
     pub fn is_near(self, other: Drop) -> bool {
         (self.fahrenheit() - other.fahrenheit()).abs() <= TOLERANCE
     }

@@ -1,8 +1,6 @@
-//! The trials a to n, case P and the three slips, as data (sheet, "Trials at
-//! the desk", "Streams and the program", "Three slips we have seen"), commands
-//! with two pairs (request 7), languages (request 13), and what runs them on any
-//! implementation. Where no act is named it is verify. In version 2 each trial
-//! is run once for each language.
+//! The trials a to n, case P, three slips that a store must not make, commands
+//! with two pairs and languages, as data; and what runs them on any
+//! implementation. In version 2 each trial is run once for each language.
 
 // Nothing here is part of the store: a trial that is written wrong stops the
 // test.
@@ -33,8 +31,8 @@ pub trait Tried {
         command: &[u8],
         reply: &mut [u8],
     ) -> Result<Told<7>, String>;
-    /// A turn on a queue: the number, whether it holds, the largest pair, how
-    /// many entries were looked at.
+    /// A turn on a queue: the number; holds, the largest s, the largest x,
+    /// entries looked at.
     fn turn(&mut self, queue: &mut Kept, turn: Turn) -> Result<Told<4>, String>;
     /// What the program prints.
     fn output(&mut self, input: &[u8]) -> Result<String, String>;
@@ -159,7 +157,7 @@ pub struct Trial {
     /// What the card holds at first, its original with it; a fresh image if
     /// none.
     pub stored: Option<(Entry, &'static [u8])>,
-    /// Whether the list keeps demand 3's premise on shared stamps.
+    /// Whether the list keeps the premise (rule 9.5).
     pub premise: bool,
     /// The language of its translations: 0 in version 1; none if it is about
     /// several.
@@ -698,11 +696,11 @@ fn making(format: Format) -> [(u64, u64, usize, u8); 2] {
     }
 }
 
-/// A turn, and its number, whether the desk holds the lock, and how many
-/// entries were looked at.
+/// A turn; its number, whether the desk then holds the lock, entries looked at.
 type TurnStep = (Turn, u8, bool, u64);
 
-/// Trial n: 32 stand of 32; after one leaves, each row is looked at again.
+/// Trial n: 32 desks stand in 32 places, one leaves, and after that each row is
+/// tried.
 fn queue_trials() -> Vec<Vec<TurnStep>> {
     let asker = |desk| Place::new(SHARED, at(1, desk), 0);
     let ask = |desk| Turn::Ask(asker(desk));

@@ -1,5 +1,5 @@
-//! Every row of the table with the neighbours that just miss it, and the
-//! order of the rows (sheet, "When the store says no").
+//! Every row of rule 4.1 with the neighbours that just miss it, and the order
+//! of the rows.
 
 mod common;
 

@@ -1,4 +1,4 @@
-//! Case P (sheet, "Streams and the program"), to the byte.
+//! Case P (rules, section 8), to the byte.
 
 mod common;
 

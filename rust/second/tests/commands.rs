@@ -1,4 +1,4 @@
-//! Each field of a command broken in turn (sheet, "A command").
+//! Each field of a command broken in turn (rules 3.1 to 3.4).
 
 mod common;
 
@@ -140,8 +140,8 @@ fn half_an_update_pair() {
     assert_eq!(after(half_x), shared.map(|stays| !stays));
 }
 
-/// The nonzero rule of each mode falls on the update pair; a verifier may be
-/// zero, and is valid.
+/// An update pair has the mode's own stamp; a verifier need not, but is valid
+/// (rules 3.3 and 3.4).
 #[test]
 fn the_rules_of_each_pair() {
     let (one, none) = (b_prime(), Pair::default());
@@ -280,7 +280,7 @@ fn a_parsed_command_and_its_session() {
     }
 }
 
-/// Sessions and desks are named by the update pair.
+/// The update pair tells desk and session (rules 1.5 and 1.6).
 #[test]
 fn the_session_of_an_update_pair() {
     let (verifier, update) = (a_prime(), Pair::new(at(2, 2), at(3, 3)));

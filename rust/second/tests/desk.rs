@@ -1,4 +1,4 @@
-//! The text a desk shows (sheet, "What a desk shows").
+//! The text that a desk shows (rules 6.1 to 6.3).
 
 mod common;
 

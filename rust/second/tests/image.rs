@@ -1,5 +1,5 @@
-//! The limits of an image, soundness sentence by sentence, and making a fresh
-//! image (sheet, "The image").
+//! The limits of an image, soundness point by point, and making a fresh image
+//! (rules 2.2 to 2.7).
 
 mod common;
 

@@ -1,5 +1,5 @@
 //! The redo log: layout, order of transactions, appends with every number of
-//! stores, and recovery (request 6).
+//! stores, and recovery (rules 11.1 to 11.21).
 
 mod common;
 

@@ -1,5 +1,4 @@
-//! The program's output for every kind of standard input (sheet, "Streams and
-//! the program").
+//! The program's output for every kind of standard input (rules 8.3 to 8.5).
 
 mod common;
 

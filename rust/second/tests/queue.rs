@@ -1,6 +1,5 @@
 //! The lock queue: every number with its neighbours, the order, who holds the
-//! lock, and how many entries were looked at (sheet, "The lock queue of one
-//! card").
+//! lock, and the entries looked at (rules 7.1 to 7.14).
 
 mod common;
 

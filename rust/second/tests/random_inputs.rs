@@ -1,5 +1,5 @@
-//! Random and damaged input to every public function: nothing panics, and
-//! what the sheet says of all answers holds.
+//! Random and damaged input to every public function: nothing panics, and what
+//! the rules say of all answers holds.
 
 mod common;
 
@@ -303,7 +303,8 @@ fn chain_turn(random: &mut Random, step: u32) -> Turn {
     }
 }
 
-/// Whether the desk of this turn holds the lock, by the sheet's words.
+/// Whether the desk of this turn holds the lock, written out once more (rule
+/// 7.5).
 fn holds(queue: &common::Kept, taken: Turn) -> bool {
     let desk = match taken {
         Turn::Ask(asked) => asked.desk(),

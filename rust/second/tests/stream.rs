@@ -1,5 +1,5 @@
-//! Streams: what stands at a place, and where the walk ends (sheet, "Streams
-//! and the program").
+//! Streams: what stands at a place, and where the walk ends (rules 8.1 and
+//! 8.2).
 
 mod common;
 

@@ -1,5 +1,4 @@
-//! Structured texts: what is one, and whether two agree (request, "Do both
-//! languages say the same drop?").
+//! Structured texts: what is one, and whether two agree (rules 12.1 to 12.11).
 
 use second::texts::{agree, read, unmatched, Drop, Why};
 

@@ -1,6 +1,6 @@
 //! Version 2: images of four translations, commands that name a language, and
-//! conversion from version 1 (request 13). Bytes, numbers and answers are
-//! worked out by hand.
+//! conversion from version 1. Bytes, numbers and answers are worked out by
+//! hand.
 
 mod common;
 
@@ -312,8 +312,8 @@ fn the_update_pair_stands_at_52() {
     assert_eq!(bytes[60..68], at(2, 2).to_le_bytes());
     let told = check::answer(V2, &mut image, &bytes, &mut []);
     assert_eq!((told.number, told.fields.pair), (0, b_prime()));
-    // The verifier is judged: below the stored pair it is stale, equal it is
-    // not; the stored pair is raised by the update pair.
+    // The verifier decides: below the stored pair the command is stale, equal
+    // to it accepted, and then what is stored is the update pair.
     let third = Pair::new(at(3, 3), at(3, 3));
     let told = send(&mut image, opens(EXCLUSIVE, a_prime(), third), b"");
     assert_eq!((told.number, told.fields.pair), (3, b_prime()));

@@ -101,7 +101,7 @@ const UNWRITTEN: u64 = 0x5a5a_5a5a_5a5a_5a5a;
 pub struct Answer {
     /// The number.
     pub number: u8,
-    /// s, x, commit desk, transaction, edition, translated-from, length.
+    /// The reply fields, in the order of rule 4.8.
     pub fields: [u64; 7],
 }
 

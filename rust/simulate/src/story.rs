@@ -105,7 +105,8 @@ impl Story {
     }
 }
 
-/// A command is judged, with a reply buffer as long as the room.
+/// A command is judged, with a reply buffer of the room's length, or with none
+/// if recovery sent it.
 fn judged(image: &mut [u8], command: &[u8], recovery: bool) -> Judged {
     let room = if recovery { 0 } else { u16_at(image, 8) };
     let mut reply = vec![0; room.into()];

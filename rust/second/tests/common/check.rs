@@ -58,7 +58,7 @@ fn fields_of(language: usize, entry: Entry, length: u16) -> ReplyFields {
     }
 }
 
-/// The text at a card's body, by the offsets of the sheet.
+/// The text of a card in a sound image.
 fn text(layout: Layout, image: &[u8], card: u16, language: Language) -> Vec<u8> {
     let found = layout.text(image, card, language);
     found.expect("a sound image has its texts").to_vec()

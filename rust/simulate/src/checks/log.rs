@@ -204,8 +204,8 @@ pub fn checked(
     })
 }
 
-/// What is read back is the log before or, with all its stores made, the log
-/// with the record (rules 11.13 and 11.14).
+/// The log reads back as it did or, with all its stores made, with the record
+/// at its end (rules 11.13 and 11.14).
 fn read_back(
     made: &mut Made,
     before: &[u8],

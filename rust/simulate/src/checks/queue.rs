@@ -1,4 +1,4 @@
-//! The lock queue of one card (rules 7.1 to 7.16 and section 13).
+//! The lock queue of a card (rules 7.1 to 7.16 and section 13).
 
 use second::Pair;
 

@@ -35,8 +35,8 @@ pub struct Recovery<'a> {
     pub image: &'a [u8],
 }
 
-/// A recovery was answered. Each of its writes is a request in the list; the
-/// writes that it must have sent, with their numbers, are told one by one.
+/// A recovery was answered. Its writes stand in the list (rule 11.20): those
+/// that it must have sent are told one by one, with their numbers.
 pub fn checked(
     made: &mut Made,
     store: &mut Store,

@@ -18,7 +18,7 @@ pub const AHEAD: u64 = 1_000_000;
 pub struct Card {
     /// The largest accepted s and x.
     pub largest: Pair,
-    /// The next mark of the last accepted command.
+    /// The mark that the last accepted command left.
     pub mark: Mark,
     /// How many writes of the original were accepted.
     pub edition: u16,

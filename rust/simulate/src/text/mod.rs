@@ -68,7 +68,7 @@ pub struct List {
 
 impl List {
     /// The list in an input of the program: an image and a stream (rules 8.1 to
-    /// 8.3). None if there is no image as long as its header says.
+    /// 8.3). None if the input is shorter than its header or than its image.
     pub fn from_input(input: &[u8]) -> Option<List> {
         let header = input.get(..16)?;
         let number = |at: usize| usize::from(header[at]) + 256 * usize::from(header[at + 1]);
