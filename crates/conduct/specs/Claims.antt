@@ -24,8 +24,8 @@ pub record ByRules (v : Format) (n c : ℕ) (lent : ℕ → ℕ) (steps : List M
 abbrev pub PremiseKept : Type 0
 PremiseKept = (v : Format) (n c : ℕ) (lent : ℕ → ℕ) (steps : List Move) → ByRules v n c lent steps → (k : ℕ) → premise k (map (received v) (sentBy steps)) ≡ true
 
--- Rule 10.12: so demand 3's sentence on isolation holds of these desks with no premise. Between two accepted commands of one session no command of
--- another desk is accepted for that card, unless both are shared.
+-- Rule 10.12: so demand 3's sentence on isolation holds of these desks with no premise. No accepted command of another desk for
+-- the card stands between two accepted ones of a session, unless both are shared.
 abbrev pub DesksIsolated : Type 0
 DesksIsolated =
     (v : Format) (n c : ℕ) (lent : ℕ → ℕ) (steps : List Move) → ByRules v n c lent steps →

@@ -62,7 +62,7 @@ module _ (e : Entry) (c : Command) (room lent : ℕ) where
   pub accepted-none : first (judgeRows e c room lent) ≡ 0 → (n : ℕ) → applies n (judgeRows e c room lent) ≡ false
   accepted-none h n = none-applies (judgeRows e c room lent) (unapplied (judgeRows e c room lent) once-rows .0 h) n
 
-  -- "A number is given exactly when its row applies and no earlier row does."
+  -- Each number exactly when its row applies and none above it does.
   pub exactly : (n : ℕ) → (judged e c room lent .number ≡ suc n) ↔ (T (applies (suc n) (judgeRows e c room lent)) × T (noRow (earlier (suc n) (judgeRows e c room lent))))
   unfolding judged
   exactly n = given (judgeRows e c room lent) once-rows n

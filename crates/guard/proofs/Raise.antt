@@ -34,7 +34,7 @@ unfolding all allFrom
 holds-all none = refl
 holds-all (more {t} {ts} h hs) = all-cons t ts ∙ and-in h (holds-all hs)
 
--- "Edition 0 has length 0", and of translated-from alike: where a write puts a length, the edition it puts is not 0.
+-- No original at edition 0, and of translated-from alike: where a write puts a length, the edition it puts is not 0.
 still-empty : (b : Bool) (n m x y : ℕ) → (b ≡ true → n ≡ 0 → ⊥) → (not (eqb m 0) || eqb y 0) ≡ true →
     (not (eqb (cond b n m) 0) || eqb (cond b x y) 0) ≡ true
 still-empty true n m x y h k = or-left (eqb x 0) (not-in (ne-eqb n 0 (h refl)))

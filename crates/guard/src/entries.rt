@@ -6,7 +6,7 @@ use commands::Command;
 use stamps::MALFORMED;
 
 impl Entry {
-    // A card's entry takes a command and comes back as the new entry, for the room C and the length of the lent reply buffer.
+    // An entry takes a command and gives back the entry that then stands, with the number, for the room C and the length of the lent reply buffer.
     pub fn judge(self, c: Command, room: u16, lent: usize) -> Judged
         ensures { λ r. ⌜ r ≡ judged self c room lent ⌝ }
     {

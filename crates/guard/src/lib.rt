@@ -35,7 +35,7 @@ pub const TOO_FAR: u8 = 17;
 
 // ---- The guard of one card: an entry that judges a command.
 
-// Whether a translation is behind: its translated-from is 0 or is not the edition.
+// Whether a translation is behind: it was made from no edition, or from another than the one that stands.
 pub fn behind(edition: u16, from: u16) -> bool
     ensures { λ r. ⌜ r ≡ behind edition from ⌝ }
 {
@@ -84,7 +84,7 @@ fn read_length(e: Entry, c: Command) -> u16
     0
 }
 
-// The length field: of the text read if a read is accepted, else 0.
+// The length field: that of the text where a read is accepted, and 0 with every other answer.
 fn length(judged: Judged, c: Command) -> u16
     ensures { λ r. ⌜ r ≡ settled (judged .number) (readLength (judged .entry) c) 0 ⌝ }
 {

@@ -60,7 +60,7 @@ fn nothing() -> Dimensions
     }
 }
 
-// The image in front of some bytes, as long as its header says; zeros where the header or the image is short or unsound.
+// The image in front of some bytes, as long as its header says; zeros where there is no whole header, no whole image, or none that is sound.
 pub fn front(bytes: &[u8]) -> Dimensions
     ensures { λ r. ⌜ r ≡ frontOf (now (bytes .entry)) ⌝ }
 {
@@ -81,12 +81,12 @@ pub fn front(bytes: &[u8]) -> Dimensions
 
 // ---- A fresh image.
 
-// What making an image answers: made, and where N, C or the lent length breaks the rules.
+// What making an image answers: made, and not made, by N, C or the lent length.
 pub const MADE: u8 = 0;
 
 pub const NOT_MADE: u8 = 14;
 
-// Makes a fresh image of a version, and answers MADE; or answers NOT_MADE and writes nothing, if N, C or the lent length breaks the rules.
+// Makes a fresh image of a version, and answers MADE; or answers NOT_MADE, for N, C or a lent length that is against the rules, and writes nothing.
 pub fn make_as(f: Format, image: &mut [u8], cards: usize, room: usize) -> u8
     ensures number { λ r. ⌜ r ≡ makeNumber f cards room (length (now (image .entry))) ⌝ }
     ensures bytes { λ r. ⌜ now (image .exit)

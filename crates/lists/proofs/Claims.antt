@@ -20,7 +20,7 @@ read-four : le (1 ∷ 2 ∷ 3 ∷ 4 ∷ []) ≡ 0x04030201
 unfolding le
 read-four = refl
 
--- The stamp 1.1.0 of the sheet's case P, as its eight bytes.
+-- The stamp 1.1.0 of case P, as its eight bytes.
 write-eight : toLe 8 4295032832 ≡ 0 ∷ 0 ∷ 1 ∷ 0 ∷ 1 ∷ 0 ∷ 0 ∷ 0 ∷ []
 unfolding toLe
 write-eight = refl

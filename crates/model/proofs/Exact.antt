@@ -1,4 +1,4 @@
--- Each number exactly when its row applies and no earlier row does; every number is from the list, and a refusal changes nothing.
+-- Each number exactly when its row applies and none above it does; every number is from the list, and a refusal changes nothing.
 -- Assumes nothing.
 use Prim.Native.Nat.{ℕ, suc, _≤_}
 use mathlib.Core.Path.{_≡_, refl, sym, subst, _∙_}

@@ -1,5 +1,5 @@
 -- Trials, the four commands of case P, the three slips, commit marks, stamps from far ahead, commands with two pairs, and the numbers 1, 2 and 9, as one
--- table: a start, requests in the order in which they are sent, and what each must get. Where no act is named it is verify.
+-- table: a start, requests in the order in which they are sent, and what each must get. A row that names no act sends verifies.
 -- Assumes nothing.
 use Prim.Native.Nat.{ℕ, suc, _+_}
 use mathlib.Core.Path.{_≡_}
@@ -108,7 +108,7 @@ writeTranslation s x edition text = request 4 exclusive (pair s x) edition text 
 
 -- ---- what they get
 
--- The number, then the reply fields in their order (s, x, commit desk, transaction, edition, translated-from, length), and the reply buffer.
+-- The number, then the seven reply fields in their order (rule 4.8), and the reply buffer.
 abbrev pub got : ℕ → ℕ → ℕ → ℕ → ℕ → ℕ → ℕ → ℕ → List ℕ → Got
 got number s x desk transaction edition from length reply =
     record {

@@ -49,7 +49,7 @@ AllBytes (s ∷ sent) = SentBytes s × AllBytes sent
 pub record Claim (n : ℕ) (sent : List Sent) (log : List Event) : Type 0 where
   -- the log is whole: one event for each request sent, in order, with its bytes and the buffer lent for it
   pub whole : map (λ e. e .sent) log ≡ reverse sent
-  -- a well-formed command for a card that exists is refused as stale exactly when it comes late
+  -- a command that is well formed and names a card of the image gets 3 exactly when it comes late
   pub staleness :
       (later : List Event) (e : Event) (before : List Event) → log ≡ later ++ e ∷ before → Proper n e
       → (e .answer .number ≡ 3) ↔ (late before (commandOf e) ≡ true)
@@ -66,7 +66,7 @@ pub record Claim (n : ℕ) (sent : List Sent) (log : List Event) : Type 0 where
       → farAhead before (commandOf e) ≡ false
       → rightMark before (commandOf e) ≡ true
       → (e .answer .number ≡ 6) ↔ (outdated t before (commandOf e .card) ≡ true)
-  -- rule 9.4: an accepted read shows the last accepted text of its card and language, by as many bytes as its length field says, and nothing
+  -- rule 9.4: what an accepted read shows is the text of its card and language that was accepted last, as long as its length field says, and nothing
   -- where there is none
   pub showing :
       (later : List Event) (e : Event) (before : List Event) (l : Language) → log ≡ later ++ e ∷ before
@@ -78,7 +78,7 @@ pub record Claim (n : ℕ) (sent : List Sent) (log : List Event) : Type 0 where
       → e .answer .number ≡ 0
       → reads l (commandOf e) ≡ true
       → e .answer .length ≡ length (lastText l before (commandOf e .card))
-  -- under the premise, between two accepted commands of one session no command of another desk is accepted for that card, unless both are shared
+  -- under the premise, no accepted command of another desk for the card stands between two accepted ones of a session, unless both are shared
   pub isolation :
       (k : ℕ) (later : List Event) (b : Event) (between : List Event) (a : Event) (before : List Event)
       → premise k (commandsIn log) ≡ true

@@ -40,7 +40,7 @@ pub record Event : Type 0 where
 abbrev pub eventOf : Format → Sent → Outcome → Event
 eventOf f s o = record { sent = s; read = received f s; answer = o .answer; reply = o .reply }
 
--- The image after requests, latest first: each meets the image as the one before left it (rule 9.1).
+-- The image after requests, latest first: each meets the image that the one before it left (rule 9.1).
 unfoldable pub imageAfter : Format → List ℕ → List Sent → List ℕ
 imageAfter f start [] = start
 imageAfter f start (s ∷ earlier) = serve f (imageAfter f start earlier) (s .command) (s .lent) .image
@@ -111,7 +111,7 @@ outdated t before k = none (wrote (translation t) k) (since (wrote original k) b
 abbrev pub lastText : Language → List Event → ℕ → List ℕ
 lastText l before k = last (wrote l k) (λ e. e .read .payload) [] before
 
--- Rule 9.5: a shared command carries another desk's exclusive stamp, in its update pair.
+-- Rule 9.5: a shared command whose update pair has an x of another desk.
 abbrev pub carries : Command → Bool
 carries c =
     eqb (c .mode) shared
@@ -131,7 +131,7 @@ formedFor k r = r .formed && eqb (r .numbers .card) k
 abbrev pub breaks : Command → Command → Bool
 breaks c d = carries c && under (update c .x) d && not (ltb (update d .s) (update c .s))
 
--- The premise for card k, on commands in any order: a shared command that carries another desk's exclusive stamp has its s above that of every exclusive command under that
+-- The premise for card k, on commands in any order: where a shared command carries an exclusive stamp of another desk, its s is above that of every exclusive command under that
 -- stamp. Refused commands count as well, wherever they stand.
 abbrev pub premise : ℕ → List Received → Bool
 premise k all = none (λ a. formedFor k a && any (λ b. formedFor k b && breaks (a .numbers) (b .numbers)) all) all

@@ -13,7 +13,7 @@ pub record Run : Type 0 where
   pub image : List ℕ
   pub reply : List ℕ
 
--- Command by command, of a version: each is judged on the image as the one before left it.
+-- Command by command, of a version: each is judged on the image that the one before it left.
 unfoldable pub runs : Format → List ℕ → List ℕ → List (List ℕ) → Run
 runs f image reply [] = record { answers = []; image = image; reply = reply }
 runs f image reply (c ∷ cs) =

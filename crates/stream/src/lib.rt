@@ -1,4 +1,4 @@
-// A stream: commands end to end, and a reader that keeps the lent stream and its place.
+// A stream: commands end to end, and a reader of it, which has the lent stream and a place in it.
 ghost use mathlib.Core.Path.{_≡_};
 ghost use Rattle.formats.specs.declared.Format.the-variants.{V1};
 ghost use Rattle.stream.specs.Stream.{nextAt, onward, endOf, begun, passed};
@@ -56,7 +56,7 @@ fn onward_from(stream: &[u8], at: usize) -> usize
     onward_as(Format::V1, stream, at)
 }
 
-// ---- A reader that keeps the lent stream and its place.
+// ---- A reader: the lent stream, and a place in it.
 
 // A reader: the lent stream, and the place that it has come to.
 pub struct Reader<'a> {

@@ -45,7 +45,7 @@ pub fn put_first(out: &mut [u8], at: usize, cards: u64) -> usize
     put_text(out, end, b"\n")
 }
 
-// The last line: `end`, or `cut` and the bytes left over.
+// The last line: `end`, or `cut` and how many bytes no command took.
 pub fn put_last(out: &mut [u8], at: usize, left: u64) -> usize
     requires { ⌜ at + mostLine ≤ length (now out) ⌝ }
     ensures { λ r. ⌜ Put at mostLine (lastLine left) (now (out .entry)) (now (out .exit)) r ⌝ }
