@@ -6,6 +6,7 @@ use std::time::{Duration, Instant};
 use crate::plain;
 use crate::sides::{work, Lent, Side};
 use crate::workloads::{Work, Workload};
+use second::Format;
 
 /// How long the rounds of one workload go on, and how many there are at least.
 const LONG: Duration = Duration::from_millis(250);
@@ -46,9 +47,9 @@ fn times(workload: &Workload) -> Times {
                 work(Side::ALL[side], black_box(workload), &mut lent)
             }));
         }
-        if workload.work == Work::Check {
+        if let Work::Check(format) = workload.work {
             at_once = at_once.min(time(|| {
-                black_box(at_once_sound(black_box(&workload.image)));
+                black_box(at_once_sound(format, black_box(&workload.image)));
             }));
         }
         round += 1;
@@ -57,7 +58,7 @@ fn times(workload: &Workload) -> Times {
         rust: best[0],
         ours: best[1],
         limit: best[2],
-        at_once: (workload.work == Work::Check).then_some(at_once),
+        at_once: matches!(workload.work, Work::Check(_)).then_some(at_once),
     }
 }
 
@@ -68,6 +69,9 @@ fn time(work: impl FnOnce()) -> f64 {
 }
 
 #[inline(never)]
-fn at_once_sound(image: &[u8]) -> bool {
-    plain::is_sound(image, plain::zeros_at_once)
+pub fn at_once_sound(format: Format, image: &[u8]) -> bool {
+    match format {
+        Format::V1 => plain::is_sound(image, plain::zeros_at_once),
+        Format::V2 => plain::is_sound_v2(image, plain::zeros_at_once),
+    }
 }

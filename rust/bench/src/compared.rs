@@ -2,9 +2,11 @@
 //! the proved library's run and the proved library command by command leave
 //! the same lines, image and reply buffer.
 
+use crate::clock::at_once_sound;
 use crate::plain;
 use crate::sides::{answer, sound, work, Lent, Side};
 use crate::workloads::{Work, Workload};
+use second::Format;
 
 /// Compares every workload; at the first difference it says which, and ends
 /// the program.
@@ -41,12 +43,15 @@ fn compared(workload: &Workload) -> Result<(), &'static str> {
         Work::Answer if by_rust.lines[0][0] != workload.number => {
             return Err("the command got another number than it should");
         }
-        Work::Check if !plain::is_sound(&by_rust.image, plain::zeros_at_once) => {
+        Work::Check(format) if !at_once_sound(format, &by_rust.image) => {
             return Err("the image is not sound");
         }
-        Work::Answer | Work::Check => {}
+        Work::Answer | Work::Check(_) => {}
     }
-    if sound(&workload.image) != plain::is_sound(&workload.image, plain::zeros) {
+    let image = &workload.image;
+    if sound(Format::V1, image) != plain::is_sound(image, plain::zeros)
+        || sound(Format::V2, image) != plain::is_sound_v2(image, plain::zeros)
+    {
         return Err("the checks of the image differ");
     }
     Ok(())

@@ -4,6 +4,7 @@
 
 const HEADER: usize = 16;
 const ENTRY: usize = 32;
+const ENTRY_V2: usize = 48;
 const FIXED: usize = 52;
 const MOST_AHEAD: u64 = 1_000_000;
 
@@ -118,25 +119,31 @@ pub fn zeros_at_once(bytes: &[u8]) -> bool {
     bytes.iter().fold(0, |sum, &byte| sum | byte) == 0
 }
 
-/// Whether bytes are a sound image, by this test of zeros.
-pub fn is_sound(image: &[u8], zeros: impl Fn(&[u8]) -> bool) -> bool {
+/// How many cards an image has and their room, if its header and its length
+/// are those of a version with such entries and so many bodies for a card.
+fn shape(image: &[u8], version: u8, entry: usize, bodies: usize) -> Option<(usize, usize)> {
     if image.len() < HEADER
-        || image[..6] != [0x52, 0x43, 0x31, 0, 1, 0]
-        || !zeros(&image[10..HEADER])
+        || image[..6] != [0x52, 0x43, 0x31, 0, version, 0]
+        || image[10..HEADER] != [0; 6]
     {
-        return false;
+        return None;
     }
     let cards = u16_at(image, 6) as usize;
     let room = u16_at(image, 8) as usize;
-    let size = HEADER + ENTRY * cards + 2 * room * cards;
-    if !(1..=128).contains(&cards)
-        || !(16..=1024).contains(&room)
-        || !room.is_multiple_of(16)
-        || size > 65_536
-        || size != image.len()
-    {
+    let size = HEADER + entry * cards + bodies * room * cards;
+    let fits = (1..=128).contains(&cards)
+        && (16..=1024).contains(&room)
+        && room.is_multiple_of(16)
+        && size <= 65_536
+        && size == image.len();
+    fits.then_some((cards, room))
+}
+
+/// Whether bytes are a sound image, by this test of zeros.
+pub fn is_sound(image: &[u8], zeros: impl Fn(&[u8]) -> bool) -> bool {
+    let Some((cards, room)) = shape(image, 1, ENTRY, 2) else {
         return false;
-    }
+    };
     let (front, bodies) = image.split_at(HEADER + ENTRY * cards);
     let entries = front[HEADER..].chunks_exact(ENTRY);
     entries
@@ -148,6 +155,41 @@ pub fn is_sound(image: &[u8], zeros: impl Fn(&[u8]) -> bool) -> bool {
                 && entry.is_sound(room)
                 && zeros(&original[entry.original as usize..])
                 && zeros(&translation[entry.translation as usize..])
+        })
+}
+
+/// Whether bytes are a sound image of version 2, by this test of zeros.
+pub fn is_sound_v2(image: &[u8], zeros: impl Fn(&[u8]) -> bool) -> bool {
+    let Some((cards, room)) = shape(image, 2, ENTRY_V2, 5) else {
+        return false;
+    };
+    let (front, bodies) = image.split_at(HEADER + ENTRY_V2 * cards);
+    let entries = front[HEADER..].chunks_exact(ENTRY_V2);
+    entries
+        .zip(bodies.chunks_exact(5 * room))
+        .all(|(bytes, body)| {
+            let edition = u16_at(bytes, 24);
+            let original = u16_at(bytes, 26) as usize;
+            let mark = Mark {
+                desk: u16_at(bytes, 16),
+                transaction: u32_at(bytes, 20),
+            };
+            Pair::read(bytes, 0).is_valid()
+                && mark.is_whole()
+                && u16_at(bytes, 18) == 0
+                && bytes[44..] == [0; 4]
+                && original <= room
+                && (edition != 0 || original == 0)
+                && zeros(&body[original..room])
+                && (0..4).all(|language| {
+                    let from = u16_at(bytes, 28 + 2 * language);
+                    let length = u16_at(bytes, 36 + 2 * language) as usize;
+                    let text = &body[(language + 1) * room..(language + 2) * room];
+                    length <= room
+                        && from <= edition
+                        && (from != 0 || length == 0)
+                        && zeros(&text[length..])
+                })
         })
 }
 

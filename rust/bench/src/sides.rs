@@ -4,10 +4,12 @@
 use crate::limit;
 use crate::plain;
 use crate::workloads::{Work, Workload};
+use second::Format;
 
 mod exported {
     extern "C" {
         pub fn lupaniele_sound(image: *const u8, length: usize) -> bool;
+        pub fn lupaniele_sound_v2(image: *const u8, length: usize) -> bool;
         pub fn lupaniele_answer(
             image: *mut u8,
             image_length: usize,
@@ -92,18 +94,28 @@ pub fn work(side: Side, workload: &Workload, lent: &mut Lent) {
         (Work::Answer, Side::Ours) => {
             lent.lines[0] = answer(&mut lent.image, workload.first(), &mut lent.reply);
         }
-        (Work::Check, Side::Rust) => lent.count = plain::is_sound(&lent.image, plain::zeros).into(),
-        (Work::Check, Side::Ours) => lent.count = sound(&lent.image).into(),
-        (Work::Answer | Work::Check, Side::Limit) => {
+        (Work::Check(Format::V1), Side::Rust) => {
+            lent.count = plain::is_sound(&lent.image, plain::zeros).into();
+        }
+        (Work::Check(Format::V2), Side::Rust) => {
+            lent.count = plain::is_sound_v2(&lent.image, plain::zeros).into();
+        }
+        (Work::Check(format), Side::Ours) => lent.count = sound(format, &lent.image).into(),
+        (Work::Answer | Work::Check(_), Side::Limit) => {
             lent.count = (limit::look(&lent.image) != 0).into();
         }
     }
 }
 
-/// Whether the bytes are a sound image, by the proved library.
-pub fn sound(image: &[u8]) -> bool {
+/// Whether the bytes are a sound image of a version, by the proved library.
+pub fn sound(format: Format, image: &[u8]) -> bool {
     // SAFETY: the pointer and the length are the slice's.
-    unsafe { exported::lupaniele_sound(image.as_ptr(), image.len()) }
+    unsafe {
+        match format {
+            Format::V1 => exported::lupaniele_sound(image.as_ptr(), image.len()),
+            Format::V2 => exported::lupaniele_sound_v2(image.as_ptr(), image.len()),
+        }
+    }
 }
 
 /// One request, by the proved library.

@@ -16,7 +16,7 @@ pub fn print(all: &[Workload], times: &[Times], counts: Option<&[Count]>) {
         let commands = match workload.work {
             Work::Run => workload.commands().to_string(),
             Work::Answer => "1".into(),
-            Work::Check => "0".into(),
+            Work::Check(_) => "0".into(),
         };
         print!(
             "| {} | {commands} | {:.2} | {:.2} | **{:.2}** | {:.2} |",

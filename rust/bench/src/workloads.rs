@@ -7,6 +7,8 @@ use second::{CommandFields, Entry, Format, Language, Layout, Mark, Pair};
 /// The usual image: N 31 and C 512.
 const CARDS: u64 = 31;
 const ROOM: u64 = 512;
+/// As many cards as version 2 has with that room.
+const CARDS_V2: u64 = 25;
 /// The usual stream, in bytes.
 const STREAM: usize = 30_000;
 
@@ -41,8 +43,8 @@ pub enum Work {
     Run,
     /// The first command alone is answered.
     Answer,
-    /// The image alone is checked.
-    Check,
+    /// The image alone is checked, by its version.
+    Check(Format),
 }
 
 /// One thing to measure.
@@ -97,7 +99,19 @@ const START: u64 = 1_000;
 /// An image of so many cards, each at edition 1 with a translation made from
 /// it. Its stamps have T 1,000, but x is zero where `shared`.
 fn image(cards: u64, texts: Texts, shared: bool, mark: Mark, random: &mut Random) -> Vec<u8> {
-    let layout = Layout::new(Format::V1, cards, ROOM).expect("a shape by the rules");
+    image_of(Format::V1, cards, texts, shared, mark, random)
+}
+
+/// The same of a version, with every translation that it has.
+fn image_of(
+    format: Format,
+    cards: u64,
+    texts: Texts,
+    shared: bool,
+    mark: Mark,
+    random: &mut Random,
+) -> Vec<u8> {
+    let layout = Layout::new(format, cards, ROOM).expect("a shape by the rules");
     let mut image = vec![0; layout.size()];
     image[..16].copy_from_slice(&layout.header());
     for card in 0..cards as u16 {
@@ -107,14 +121,18 @@ fn image(cards: u64, texts: Texts, shared: bool, mark: Mark, random: &mut Random
             edition: 1,
             ..Entry::default()
         };
-        entry.translations[0].from = 1;
-        for language in [Language::Original, Language::Translation(0)] {
+        let mut languages = vec![Language::Original];
+        languages.extend((0..format.translations() as u8).map(Language::Translation));
+        for language in languages {
             let length = texts.length(random);
             let text: Vec<u8> = (0..length).map(|_| random.byte() | 1).collect();
             layout.put_text(&mut image, card, language, &text);
             match language {
                 Language::Original => entry.original_length = length as u16,
-                Language::Translation(_) => entry.translations[0].length = length as u16,
+                Language::Translation(t) => {
+                    entry.translations[t as usize].from = 1;
+                    entry.translations[t as usize].length = length as u16;
+                }
             }
         }
         layout.put_entry(&mut image, card, entry);
@@ -352,13 +370,18 @@ fn refusals(all: &mut Vec<Workload>, random: &mut Random) {
 }
 
 fn checks(all: &mut Vec<Workload>, random: &mut Random) {
-    for (name, texts) in Texts::ALL {
-        let start = image(CARDS, texts, false, Mark::default(), random);
-        let name = format!("check, {name} texts");
-        all.push(Workload {
-            work: Work::Check,
-            ..run_of("check", name, start, Vec::new())
-        });
+    for (format, cards, version) in [
+        (Format::V1, CARDS, ""),
+        (Format::V2, CARDS_V2, ", version 2"),
+    ] {
+        for (name, texts) in Texts::ALL {
+            let start = image_of(format, cards, texts, false, Mark::default(), random);
+            let name = format!("check, {name} texts{version}");
+            all.push(Workload {
+                work: Work::Check(format),
+                ..run_of("check", name, start, Vec::new())
+            });
+        }
     }
     for (name, acts) in [("verify", Acts::Verify), ("read", Acts::Read)] {
         let start = image(CARDS, Texts::Full, false, Mark::default(), random);
