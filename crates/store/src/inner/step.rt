@@ -18,7 +18,7 @@ use guard::NO_CARD;
 use guard::UNSOUND;
 use stamps::MALFORMED;
 
-// A well-formed command for a card that exists, on a sound image: its entry judges, and an accepted command is carried out.
+// A well-formed command for an existing card, on a sound image: its entry judges, and an accepted command is carried out.
 pub fn carry(f: Format, image: &mut [u8], c: Command, text: &[u8], reply: &mut [u8]) -> Answer
     requires { ⌜ (sound f (now image) ≡ true) × (c .card < countOf (now image)) × (c .language < translations f) × (length (now text) ≡ c .length) × (wellFormed c ≡ true) ⌝ }
     ensures answer { λ r. ⌜ r ≡ carried f (now (image .entry)) c (now (text .entry)) (now (reply .entry)) .answer ⌝ }
