@@ -9,16 +9,15 @@ use lib.ListN.{take}
 use Rattle.formats.specs.declared.Format.the-variants.{V1}
 use Rattle.stamps.specs.Stamp.{stamp, shared, exclusive, noPair}
 use Rattle.stamps.specs.declared.Pair.{Pair}
-use Rattle.lock_queue.specs.Queue.{State, noWaiting}
+use Rattle.lock_queue.specs.Queue.{noWaiting}
 use Rattle.lock_queue.specs.declared.Waiting.{Waiting}
 use Rattle.commands.specs.Bytes.{fieldsOf}
 use Rattle.model.specs.Serve.{serve}
-use Rattle.model.specs.Words.{Sent, Event, received, logOf, carries, under, premise}
+use Rattle.model.specs.Words.{Sent, received, logOf, carries, under, premise}
 use Rattle.model.specs.Cases.{pair, request, requestOpening, text205, text401, long}
 use Rattle.conduct.specs.System.{
   System,
   Move,
-  Made,
   Told,
   begin,
   propose,
@@ -36,7 +35,6 @@ use Rattle.conduct.specs.System.{
   stepTo,
   course,
   byRules,
-  sentOf,
   sentBy,
 }
 

@@ -3,7 +3,7 @@ use Prim.Native.Nat.{ℕ, zero, suc, _<_}
 use native.Mathlib.Omega.{arith}
 use mathlib.Core.Path.{_≡_, refl, sym, ap, subst, _∙_}
 use mathlib.Core.List.{List, [], _∷_, map}
-use mathlib.Core.Bool.{true, false, not, _&&_}
+use mathlib.Core.Bool.{true, false, _&&_}
 use borrow.Author.Tests.{eqb-true, not-false}
 use lib.Dec.{T, eqb, lit<}
 use lib.ListN.{length, getD}
@@ -25,7 +25,7 @@ use Rattle.image.proofs.Cards.{count-back, room-back, cardAt-encode}
 use Rattle.image.proofs.Decode.{count-decode, room-decode, card-decode}
 use Rattle.image.proofs.Encode.{length-encode}
 use Rattle.image_claims.specs.Claims.{Encodes}
-use Rattle.image_claims.specs.Conversion.{Keeps, Converts, Conversion, ConvertCases}
+use Rattle.image_claims.specs.Conversion.{Keeps, Conversion, ConvertCases}
 use Rattle.image_claims.proofs.Claims.{soundReadsBack, goodEncodes, fits-none, sound-none}
 
 pub length-map : (cards : List Card) → length (map widened cards) ≡ length cards

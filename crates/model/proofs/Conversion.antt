@@ -3,7 +3,7 @@ use Prim.Native.Nat.{ℕ, zero, suc, _+_, _%_, _≤_, _<_}
 use native.Mathlib.Omega.{arith}
 use mathlib.Core.Path.{_≡_, refl, sym, ap, subst, _∙_}
 use mathlib.Core.List.{List, [], _∷_, _++_, map, map-append, reverse, reverse-append}
-use mathlib.Core.Bool.{true, false}
+use mathlib.Core.Bool.{true}
 use borrow.Author.Tests.{le-leb, eq-eqb}
 use lib.Dec.{T, leb, eqb}
 use lib.ListN.{length, getD, List·getD-eq-default}
@@ -18,7 +18,7 @@ use Rattle.guard.specs.Judge.{behind, raise}
 use Rattle.guard.specs.Replies.{replied}
 use Rattle.formats.specs.declared.Format.the-variants.{V1, V2}
 use Rattle.image.specs.Layout.{shapeOk, sizeOf, mostCards, leastRoom, mostRoom, roomStep, mostBytes}
-use Rattle.image.specs.Bytes.{header, entryBytes, pad, readEntry, entryAt, countOf, roomOf}
+use Rattle.image.specs.Bytes.{header, entryBytes, pad, readEntry, entryAt}
 use Rattle.image.specs.Image.{Translation, Card, Cards, translationOf, noTranslation, noCard, text, bodies, encode, cardAt, decode, tailZero, translationSound, cardSound, headerSound, sound, fresh, freshCards, makes, GoodCards}
 use Rattle.image.specs.Convert.{widened, widenedCards, converted, convertNumber}
 use Rattle.image.proofs.Shape.{shape}
@@ -27,7 +27,7 @@ use Rattle.image.proofs.Cards.{count-back, room-back}
 use Rattle.image_claims.proofs.Claims.{freshSound, goodEncodes}
 use Rattle.image_claims.proofs.Conversion.{length-map, getD-map, good-cards}
 use Rattle.model.specs.Serve.{stepped, serveBy, serve}
-use Rattle.model.specs.Words.{Sent, Event, imageAfter, history, logOf, lastText, outdated}
+use Rattle.model.specs.Words.{Sent, Event, imageAfter, history, logOf, lastText}
 use Rattle.model.specs.Claims.{AllBytes}
 use Rattle.model.specs.Cases.{run}
 use Rattle.model.specs.Conversion.{imageBefore, logAcross, Demand3Across, StoryAcross}

@@ -8,7 +8,7 @@ use Rattle.formats.specs.declared.Format.the-variants.{V1}
 use Rattle.commands.specs.Command.{original, translation}
 use Rattle.commands.specs.Bytes.{commandBytes}
 use Rattle.stamps.specs.Stamp.{noPair}
-use Rattle.image.specs.Image.{fresh, sound}
+use Rattle.image.specs.Image.{fresh}
 use Rattle.model.specs.Serve.{serve}
 use Rattle.model.specs.Cases.{stamp1, writeOriginal}
 use Rattle.redo_log.specs.Log.{LogRecord}

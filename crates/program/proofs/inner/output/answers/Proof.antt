@@ -1,5 +1,5 @@
 -- The image's copy is the front of the input, and the reply buffer is zeros. Assumes nothing.
-use mathlib.Core.Path.{sym, _∙_}
+use mathlib.Core.Path.{sym}
 use native.Mathlib.Omega.{arith}
 use lib.Seq.{length-take-le}
 use Rattle.program.proofs.Answered.{back-of, answered-by}
