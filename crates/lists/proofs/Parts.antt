@@ -148,6 +148,10 @@ module _ {A : Type 0} where
   splice-here at v l h =
       ap (λ (k : ℕ). part k (length v) (splice at v l)) (sym (add-zero at)) ∙ part-splice at 0 (length v) v l h (omega arith) ∙ part-all v
 
+  pub splice-front : (v l : List A) → take (length v) (splice 0 v l) ≡ v
+  unfolding part
+  splice-front v l = splice-here 0 v l (omega arith)
+
   pub splice-before : (at i n : ℕ) (v l : List A) → at ≤ length l → i + n ≤ at → part i n (splice at v l) ≡ part i n l
   splice-before at i n v l h k =
       sym (part-take i n at (splice at v l) k) ∙ ap (part i n) (take-splice at v l h) ∙ part-take i n at l k

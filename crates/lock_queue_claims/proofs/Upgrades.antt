@@ -9,7 +9,7 @@ use lib.Dec.{T, eqb}
 use lib.ListN.{length, getD}
 use lib.Seq.{length-take-le}
 use Rattle.lists.specs.Table.{applies}
-use Rattle.lists.proofs.Tests.{never-both, to-T, from-T, and-in, and-left, and-right}
+use Rattle.lists.proofs.Tests.{never-both, to-T, from-T, to-false, and-in, and-left, and-right}
 use Rattle.stamps.proofs.Stamp.{session-rules}
 use Rattle.stamps.specs.Stamp.{shared, exclusive}
 use Rattle.lock_queue.specs.Queue.{State, noWaiting, standing, desk, desks, stands, firstPlace}
@@ -120,11 +120,7 @@ twelve-means lent q new = (out, λ h. into (from-T (good lent q) (h .0)) (from-T
 
 module _ (lent : ℕ) (q : State) (new : Waiting) (lie : lent ≤ length (q .places)) (other : AsksUpgrade new q → ⊥) (e : number lent q (asks new) ≡ 0) where
   plain : upgrading (new .mode) (desk new) (standing q) ≡ false
-  plain = never-true (upgrading (new .mode) (desk new) (standing q)) other
-    where
-      never-true : (b : Bool) → (T b → ⊥) → b ≡ false
-      never-true true h = absurd (h tt)
-      never-true false h = refl
+  plain = to-false (upgrading (new .mode) (desk new) (standing q)) other
 
   same : removed (desk new) (standing q) ≡ standing q
   same = removed-absent (desk new) (standing q) (absent lent q new lie e plain)

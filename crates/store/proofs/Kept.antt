@@ -153,9 +153,6 @@ module _ (f : Format) (image : List ℕ) (b : Bytes image) (holds : T (sound f i
     unfolding textWritten
     keeps = go (writes original c) (writesTranslation c) refl refl
       where
-        none-else : writesTranslation c ≡ false → (j : ℕ) → writes (translation j) c ≡ false
-        none-else q j = rw q
-
         only-original : writes original c ≡ true → (j : ℕ) → (j ≡ 0 → ⊥) → writesSide f card c t size listed j ≡ false
         only-original p zero apart = absurd (apart refl)
         only-original p (suc j) apart = let act = eqb-true (c .act) 3 p in rw act

@@ -17,7 +17,7 @@ split w v x y long e = (
   sym (drop-append-seam w x) ∙ ap (drop (length w)) e ∙ ap (λ (n : ℕ). drop n (v ++ y)) long ∙ drop-append-seam v y,
 )
 
-never : {A : Type 0} {a b : ℕ} {x y : List ℕ} → a ∷ x ≡ b ∷ y → (a ≡ b → ⊥) → A
+pub never : {A : Type 0} {a b : ℕ} {x y : List ℕ} → a ∷ x ≡ b ∷ y → (a ≡ b → ⊥) → A
 never {A} {a} {b} {x} {y} e apart = let h : a ≡ b = cc in absurd (apart h)
 
 -- A unit byte is that of one scale.
