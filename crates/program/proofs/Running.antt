@@ -1,4 +1,4 @@
--- Laws of a run: what the loop of `run` keeps. Assumes nothing.
+-- Laws of a run: what the loop of `put_printed` keeps. Assumes nothing.
 use Prim.Native.Nat.{ℕ, _+_, _-_, _*_, _≤_, _<_}
 use mathlib.Core.Path.{_≡_, refl, subst, _∙_}
 use mathlib.Core.List.{List}

@@ -1,4 +1,4 @@
--- Laws of a run: what the loop of `run_checked` keeps. Assumes nothing.
+-- Laws of a run: what the loop of `many` keeps. Assumes nothing.
 use Prim.Native.Nat.{ℕ, suc, _+_, _-_, _*_, _/_, _≤_, _<_}
 use native.Mathlib.Omega.{arith}
 use native.Mathlib.Nat.{zero-add, sub-zero}

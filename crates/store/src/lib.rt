@@ -47,5 +47,5 @@ pub fn run(image: &mut [u8], stream: &[u8], reply: &mut [u8], lines: &mut [u64])
     ensures lines { λ _. ⌜ now (lines .exit) ≡ splice 0 (lined (runs V1 (now (image .entry)) (now (reply .entry)) (judgedOf V1 (now (stream .entry)) (length (now (lines .entry)))))) (now (lines .entry)) ⌝ }
 {
     let checked = image::sound(image);
-    inner::run::run_checked(Format::V1, image, stream, reply, checked, lines)
+    inner::run::many(Format::V1, image, stream, reply, checked, lines)
 }

@@ -10,7 +10,13 @@ use store::inner::run::one;
 
 // Judges the stream's commands in one walk, with the image checked once, and writes a line for each and the last line into `out` from `at` on. Hands back the place behind
 // them.
-pub fn run(image: &mut [u8], stream: &[u8], reply: &mut [u8], out: &mut [u8], at: usize) -> usize
+pub fn put_printed(
+    image: &mut [u8],
+    stream: &[u8],
+    reply: &mut [u8],
+    out: &mut [u8],
+    at: usize,
+) -> usize
     requires { ⌜ at + mostPrinted (now stream) ≤ length (now out) ⌝ }
     ensures { λ r. ⌜ Put at (mostPrinted (now (stream .entry))) (printed (now (image .entry)) (now (reply .entry)) (now (stream .entry))) (now (out .entry)) (now (out .exit)) r ⌝ }
 {

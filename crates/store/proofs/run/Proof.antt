@@ -6,8 +6,8 @@ use Rattle.store.proofs.run.Tie as tie
 sound-requires : tie.Need-sound-requires
 sound-requires c κs = search needs
 
-run-checked-requires : tie.Need-run-checked-requires
-run-checked-requires c κs = search needs
+many-requires : tie.Need-many-requires
+many-requires c κs = search needs
 
 same-length : tie.Need-same-length
 same-length c = search needs
@@ -19,9 +19,9 @@ same-length-3 : tie.Need-same-length-3
 same-length-3 c = search needs
 
 returns : tie.Need-returns
-returns c = let e = c .before .before .before .before .before .before .run-checked .ensures in (e .0, (e .1 .0, (e .1 .1 .0, e .1 .1 .1 .0)))
+returns c = let e = c .before .before .before .before .before .before .many .ensures in (e .0, (e .1 .0, (e .1 .1 .0, e .1 .1 .1 .0)))
 
 pub run-spec : {M : Type 1} → statement M
 run-spec =
     tie.close
-    (tie.spec sound-requires run-checked-requires same-length same-length-2 same-length-3 returns)
+    (tie.spec sound-requires many-requires same-length same-length-2 same-length-3 returns)

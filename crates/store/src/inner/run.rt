@@ -52,7 +52,7 @@ fn put_line(lines: &mut [u64], at: usize, a: Answer)
 }
 
 // Judges the whole commands of a stream in their order, on an image that has been checked, as long as there is room for the numbers of their answers.
-pub fn run_checked(
+pub fn many(
     f: Format,
     image: &mut [u8],
     stream: &[u8],
@@ -113,7 +113,7 @@ pub fn one(
     ensures kept { λ _. ⌜ checked ≡ sound f (now (image .exit)) ⌝ }
 {
     if is_one(f, command) {
-        run_checked(f, image, command, reply, checked, line);
+        many(f, image, command, reply, checked, line);
         return line[0] as u8;
     }
     if checked {

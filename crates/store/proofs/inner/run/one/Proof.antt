@@ -13,8 +13,8 @@ use Rattle.store.proofs.inner.run.one.Tie as tie
 is-one-requires : tie.Need-is-one-requires
 is-one-requires c κs = search needs
 
-run-checked-requires : tie.Need-run-checked-requires
-run-checked-requires c κs = c .before .before .before .before .before .before .before .before .before .pre .0
+many-requires : tie.Need-many-requires
+many-requires c κs = c .before .before .before .before .before .before .before .before .before .pre .0
 
 slice-read-result : tie.Need-slice-read-result
 slice-read-result c = search needs
@@ -23,7 +23,7 @@ cast-result : tie.Need-cast-result
 cast-result c =
     let start = c .before .before .before .before .before .before .before .before .before .before .before .before .before .before .before .before .before in
     let chosen = sym (c .before .before .before .before .before .before .before .before .before .before .before .before .is-one .ensures) ∙ c .before .before .before .before .before .before .before .before .before .before .before .if1 .taken in
-    let after = c .before .before .before .before .before .before .before .run-checked .ensures .1 .1 .1 .0 ∙ one-line (start .args .f) (start .args .image .now) (start .args .reply .now) (start .args .command .now) (start .args .line .now) chosen (start .pre .1) in
+    let after = c .before .before .before .before .before .before .before .many .ensures .1 .1 .1 .0 ∙ one-line (start .args .f) (start .args .image .now) (start .args .reply .now) (start .args .command .now) (start .args .line .now) chosen (start .pre .1) in
     let number = ap (λ (l : List ℕ). getD l 0 0) after ∙ first-number _ in
     omega (arith, number, small (start .args .f) (start .args .image .now) (start .args .command .now) (start .args .reply .now))
 
@@ -39,9 +39,9 @@ same-length-3 c = search needs
 returns : tie.Need-returns
 returns c =
     let start = c .before .before .before .before .before .before .before .before .before .before .before .before .before .before .before .before .before in
-    let e = c .before .before .before .before .before .before .before .run-checked .ensures in
+    let e = c .before .before .before .before .before .before .before .many .ensures in
     let chosen = sym (c .before .before .before .before .before .before .before .before .before .before .before .before .is-one .ensures) ∙ c .before .before .before .before .before .before .before .before .before .before .before .if1 .taken in
-    let after = c .before .before .before .before .before .before .before .run-checked .ensures .1 .1 .1 .0 ∙ one-line (start .args .f) (start .args .image .now) (start .args .reply .now) (start .args .command .now) (start .args .line .now) chosen (start .pre .1) in (
+    let after = c .before .before .before .before .before .before .before .many .ensures .1 .1 .1 .0 ∙ one-line (start .args .f) (start .args .image .now) (start .args .reply .now) (start .args .command .now) (start .args .line .now) chosen (start .pre .1) in (
       ap (λ (l : List ℕ). getD l 0 0) after ∙ first-number _,
       (
         e .1 .0 ∙ one-image (start .args .f) (start .args .image .now) (start .args .reply .now) (start .args .command .now) (start .args .line .now) chosen (start .pre .1),
@@ -96,7 +96,7 @@ one-spec =
     tie.close
     (tie.spec
     is-one-requires
-    run-checked-requires
+    many-requires
     slice-read-result
     cast-result
     same-length

@@ -10,8 +10,8 @@ use Rattle.model.proofs.Sound.{stays-sound}
 use Rattle.store.proofs.Kept.{header-in}
 use Rattle.store.proofs.Step.{exits, and-last, fixed-in, behind-place, serve-malformed, serve-no-card, serve-found}
 use borrow.Author.Needs.{needs}
-use Rattle.store.proofs.inner.step.step.Statement.{statement}
-use Rattle.store.proofs.inner.step.step.Tie as tie
+use Rattle.store.proofs.inner.step.serve.Statement.{statement}
+use Rattle.store.proofs.inner.step.serve.Tie as tie
 
 -- The command was found in the lent bytes.
 found : (c : tie.After-known-told) →
@@ -99,8 +99,8 @@ returns-3 c = let start = c .before .before .before .before .before .before .bef
     (λ j. c .before .before .before .before .before .before .before .before .before .before .before .before .before .before .before .before .before .slice-known2 .given j .fits)
     (start .pre))
 
-pub step-spec : {M : Type 1} → statement M
-step-spec =
+pub serve-spec : {M : Type 1} → statement M
+serve-spec =
     tie.close
     (tie.spec
     parse-as-requires

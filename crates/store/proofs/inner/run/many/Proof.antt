@@ -8,8 +8,8 @@ use lib.ListN.{length}
 use Rattle.image.specs.Image.{sound}
 use Rattle.store.specs.Runs.{perLine}
 use Rattle.store.proofs.Running.{Running, running-none, running-within, running-more, running-less, ended, full-none, cut-none}
-use Rattle.store.proofs.inner.run.run_checked.Statement.{statement}
-use Rattle.store.proofs.inner.run.run_checked.Tie as tie
+use Rattle.store.proofs.inner.run.many.Statement.{statement}
+use Rattle.store.proofs.inner.run.many.Tie as tie
 
 abbrev Inv-loop : tie.InvT-loop
 Inv-loop f image₀ stream reply₀ checked lines₀ room at₀ count₀ image reply lines at count =
@@ -102,8 +102,8 @@ returns-2 c =
     let i = c .before .before .before .before .loop .inv in
     ended (i .0) (cut-none (i .0) (sym (c .before .before .next-at-as .ensures) ∙ c .enum-told .given .1)) _ (i .2) (i .1)
 
-pub run-checked-spec : {M : Type 1} → statement M
-run-checked-spec =
+pub many-spec : {M : Type 1} → statement M
+many-spec =
     tie.close
     (tie.spec
     Inv-loop

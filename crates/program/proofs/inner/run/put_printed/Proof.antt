@@ -11,8 +11,8 @@ use Rattle.store.specs.Runs.{perLine}
 use Rattle.stream.proofs.Place.{went, stayed}
 use Rattle.store.proofs.Running.{per-line}
 use Rattle.program.proofs.Running.{Running, running-none, running-within, running-more, running-less, running-fits, running-done, line-put}
-use Rattle.program.proofs.inner.run.run.Statement.{statement}
-use Rattle.program.proofs.inner.run.run.Tie as tie
+use Rattle.program.proofs.inner.run.put_printed.Statement.{statement}
+use Rattle.program.proofs.inner.run.put_printed.Tie as tie
 
 abbrev Inv-loop : tie.InvT-loop
 Inv-loop image₀ stream reply₀ out₀ at checked line₀ from₀ place₀ to₀ image reply out line from place to =
@@ -93,8 +93,8 @@ same-length-3 c = search needs
 returns : tie.Need-returns Inv-loop μ-loop
 returns c = running-done (c .before .before .before .before .before .before .loop .inv .0) (stayed V1 _ _ (c .before .before .before .before .before .next-from .ensures) (c .before .before .before .before .if1 .taken)) (search needs) (c .before .before .put-last .ensures)
 
-pub run-spec : {M : Type 1} → statement M
-run-spec =
+pub put-printed-spec : {M : Type 1} → statement M
+put-printed-spec =
     tie.close
     (tie.spec
     Inv-loop
