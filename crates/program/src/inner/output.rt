@@ -15,8 +15,8 @@ pub fn answers(input: &[u8], size: usize, room: usize, out: &mut [u8], at: usize
     requires { ⌜ Lent (now input) size room (now out) at ⌝ }
     ensures { λ r. ⌜ Put at (mostPrinted (drop size (now (input .entry)))) (printed (take size (now (input .entry))) (replicate room 0) (drop size (now (input .entry)))) (now (out .entry)) (now (out .exit)) r ⌝ }
 {
-    let mut image = [0u8; image::inner::layout::MOST_BYTES];
-    let mut reply = [0u8; image::inner::layout::MOST_ROOM];
+    let mut image = [0u8; image::MOST_BYTES];
+    let mut reply = [0u8; image::MOST_ROOM];
     slices::inner::put(&mut image, 0, &input[..size]);
     run::put_printed(
         &mut image[..size],
