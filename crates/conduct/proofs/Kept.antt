@@ -33,7 +33,6 @@ use Rattle.lock_queue.specs.Requests.{Request, asks, leaves, lapses, answered, 
 use Rattle.lock_queue.proofs.Judged.{no-row}
 use Rattle.lock_queue.proofs.After.{refusal-leaves}
 use Rattle.proposal_claims.proofs.Claims.{asked-largest, left-largest, lapsed-largest}
-use Rattle.proposals.specs.declared.Known.{Known}
 use Rattle.proposals.specs.Propose.{learnt, nextT, ownAbove, pairFor, proposed}
 use Rattle.proposals.proofs.Propose.{made-rules, own-above, pair-shared, pair-exclusive}
 use Rattle.conduct.specs.System.{System, Made, Told, begin, propose, ask, leave, lose, send, learn, samePair, inUse, isMade, allowed, with, knows, nowKnows, withMade, queueStep, stepTo}
@@ -314,9 +313,6 @@ module _ (v : Format) (n c : ℕ) (shape : T (shapeOk v n c)) (y : System) (k : 
 
   -- A proposal that is made, in each mode.
   module _ (who card : ℕ) (running : inUse y who ≡ true) where
-    abbrev mine : Known
-    mine = knows y who card
-
     width : who < 4294967296
     width = k .numbered who running
 

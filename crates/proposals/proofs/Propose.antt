@@ -78,7 +78,3 @@ pair-exclusive k = refl
 pub made-pair : (k : Known) (mode : ℕ) → proposed k mode .number ≡ 0 → proposed k mode .pair ≡ pairFor k mode
 unfolding proposed
 made-pair k mode e = settled-new _ _ e
-
-pub made-known : (k : Known) (mode : ℕ) → proposed k mode .number ≡ 0 → proposed k mode .known ≡ learnt k (pairFor k mode)
-unfolding proposed
-made-known k mode e = settled-new _ _ e
