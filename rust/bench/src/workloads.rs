@@ -293,6 +293,15 @@ fn spent(mut image: Vec<u8>) -> Vec<u8> {
     image
 }
 
+/// The groups of workloads, as the table and the picture head them.
+const ACCEPTED: &str = "Accepted commands: streams of 30,000 bytes, N 31 and C 512";
+const MANNERS: &str = "Shared without x, marks, update pairs (full texts)";
+const REFUSED: &str = "Refused: every command of the stream gets that number";
+const CHECK: &str = "The check of an image alone (version 2: N 25 and C 512)";
+const ALONE: &str = "One answer alone";
+const IMAGES: &str = "The same stream on larger images";
+const STREAMS: &str = "Longer streams on the same image";
+
 fn run_of(group: &'static str, name: String, image: Vec<u8>, stream: Vec<u8>) -> Workload {
     Workload {
         group,
@@ -324,7 +333,7 @@ fn streams(all: &mut Vec<Workload>, random: &mut Random) {
             let start = image(CARDS, texts, false, Mark::default(), random);
             let stream = accepted(CARDS, STREAM, acts, Manner::Exclusive, random);
             let name = format!("{acts_name}, {texts_name} texts");
-            all.push(run_of("accepted", name, start, stream));
+            all.push(run_of(ACCEPTED, name, start, stream));
         }
     }
 }
@@ -335,19 +344,14 @@ fn manners(all: &mut Vec<Workload>, random: &mut Random) {
     for (name, acts) in [("verify", Acts::Verify), ("read", Acts::Read)] {
         let stream = accepted(CARDS, STREAM, acts, Manner::SharedWithoutX, random);
         let name = format!("{name}, shared with x zero");
-        all.push(run_of("manners", name, shared.clone(), stream));
+        all.push(run_of(MANNERS, name, shared.clone(), stream));
     }
     let marked = image(CARDS, full, false, MARK, random);
     let stream = accepted(CARDS, STREAM, Acts::Mix, Manner::WithMarks, random);
-    all.push(run_of(
-        "manners",
-        "mix, marks in use".into(),
-        marked,
-        stream,
-    ));
+    all.push(run_of(MANNERS, "mix, marks in use".into(), marked, stream));
     let start = image(CARDS, full, false, Mark::default(), random);
     let stream = accepted(CARDS, STREAM, Acts::Mix, Manner::WithUpdatePair, random);
-    all.push(run_of("manners", "mix, update pairs".into(), start, stream));
+    all.push(run_of(MANNERS, "mix, update pairs".into(), start, stream));
 }
 
 fn refusals(all: &mut Vec<Workload>, random: &mut Random) {
@@ -364,7 +368,7 @@ fn refusals(all: &mut Vec<Workload>, random: &mut Random) {
         all.push(Workload {
             number,
             reply,
-            ..run_of("refused", name, start, stream)
+            ..run_of(REFUSED, name, start, stream)
         });
     }
 }
@@ -379,7 +383,7 @@ fn checks(all: &mut Vec<Workload>, random: &mut Random) {
             let name = format!("check, {name} texts{version}");
             all.push(Workload {
                 work: Work::Check(format),
-                ..run_of("check", name, start, Vec::new())
+                ..run_of(CHECK, name, start, Vec::new())
             });
         }
     }
@@ -389,7 +393,7 @@ fn checks(all: &mut Vec<Workload>, random: &mut Random) {
         let name = format!("one answer, {name}, full texts");
         all.push(Workload {
             work: Work::Answer,
-            ..run_of("one answer", name, start, stream)
+            ..run_of(ALONE, name, start, stream)
         });
     }
 }
@@ -399,12 +403,12 @@ fn growth(all: &mut Vec<Workload>, random: &mut Random) {
     for cards in [2, 4, 8, 16, 31, 62] {
         let start = image(cards, Texts::Mixed, false, Mark::default(), random);
         let name = format!("mix, image of {} bytes", start.len());
-        all.push(run_of("growing image", name, start, stream.clone()));
+        all.push(run_of(IMAGES, name, start, stream.clone()));
     }
     for size in [3_000, 10_000, 30_000, 100_000, 300_000] {
         let start = image(CARDS, Texts::Full, false, Mark::default(), random);
         let stream = accepted(CARDS, size, Acts::Mix, Manner::Exclusive, random);
         let name = format!("mix, stream of {size} bytes");
-        all.push(run_of("growing stream", name, start, stream));
+        all.push(run_of(STREAMS, name, start, stream));
     }
 }
