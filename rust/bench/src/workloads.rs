@@ -37,7 +37,7 @@ impl Texts {
 }
 
 /// What is done with a workload.
-#[derive(Clone, Copy, PartialEq, Eq)]
+#[derive(Clone, Copy)]
 pub enum Work {
     /// The whole stream is run.
     Run,
