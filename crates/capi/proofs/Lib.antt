@@ -2,4 +2,3 @@ pub mod Arrays
 pub mod Proposed
 pub mod Exits
 pub mod Neither
-pub mod Line

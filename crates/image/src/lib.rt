@@ -48,7 +48,7 @@ pub fn sound_as(f: Format, image: &[u8]) -> bool
 pub fn sound(image: &[u8]) -> bool
     ensures { λ r. ⌜ r ≡ sound V1 (now (image .entry)) ⌝ }
 {
-    sound_as(Format::V1, image)
+    inner::checks::sound_of(formats::inner::FIRST, image)
 }
 
 // ---- The image in front of some bytes, of version 1.

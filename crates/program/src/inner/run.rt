@@ -4,7 +4,7 @@ ghost use lib.ListN.{length};
 ghost use Rattle.program.specs.Text.{Put};
 ghost use Rattle.program.specs.Program.{printed, mostPrinted};
 use crate::inner::lines;
-use formats::Format;
+use formats::inner::FIRST;
 use store::inner::run::PER_LINE;
 use store::inner::run::one;
 
@@ -30,14 +30,7 @@ pub fn put_printed(
         if end == from {
             break from;
         }
-        one(
-            Format::V1,
-            image,
-            &stream[from..end],
-            reply,
-            checked,
-            &mut line,
-        );
+        one(FIRST, image, &stream[from..end], reply, checked, &mut line);
         to = lines::put_line(out, to, place, &line);
         place += 1;
         from = end;
