@@ -15,8 +15,8 @@ pub fn print(all: &[Workload], times: &[Times], counts: Option<&[Count]>) {
             println!("|---|---:|---:|---:|---:|---:|---:|---:|---:|");
         }
         let commands = match workload.work {
-            Work::Run => workload.commands().to_string(),
-            Work::Answer => "1".into(),
+            Work::Run(_) => workload.commands().to_string(),
+            Work::Answer(_) => "1".into(),
             Work::Check(_) => "0".into(),
         };
         print!(

@@ -40,11 +40,20 @@ impl Texts {
 #[derive(Clone, Copy)]
 pub enum Work {
     /// The whole stream is run.
-    Run,
+    Run(Format),
     /// The first command alone is answered.
-    Answer,
+    Answer(Format),
     /// The image alone is checked, by its version.
     Check(Format),
+}
+
+impl Work {
+    /// The version of the image and of the stream.
+    pub fn format(self) -> Format {
+        match self {
+            Work::Run(format) | Work::Answer(format) | Work::Check(format) => format,
+        }
+    }
 }
 
 /// One thing to measure.
@@ -68,9 +77,10 @@ pub struct Workload {
 impl Workload {
     /// How many commands the stream has.
     pub fn commands(&self) -> usize {
+        let fixed = self.work.format().command_bytes();
         let (mut at, mut count) = (0, 0);
         while let Some(length) = self.stream.get(at + 50..at + 52) {
-            at += 52 + usize::from(u16::from_le_bytes([length[0], length[1]]));
+            at += fixed + usize::from(u16::from_le_bytes([length[0], length[1]]));
             count += 1;
         }
         count
@@ -79,7 +89,8 @@ impl Workload {
     /// The first command of the stream.
     pub fn first(&self) -> &[u8] {
         let length = u16::from_le_bytes([self.stream[50], self.stream[51]]);
-        &self.stream[..52 + usize::from(length)]
+        let fixed = self.work.format().command_bytes();
+        &self.stream[..fixed + usize::from(length)]
     }
 }
 
@@ -185,30 +196,49 @@ enum Manner {
 
 /// A stream of accepted commands for the image above, of at most so many bytes.
 fn accepted(cards: u64, size: usize, acts: Acts, manner: Manner, random: &mut Random) -> Vec<u8> {
+    accepted_of(Format::V1, cards, size, acts, manner, random)
+}
+
+/// The same of a version, with every language that it has.
+fn accepted_of(
+    format: Format,
+    cards: u64,
+    size: usize,
+    acts: Acts,
+    manner: Manner,
+    random: &mut Random,
+) -> Vec<u8> {
     let mut bytes = Vec::new();
-    let mut editions = vec![(1_u16, 1_u16); cards as usize];
+    let mut editions = vec![(1_u16, [1_u16; 4]); cards as usize];
     let mut t = START;
     loop {
         let (act, length) = acts.draw(random);
         let card = random.below(cards) as u16;
-        let (edition, from) = &mut editions[usize::from(card)];
+        let language = match (format, act) {
+            (Format::V2, 2 | 4) => random.below(4) as u8,
+            _ => 0,
+        };
+        let (edition, froms) = &mut editions[usize::from(card)];
+        let from = &mut froms[usize::from(language)];
         // a translation that is behind is not read: the original is
-        let act = if act == 2 && *from != *edition {
-            1
+        let (act, language) = if act == 2 && *from != *edition {
+            (1, 0)
         } else {
-            act
+            (act, language)
         };
         let writes = act == 3 || act == 4;
         let payload: Vec<u8> = (0..if writes { length } else { 0 })
             .map(|_| random.byte() | 1)
             .collect();
-        if bytes.len() + 52 + payload.len() > size {
+        if bytes.len() + format.command_bytes() + payload.len() > size {
             return bytes;
         }
         t += 1;
         let own = stamp(t, random.between(1, 9));
         let mut fields = CommandFields {
+            format,
             act,
+            language,
             mode: 2,
             card,
             pair: Pair::new(own, own),
@@ -301,12 +331,13 @@ const CHECK: &str = "The check of an image alone (version 2: N 25 and C 512)";
 const ALONE: &str = "One answer alone";
 const IMAGES: &str = "The same stream on larger images";
 const STREAMS: &str = "Longer streams on the same image";
+const VERSION_2: &str = "Version 2: streams of 30,000 bytes and one answer alone, N 25 and C 512";
 
 fn run_of(group: &'static str, name: String, image: Vec<u8>, stream: Vec<u8>) -> Workload {
     Workload {
         group,
         name,
-        work: Work::Run,
+        work: Work::Run(Format::V1),
         image,
         stream,
         reply: ROOM as usize,
@@ -324,6 +355,7 @@ pub fn all() -> Vec<Workload> {
     refusals(&mut all, &mut random);
     checks(&mut all, &mut random);
     growth(&mut all, &mut random);
+    version_2(&mut all, &mut random);
     all
 }
 
@@ -392,7 +424,7 @@ fn checks(all: &mut Vec<Workload>, random: &mut Random) {
         let stream = accepted(CARDS, STREAM, acts, Manner::Exclusive, random);
         let name = format!("one answer, {name}, full texts");
         all.push(Workload {
-            work: Work::Answer,
+            work: Work::Answer(Format::V1),
             ..run_of(ALONE, name, start, stream)
         });
     }
@@ -410,5 +442,32 @@ fn growth(all: &mut Vec<Workload>, random: &mut Random) {
         let stream = accepted(CARDS, size, Acts::Mix, Manner::Exclusive, random);
         let name = format!("mix, stream of {size} bytes");
         all.push(run_of(STREAMS, name, start, stream));
+    }
+}
+
+fn version_2(all: &mut Vec<Workload>, random: &mut Random) {
+    let format = Format::V2;
+    let mut pushed = |name, work, acts, random: &mut Random| {
+        let start = image_of(
+            format,
+            CARDS_V2,
+            Texts::Full,
+            false,
+            Mark::default(),
+            random,
+        );
+        let stream = accepted_of(format, CARDS_V2, STREAM, acts, Manner::Exclusive, random);
+        all.push(Workload {
+            work,
+            ..run_of(VERSION_2, name, start, stream)
+        });
+    };
+    for (name, acts) in Acts::ALL {
+        let name = format!("{name}, full texts, version 2");
+        pushed(name, Work::Run(format), acts, random);
+    }
+    for (name, acts) in [("verify", Acts::Verify), ("read", Acts::Read)] {
+        let name = format!("one answer, {name}, full texts, version 2");
+        pushed(name, Work::Answer(format), acts, random);
     }
 }
