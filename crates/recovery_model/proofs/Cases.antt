@@ -18,10 +18,11 @@ use Rattle.redo_log.specs.Log.{shaped, lastBegun, opened, follows, total, start
 use lib.ListN.{take, replicate}
 use Rattle.redo_log.specs.Append.{Store, stored, puts, lineBytes, stores, appended}
 use Rattle.redo_log_claims.specs.Claims.{allStores}
+use Rattle.model.specs.Cases.{text205, text401}
 use Rattle.redo_log_claims.specs.Cases.{emptyLog}
 use Rattle.recovery_model.specs.Recovery.{Recovery, due, recoverySent, recoveryStep, recovering, recovered}
 use Rattle.recovery_model.specs.Claims.{textIn}
-use Rattle.recovery_model.specs.Cases.{text1, text2, pairs1, blankImage, RecoveryCase, ranCase, AllRecover, recoveryCases, twoTransactions, RecoveryCases}
+use Rattle.recovery_model.specs.Cases.{pairs1, blankImage, RecoveryCase, ranCase, AllRecover, recoveryCases, twoTransactions, RecoveryCases}
 
 -- What a case asks of its run: the number, the line and both texts.
 abbrev Asked : Type 0
@@ -66,7 +67,7 @@ bad-log = refl
 pub recovery-cases : RecoveryCases
 unfolding due recoverySent recoveryStep recovering recovered allStores stored puts lineBytes stores appended shaped lastBegun opened follows total startAt recordAt recordOk goodLog records serve serveBy stepped sound headerSound cardSound translationSound tailZero decode cardAt entryAt readEntry encode bodies pad entryBytes header shapeOk fresh replied raise entrySound commandBytes formed payload fieldsOf wellFormed all allFrom le toLe part splice table spread every zeros
 recovery-cases =
-    let runs : cutRuns (allStores (emptyLog 64) twoTransactions) ≡ (0, ([], 0)) ∷ (0, (text1, 0)) ∷ (0, (text1, 0)) ∷ (0, (text2, 0)) ∷ [] = refl in
+    let runs : cutRuns (allStores (emptyLog 64) twoTransactions) ≡ (0, ([], 0)) ∷ (0, (text205, 0)) ∷ (0, (text205, 0)) ∷ (0, (text401, 0)) ∷ [] = refl in
     let later = tail-eq-of-cons-eq (tail-eq-of-cons-eq runs) in
     let last = head-eq-of-cons-eq (tail-eq-of-cons-eq later) in
     record {

@@ -1,7 +1,7 @@
 use mathlib.Core.Path.{refl}
 use borrow.Author.Needs.{needs}
-use Rattle.capi.proofs.inner.queue.store.Statement.{statement}
-use Rattle.capi.proofs.inner.queue.store.Tie as tie
+use Rattle.lent_queue.proofs.inner.arrays.store.Statement.{statement}
+use Rattle.lent_queue.proofs.inner.arrays.store.Tie as tie
 
 columns-of-requires : tie.Need-columns-of-requires
 columns-of-requires c κs = search needs

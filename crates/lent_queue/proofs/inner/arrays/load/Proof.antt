@@ -1,6 +1,6 @@
 use borrow.Author.Needs.{needs}
-use Rattle.capi.proofs.inner.queue.load.Statement.{statement}
-use Rattle.capi.proofs.inner.queue.load.Tie as tie
+use Rattle.lent_queue.proofs.inner.arrays.load.Statement.{statement}
+use Rattle.lent_queue.proofs.inner.arrays.load.Tie as tie
 
 places-of-requires : tie.Need-places-of-requires
 places-of-requires c κs = search needs

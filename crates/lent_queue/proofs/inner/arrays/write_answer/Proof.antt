@@ -5,8 +5,8 @@ use mathlib.Core.Bool.{Bool, true, false, cond}
 use Prim.Native.Nat.{ℕ}
 use mir.Val.{boolByte}
 use borrow.Author.Needs.{needs}
-use Rattle.capi.proofs.inner.queue.write_answer.Statement.{statement}
-use Rattle.capi.proofs.inner.queue.write_answer.Tie as tie
+use Rattle.lent_queue.proofs.inner.arrays.write_answer.Statement.{statement}
+use Rattle.lent_queue.proofs.inner.arrays.write_answer.Tie as tie
 
 as-number : (t : Bool) → boolByte t ≡ cond t 1 0
 as-number true = refl

@@ -4,10 +4,10 @@ use native.Mathlib.Omega.{arith}
 use lib.ListN.{length}
 use Rattle.lists.proofs.Spread.{length-table, getD-table}
 use Rattle.lock_queue.specs.Queue.{noWaiting}
-use Rattle.capi.specs.Arrays.{placesOf}
-use Rattle.capi.proofs.Arrays.{Filling, filling-none, filling-more, filling-done}
-use Rattle.capi.proofs.inner.columns.places_of.Statement.{statement}
-use Rattle.capi.proofs.inner.columns.places_of.Tie as tie
+use Rattle.lent_queue.specs.Arrays.{placesOf}
+use Rattle.lent_queue.proofs.Arrays.{Filling, filling-none, filling-more, filling-done}
+use Rattle.lent_queue.proofs.inner.arrays.places_of.Statement.{statement}
+use Rattle.lent_queue.proofs.inner.arrays.places_of.Tie as tie
 
 abbrev Inv-loop : tie.InvT-loop
 Inv-loop modes s x places₀ i₀ places i = (i ≤ 32) × Filling (placesOf modes s x) (places .at) i

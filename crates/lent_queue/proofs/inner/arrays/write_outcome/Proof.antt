@@ -1,8 +1,8 @@
 -- Stored, and the fields written. Assumes nothing.
 use mathlib.Core.Path.{refl}
 use borrow.Author.Needs.{needs}
-use Rattle.capi.proofs.inner.queue.write_outcome.Statement.{statement}
-use Rattle.capi.proofs.inner.queue.write_outcome.Tie as tie
+use Rattle.lent_queue.proofs.inner.arrays.write_outcome.Statement.{statement}
+use Rattle.lent_queue.proofs.inner.arrays.write_outcome.Tie as tie
 
 store-requires : tie.Need-store-requires
 store-requires c κs = search needs

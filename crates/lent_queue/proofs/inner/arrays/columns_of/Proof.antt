@@ -5,10 +5,10 @@ use mathlib.Core.Path.{_≡_, refl, _∙_}
 use lib.ListN.{length, length-map}
 use Rattle.lock_queue.specs.Queue.{noWaiting}
 use Rattle.lock_queue.proofs.Array.{places-long}
-use Rattle.capi.specs.Arrays.{modesOf, sharedOf, exclusiveOf}
-use Rattle.capi.proofs.Arrays.{Filling, filling-none, filling-more, filling-done, getD-map}
-use Rattle.capi.proofs.inner.columns.columns_of.Statement.{statement}
-use Rattle.capi.proofs.inner.columns.columns_of.Tie as tie
+use Rattle.lent_queue.specs.Arrays.{modesOf, sharedOf, exclusiveOf}
+use Rattle.lent_queue.proofs.Arrays.{Filling, filling-none, filling-more, filling-done, getD-map}
+use Rattle.lent_queue.proofs.inner.arrays.columns_of.Statement.{statement}
+use Rattle.lent_queue.proofs.inner.arrays.columns_of.Tie as tie
 
 abbrev Inv-loop : tie.InvT-loop
 Inv-loop places c₀ i₀ c i =
