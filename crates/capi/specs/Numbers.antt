@@ -1,10 +1,8 @@
 -- What a desk shows, for callers that name things by numbers.
 -- Assumes nothing.
 use Prim.Native.Nat.{ℕ, zero, suc}
-use mathlib.Core.List.{List, [], _∷_}
 use lib.ListN.{length}
 use Rattle.desk.specs.Show.{Text, shownNumber, shownPart}
-use Rattle.desk.specs.declared.Asked.{Asked}
 use Rattle.desk.specs.declared.Asked.the-variants.{Original, Translation}
 
 -- The text that a desk shows, for a caller that names the language by a number: 0 the original, 1 the translation.

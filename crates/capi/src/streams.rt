@@ -26,7 +26,7 @@ pub extern "C" fn lupaniele_end(stream: &[u8]) -> u64
     stream::end_of(stream) as u64
 }
 
-// Judges the whole commands of a stream in their order, with the image checked once, until the stream or the room in `lines` ends: how many there were,
+// Judges the whole commands of a stream in their order, with the image checked once, until no whole command or no room for a line is left: how many there were,
 // and in `end` the byte where it stopped. The number and the seven reply fields of each answer are written to `lines`, 8 numbers for each command.
 #[no_mangle]
 pub extern "C" fn lupaniele_run(

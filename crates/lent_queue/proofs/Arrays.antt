@@ -2,9 +2,9 @@
 use Prim.Native.Nat.{ℕ, zero, suc, _+_, _≤_, _<_}
 use native.Mathlib.Omega.{arith}
 use native.Mathlib.Nat.{zero-add, not-suc-le-zero, le-of-suc-le-suc}
-use mathlib.Core.Path.{_≡_, refl, sym, ap, _∙_}
+use mathlib.Core.Path.{_≡_, refl, ap, _∙_}
 use mathlib.Core.List.{List, [], _∷_, map}
-use lib.ListN.{length, drop, getD, set, drop-of-length-le, length-map}
+use lib.ListN.{length, drop, getD, set, drop-of-length-le}
 use Rattle.lists.proofs.Parts.{drop-left, splice-whole}
 use Rattle.slices.proofs.Loops.{Writing, writing-none, writing-more, writing-done}
 

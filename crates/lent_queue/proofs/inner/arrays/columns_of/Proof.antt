@@ -1,7 +1,7 @@
 -- The loop fills the three arrays. Assumes nothing.
-use Prim.Native.Nat.{ℕ, _≤_, _<_, _-_}
+use Prim.Native.Nat.{_≤_, _<_, _-_}
 use native.Mathlib.Omega.{arith}
-use mathlib.Core.Path.{_≡_, refl, _∙_}
+use mathlib.Core.Path.{_≡_, refl}
 use lib.ListN.{length, length-map}
 use Rattle.lock_queue.specs.Queue.{noWaiting}
 use Rattle.lock_queue.proofs.Array.{places-long}

@@ -1,7 +1,6 @@
 -- The loop fills the places. Assumes nothing.
-use Prim.Native.Nat.{ℕ, _≤_, _-_}
+use Prim.Native.Nat.{_≤_, _-_}
 use native.Mathlib.Omega.{arith}
-use lib.ListN.{length}
 use Rattle.lists.proofs.Spread.{length-table, getD-table}
 use Rattle.lock_queue.specs.Queue.{noWaiting}
 use Rattle.lent_queue.specs.Arrays.{placesOf}
