@@ -1,2 +1,2 @@
 // What other crates need, and what asks something of its caller.
-pub mod answers;
+pub mod lengths;

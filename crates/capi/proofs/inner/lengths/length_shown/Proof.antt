@@ -2,8 +2,8 @@
 use mathlib.Core.Path.{ap}
 use borrow.Author.Needs.{needs}
 use lib.ListN.{length}
-use Rattle.capi.proofs.inner.answers.length_shown.Statement.{statement}
-use Rattle.capi.proofs.inner.answers.length_shown.Tie as tie
+use Rattle.capi.proofs.inner.lengths.length_shown.Statement.{statement}
+use Rattle.capi.proofs.inner.lengths.length_shown.Tie as tie
 
 shown-requires : tie.Need-shown-requires
 shown-requires c κs = search needs
