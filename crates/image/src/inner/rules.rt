@@ -20,17 +20,18 @@ use formats::Format;
 use guard::Entry;
 use slices::inner::fixed_width as le;
 
-// Whether a text keeps the rules: its length, and the edition that it was made from, by the original's edition and the room. Test by test, here and for a card: that is quicker than all answers at once.
+// Whether a text keeps the rules: its length, and the edition that it was made from, by the original's edition and the room. One from no edition is
+// empty, and so fits. Test by test, here and for a card: that is quicker than all answers at once.
 fn text_sound(edition: u16, from: u16, count: u16, room: u16) -> bool
     ensures { λ r. ⌜ r ≡ leb count room && leb from edition && (not (eqb from 0) || eqb count 0) ⌝ }
 {
-    if room < count {
-        return false;
+    if from == 0 {
+        return count == 0;
     }
     if edition < from {
         return false;
     }
-    !(from == 0) | (count == 0)
+    count <= room
 }
 
 // Whether an entry keeps the rules, where texts have this room. An original counts as made from its own edition.
