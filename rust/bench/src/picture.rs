@@ -7,7 +7,7 @@ use std::fmt::Write;
 use crate::clock::Times;
 use crate::workloads::Workload;
 
-const LEFT: f64 = 230.0;
+const LEFT: f64 = 268.0;
 const UNIT: f64 = 420.0;
 const MOST: f64 = 1.2;
 const ROW: f64 = 17.0;
