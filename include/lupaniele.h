@@ -75,10 +75,10 @@ uint64_t lupaniele_end(const uint8_t *stream, size_t stream_length);
 bool lupaniele_next_v2(const uint8_t *stream, size_t stream_length, uint64_t at, uint64_t *end);
 uint64_t lupaniele_end_v2(const uint8_t *stream, size_t stream_length);
 
-/* A run (rule 8.5): the whole commands of a stream are judged in their order, each as lupaniele_answer judges it, with the image
-   checked once, until no whole command or no room for a line is left: how many there were. end: the byte where it stopped, from which
-   a caller goes on. lines: 8 numbers for each of them, the number and the seven fields of lupaniele_answer; the others stay.
-   reply: one buffer for all of them. */
+/* A run (rule 8.5): the whole commands of a stream are judged in their order, each as lupaniele_answer judges it, with the
+   image checked once, until no whole command or no room for a line is left: how many there were. end: the byte where it
+   stopped, from which a caller goes on. lines: 8 numbers for each of them, the number and the seven fields of
+   lupaniele_answer; the others stay. reply: one buffer for all of them. */
 uint64_t lupaniele_run(uint8_t *image, size_t image_length, const uint8_t *stream, size_t stream_length, uint8_t *reply,
                        size_t reply_length, uint64_t *lines, size_t lines_length, uint64_t *end);
 
