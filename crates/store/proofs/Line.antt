@@ -17,3 +17,14 @@ behind-first a = refl
 pub line-fields : (a : Answer) {m : List ℕ} → m ≡ numbersOf a →
     (getD m 1 0 ∷ getD m 2 0 ∷ getD m 3 0 ∷ getD m 4 0 ∷ getD m 5 0 ∷ getD m 6 0 ∷ getD m 7 0 ∷ []) ≡ replyFields a
 line-fields a p = rw p (behind-first a)
+
+each-field : (a : Answer) →
+    (a .number ∷ getD (replyFields a) 0 0 ∷ getD (replyFields a) 1 0 ∷ getD (replyFields a) 2 0 ∷ getD (replyFields a) 3 0 ∷ getD (replyFields a) 4 0 ∷ getD (replyFields a) 5 0 ∷ getD (replyFields a) 6 0 ∷ [])
+    ≡ numbersOf a
+unfolding numbersOf
+each-field a = refl
+
+-- A line is the number and the reply fields.
+pub fields-line : (a : Answer) {f : List ℕ} → f ≡ replyFields a →
+    (a .number ∷ getD f 0 0 ∷ getD f 1 0 ∷ getD f 2 0 ∷ getD f 3 0 ∷ getD f 4 0 ∷ getD f 5 0 ∷ getD f 6 0 ∷ []) ≡ numbersOf a
+fields-line a p = rw p (each-field a)

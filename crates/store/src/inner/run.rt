@@ -24,14 +24,13 @@ use stream::Next;
 // How many numbers an answer has: its number and seven fields.
 pub const PER_LINE: usize = 8;
 
-// The numbers of an answer: its number, then its seven fields.
-fn numbers_of(a: Answer) -> [u64; PER_LINE]
-    ensures { λ r. ⌜ r ≡ numbersOf a ⌝ }
+// The seven reply fields of an answer, as numbers.
+pub fn fields_of(a: Answer) -> [u64; 7]
+    ensures { λ r. ⌜ r ≡ replyFields a ⌝ }
 {
     let pair = a.pair;
     let mark = a.mark;
     [
-        a.number as u64,
         pair.s,
         pair.x,
         mark.desk as u64,
@@ -39,6 +38,23 @@ fn numbers_of(a: Answer) -> [u64; PER_LINE]
         a.edition as u64,
         a.from as u64,
         a.length as u64,
+    ]
+}
+
+// The numbers of an answer: its number, then its seven fields.
+fn numbers_of(a: Answer) -> [u64; PER_LINE]
+    ensures { λ r. ⌜ r ≡ numbersOf a ⌝ }
+{
+    let fields = fields_of(a);
+    [
+        a.number as u64,
+        fields[0],
+        fields[1],
+        fields[2],
+        fields[3],
+        fields[4],
+        fields[5],
+        fields[6],
     ]
 }
 
