@@ -1,6 +1,6 @@
-/* The card store, proved: the functions of libcapi.a and, of logs, recovery and the history engine, of libcapi_logs.a
-   (x86-64). Rules are those of docs/RULES.md, numbers those of its section 5. Every function takes any values; what it
-   writes is said, and a refusal writes nothing but what is said. */
+/* The card store, proved: the functions of libcapi.a; those with names that end in _v2, of libcapi_v2.a; those of logs,
+   recovery and the history engine, of libcapi_logs.a (x86-64). Rules are those of docs/RULES.md, numbers those of its
+   section 5. Every function takes any values; what it writes is said, and a refusal writes nothing but what is said. */
 #ifndef LUPANIELE_H
 #define LUPANIELE_H
 
@@ -75,12 +75,16 @@ uint64_t lupaniele_end(const uint8_t *stream, size_t stream_length);
 bool lupaniele_next_v2(const uint8_t *stream, size_t stream_length, uint64_t at, uint64_t *end);
 uint64_t lupaniele_end_v2(const uint8_t *stream, size_t stream_length);
 
-/* A run (rule 8.5): the whole commands of a stream are judged in their order, each as lupaniele_answer judges it, with the image
-   checked once, until the stream or the room in lines ends: how many there were. end: the byte where it stopped, from which
-   a caller goes on. lines: 8 numbers for each of them, the number and the seven fields of lupaniele_answer; the others stay.
-   reply: one buffer for all of them. */
+/* A run (rule 8.5): the whole commands of a stream are judged in their order, each as lupaniele_answer judges it, with the
+   image checked once, until no whole command or no room for a line is left: how many there were. end: the byte where it
+   stopped, from which a caller goes on. lines: 8 numbers for each of them, the number and the seven fields of
+   lupaniele_answer; the others stay. reply: one buffer for all of them. */
 uint64_t lupaniele_run(uint8_t *image, size_t image_length, const uint8_t *stream, size_t stream_length, uint8_t *reply,
                        size_t reply_length, uint64_t *lines, size_t lines_length, uint64_t *end);
+
+/* The same for a stream of commands of version 2 on an image of version 2, each judged as lupaniele_answer_v2 judges it. */
+uint64_t lupaniele_run_v2(uint8_t *image, size_t image_length, const uint8_t *stream, size_t stream_length, uint8_t *reply,
+                          size_t reply_length, uint64_t *lines, size_t lines_length, uint64_t *end);
 
 /* What the program prints for these bytes as its standard input (rules 8.3 to 8.6), in the first bytes of out: how many they are.
    out takes 238,518 bytes; with fewer it stays, and the answer is 0. */

@@ -5,7 +5,7 @@ use mathlib.Core.List.{List}
 use Rattle.lock_queue.specs.Queue.{State}
 use Rattle.lock_queue.specs.Requests.{Request, answer, after}
 use Rattle.lock_queue.specs.declared.LockAnswer.{LockAnswer}
-use Rattle.capi.specs.Arrays.{modesOf, sharedOf, exclusiveOf, keptOf, answerOf}
+use Rattle.lent_queue.specs.Arrays.{modesOf, sharedOf, exclusiveOf, keptOf, answerOf}
 
 -- The number and the arrays, as an answer and a queue give them.
 abbrev pub Written : ℕ → List ℕ → List ℕ → List ℕ → List ℕ → List ℕ → LockAnswer → State → Type 0

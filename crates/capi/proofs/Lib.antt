@@ -1,5 +1,3 @@
-pub mod Arrays
 pub mod Proposed
 pub mod Exits
 pub mod Neither
-pub mod Line

@@ -1,4 +1,3 @@
-pub mod Arrays
 pub mod Desks
 pub mod Numbers
 pub mod Silences

@@ -1,16 +1,11 @@
--- What a desk shows and what stands in a stream, for callers that name things by numbers.
+-- What a desk shows, for callers that name things by numbers.
 -- Assumes nothing.
 use Prim.Native.Nat.{ℕ, zero, suc}
-use mathlib.Core.List.{List, [], _∷_}
 use lib.ListN.{length}
 use Rattle.desk.specs.Show.{Text, shownNumber, shownPart}
-use Rattle.desk.specs.declared.Asked.{Asked}
 use Rattle.desk.specs.declared.Asked.the-variants.{Original, Translation}
-use mathlib.Core.Bool.{Bool, true, false}
-use Rattle.stream.specs.declared.Next.{Next}
-use Rattle.stream.specs.declared.Next.the-variants.{Whole, Cut}
 
--- ---- The text that a desk shows, for a caller that names the language by a number: 0 the original, 1 the translation.
+-- The text that a desk shows, for a caller that names the language by a number: 0 the original, 1 the translation.
 
 -- The number: what the desk's text has, and 1, malformed, where the language is neither of the two.
 abbrev pub askedNumber : Text → Text → ℕ → ℕ → ℕ → ℕ
@@ -23,10 +18,3 @@ abbrev pub shownLength : Text → Text → ℕ → ℕ → ℕ → ℕ
 shownLength o t edition from zero = length (shownPart o t edition from Original)
 shownLength o t edition from (suc zero) = length (shownPart o t edition from Translation)
 shownLength o t edition from (suc (suc asked)) = 0
-
--- ---- What stands at a place of a stream, as a test.
-
--- A whole command stands there.
-abbrev pub isWhole : Next → Bool
-isWhole (Whole end) = true
-isWhole Cut = false

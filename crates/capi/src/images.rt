@@ -1,13 +1,14 @@
-// Images, for Rust and C: made, looked at, and one request on one.
+// Images, for Rust and C: made, looked at, one request on one, and one of version 2 made of one.
 ghost use mathlib.Core.Path.{_≡_};
 ghost use lib.ListN.{length};
 ghost use Rattle.formats.specs.declared.Format.the-variants.{V1};
 ghost use Rattle.lists.specs.Table.{settled};
 ghost use Rattle.image.specs.Image.{sound, makeNumber, fresh};
+ghost use Rattle.image.specs.Convert.{converted, convertNumber};
 ghost use Rattle.model.specs.Serve.{serve};
 ghost use Rattle.guard.specs.Replies.{replyFields};
-use crate::inner::answers::answer;
-use formats::Format;
+use formats::inner::FIRST;
+use store::inner::run::answer_of;
 
 // Makes a fresh image of `cards` cards with room `room`: 0, or 14 and nothing written.
 #[no_mangle]
@@ -41,5 +42,15 @@ pub extern "C" fn lupaniele_answer(
     ensures image { λ _. ⌜ now (image .exit) ≡ serve V1 (now (image .entry)) (now (command .entry)) (now (reply .entry)) .image ⌝ }
     ensures reply { λ _. ⌜ now (reply .exit) ≡ serve V1 (now (image .entry)) (now (command .entry)) (now (reply .entry)) .reply ⌝ }
 {
-    answer(Format::V1, image, command, reply, fields)
+    answer_of(FIRST, image, command, reply, fields)
+}
+
+// Converts an image of version 1 into one of version 2 in the whole of target: 0, or 9 or 14 and nothing written.
+#[no_mangle]
+pub extern "C" fn lupaniele_convert(image: &[u8], target: &mut [u8]) -> u8
+    ensures number { λ r. ⌜ r ≡ convertNumber (now (image .entry)) (length (now (target .entry))) ⌝ }
+    ensures bytes { λ _. ⌜ now (target .exit)
+        ≡ settled (convertNumber (now (image .entry)) (length (now (target .entry)))) (converted (now (image .entry))) (now (target .entry)) ⌝ }
+{
+    image::convert(image, target)
 }

@@ -1,4 +1,2 @@
 // What other crates need, and what asks something of its caller.
-pub mod answers;
-pub mod columns;
-pub mod queue;
+pub mod lengths;

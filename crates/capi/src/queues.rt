@@ -1,10 +1,10 @@
 // The lock queue of one card, for Rust and C.
 ghost use mathlib.Core.Path.{_≡_};
 ghost use Rattle.lock_queue.specs.Requests.{asks, leaves, lapses};
-ghost use Rattle.capi.specs.Arrays.{waiting, queueOf, arrayTurn};
+ghost use Rattle.lent_queue.specs.Arrays.{waiting, queueOf, arrayTurn};
 ghost use Rattle.capi.specs.Silences.{silenceOf};
-use crate::inner::queue::load;
-use crate::inner::queue::write_outcome;
+use lent_queue::inner::arrays::load;
+use lent_queue::inner::arrays::write_outcome;
 use lock_queue::Lease;
 use lock_queue::Silence;
 use lock_queue::Waiting;

@@ -2,7 +2,7 @@
 ghost use mathlib.Core.Path.{_≡_};
 ghost use Rattle.desk.specs.Show.{heldText};
 ghost use Rattle.capi.specs.Numbers.{askedNumber, shownLength};
-use crate::inner::answers::length_shown;
+use crate::inner::lengths::length_shown;
 use desk::Asked;
 
 // The text that a desk shows, all at its own word: 0, and in `count` how many first bytes of the buffer asked for are the text; or a number

@@ -2,7 +2,7 @@
 ghost use mathlib.Core.Path.{_≡_};
 ghost use Rattle.guard.specs.Replies.{replyFields};
 ghost use Rattle.history.specs.Lent.{historyServe};
-use crate::inner::write_fields;
+use store::inner::run::fields_of;
 
 // One request to the history engine, for `cards` cards with this room: the accepted commands stand in the first `used` bytes of `kept`. The answer's
 // number is returned and its seven reply fields are written to `fields`; the text of an accepted read stands in the first bytes of `reply`.
@@ -26,7 +26,7 @@ pub extern "C" fn lupaniele_history_answer(
     let served = history::answer(kept, before as usize, cards, room, command, reply);
     let answer = served.answer;
     let after = served.used;
-    write_fields(fields, answer);
+    *fields = fields_of(answer);
     *used = after as u64;
     answer.number
 }

@@ -26,10 +26,7 @@ module _ (c : Command) where
   pub writes-act : (t : ℕ) → writes (translation t) c ≡ true → writesTranslation c ≡ true
   writes-act t h = and-left (writesTranslation c) (eqb (c .language) t) h
 
-  -- A command that reads or writes a translation does so to the one that it names.
-  pub reads-own : reads (translation (c .language)) c ≡ readsTranslation c
-  reads-own = and-holds (readsTranslation c) (eq-eqb (c .language) (c .language) refl)
-
+  -- A command that writes a translation writes the one that it names.
   pub writes-own : writes (translation (c .language)) c ≡ writesTranslation c
   writes-own = and-holds (writesTranslation c) (eq-eqb (c .language) (c .language) refl)
 

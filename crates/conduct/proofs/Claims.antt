@@ -1,32 +1,28 @@
 -- Desks that follow the rules never break demand 3's premise, and what follows. Assumes nothing.
-use Prim.Native.Nat.{ℕ, zero, suc, _≤_, _<_}
-use native.Mathlib.Omega.{arith}
+use Prim.Native.Nat.{ℕ, zero, suc, _<_}
 use mathlib.Core.Path.{_≡_, refl, sym, ap, subst, _∙_}
 use mathlib.Core.Logic.{_⊎_, inl, inr}
 use mathlib.Core.List.{List, [], _∷_, _++_, map, reverse, reverse-cons}
-use mathlib.Core.Bool.{Bool, true, false, not, _&&_}
+use mathlib.Core.Bool.{Bool, true}
 use borrow.Author.Tests.{eqb-true}
-use lib.Dec.{T, eqb, ltb}
+use lib.Dec.{T, eqb}
 use Rattle.formats.specs.declared.Format.{Format}
 use Rattle.lists.specs.Table.{settled}
-use Rattle.lists.proofs.Tests.{cases, and-left, and-right, never-both}
-use Rattle.stamps.specs.Stamp.{shared, exclusive, deskStart, noPair}
+use Rattle.lists.proofs.Tests.{and-left, and-right, never-both}
+use Rattle.stamps.specs.Stamp.{exclusive}
 use Rattle.stamps.specs.declared.Pair.{Pair}
 use Rattle.commands.specs.Command.{update}
 use Rattle.commands.specs.Bytes.{fieldsOf, formed}
 use Rattle.image.specs.Layout.{shapeOk}
-use Rattle.image.specs.Image.{fresh}
-use Rattle.model.specs.Serve.{serve}
-use Rattle.lists.specs.Search.{any}
-use Rattle.model.specs.Words.{Sent, Event, Received, received, imageAfter, formedFor, carries, under, premise}
-use Rattle.model.specs.Claims.{SentBytes, AllBytes}
+use Rattle.model.specs.Words.{Sent, Received, received, imageAfter, formedFor, carries, under}
+use Rattle.model.specs.Claims.{AllBytes}
 use Rattle.model.specs.Meaning.{Among, Ordered}
 use Rattle.model.proofs.Meaning.{among-here, among-later, among-right, among-mapped, carries-means, premise-means}
 use Rattle.model.proofs.Cases.{image-first}
 use Rattle.model.proofs.Demand.{demand3, premise-logged}
 use Rattle.proposals.specs.Propose.{proposed}
-use Rattle.conduct.specs.System.{System, Made, Told, Move, begin, propose, ask, leave, lose, send, learn, opening, isMade, allowed, knows, nowKnows, withMade, stepTo, course, byRules, sentOf, sentBy}
-use Rattle.conduct.specs.Claims.{ByRules, PremiseKept, DesksIsolated, OneStore, StampsOnce}
+use Rattle.conduct.specs.System.{System, Made, Move, begin, propose, ask, leave, lose, send, learn, opening, allowed, knows, nowKnows, withMade, stepTo, course, byRules, sentOf, sentBy}
+use Rattle.conduct.specs.Claims.{PremiseKept, DesksIsolated, OneStore, StampsOnce}
 use Rattle.conduct.proofs.Backing.{among-none, among-cases, among-both, backed-none}
 use Rattle.conduct.proofs.Kept.{Once, Kept, Proposal, is-made, if-formed, kept-begin, kept-propose, kept-ask, kept-leave, kept-lose, kept-send, kept-learn}
 

@@ -1,14 +1,13 @@
 -- What holds of the system at every moment, and that each step by the rules keeps it. Assumes nothing.
-use Prim.Native.Nat.{ℕ, zero, suc, _+_, _*_, _/_, _%_, _≤_, _<_, max}
+use Prim.Native.Nat.{ℕ, zero, suc, _+_, _*_, _/_, _%_, _≤_, _<_}
 use native.Mathlib.Omega.{arith}
 use mathlib.Core.Path.{_≡_, refl, sym, ap, subst, _∙_}
 use mathlib.Core.Logic.{_⊎_, inl, inr}
-use mathlib.Core.List.{List, [], _∷_, _++_}
+use mathlib.Core.List.{List, [], _∷_}
 use mathlib.Core.Bool.{Bool, true, false, cond, not, _&&_, _||_}
-use borrow.Author.Tests.{eqb-true, eqb-false, eq-eqb, ne-eqb, ltb-true, not-true, not-false}
+use borrow.Author.Tests.{eqb-true, eq-eqb, ne-eqb, ltb-true, not-true, not-false}
 use lib.Dec.{T, eqb, ltb}
 use Rattle.formats.specs.declared.Format.{Format}
-use Rattle.lists.specs.Table.{settled}
 use Rattle.lists.proofs.Tests.{cases, and-left, and-right, or-cases, or-right, never-both}
 use Rattle.stamps.specs.Stamp.{stamp, deskStart, shared, exclusive, largerOfEach, noPair}
 use Rattle.stamps.specs.declared.Pair.{Pair}
@@ -21,7 +20,7 @@ use Rattle.image.specs.Layout.{shapeOk}
 use Rattle.image.specs.Image.{fresh}
 use Rattle.model.specs.Serve.{serve}
 use Rattle.lists.specs.Search.{any}
-use Rattle.model.specs.Words.{Sent, Event, eventOf, imageAfter, history, commandOf, accepted}
+use Rattle.model.specs.Words.{Sent, Event, eventOf, imageAfter, history, accepted}
 use Rattle.model.specs.Claims.{SentBytes, AllBytes}
 use Rattle.model.specs.Pairs.{largestPair}
 use Rattle.model.specs.Meaning.{Among}
@@ -34,11 +33,10 @@ use Rattle.lock_queue.specs.Requests.{Request, asks, leaves, lapses, answered, 
 use Rattle.lock_queue.proofs.Judged.{no-row}
 use Rattle.lock_queue.proofs.After.{refusal-leaves}
 use Rattle.proposal_claims.proofs.Claims.{asked-largest, left-largest, lapsed-largest}
-use Rattle.proposals.specs.declared.Known.{Known}
 use Rattle.proposals.specs.Propose.{learnt, nextT, ownAbove, pairFor, proposed}
-use Rattle.proposals.proofs.Propose.{made-rules, own-above, pair-shared, pair-exclusive, made-pair, made-known}
-use Rattle.conduct.specs.System.{System, Made, Told, Move, begin, propose, ask, leave, lose, send, learn, samePair, inUse, isMade, wasTold, allowed, with, withQueue, knows, nowKnows, withMade, queueStep, stepTo}
-use Rattle.conduct.proofs.Backing.{among-none, among-cases, with-all, Under, Backed, Stamped, backed-none, backed-larger, backed-more}
+use Rattle.proposals.proofs.Propose.{made-rules, own-above, pair-shared, pair-exclusive}
+use Rattle.conduct.specs.System.{System, Made, Told, begin, propose, ask, leave, lose, send, learn, samePair, inUse, isMade, allowed, with, knows, nowKnows, withMade, queueStep, stepTo}
+use Rattle.conduct.proofs.Backing.{among-cases, with-all, Backed, Stamped, backed-none, backed-larger, backed-more}
 
 -- An exclusive proposal: its stamp is not zero, and the desk and start of that stamp is in use and knows a stamp at least as large.
 pub record Marked (known : ℕ → ℕ → Pair) (started : List ℕ) (m : Made) : Type 0 where
@@ -315,9 +313,6 @@ module _ (v : Format) (n c : ℕ) (shape : T (shapeOk v n c)) (y : System) (k : 
 
   -- A proposal that is made, in each mode.
   module _ (who card : ℕ) (running : inUse y who ≡ true) where
-    abbrev mine : Known
-    mine = knows y who card
-
     width : who < 4294967296
     width = k .numbered who running
 

@@ -13,7 +13,7 @@ use Rattle.image.specs.Bytes.{header, entryBytes, pad, readEntry, entryAt}
 use Rattle.image.specs.Image.{bodies, encode, cardAt, decode, tailZero, translationSound, cardSound, headerSound, sound, fresh}
 use Rattle.model.specs.Serve.{stepped, serveBy, serve}
 use Rattle.model.specs.Words.{imageAfter, history, logOf}
-use Rattle.lock_queue.specs.Queue.{stands, looked, firstPlace, holds, holdsAt, noExclusive}
+use Rattle.lock_queue.specs.Queue.{stands, firstPlace}
 use Rattle.lock_queue.specs.Good.{distinct, good}
 use Rattle.lock_queue.specs.Requests.{joined, removed, without, upgrading, onto, answered, number, after, answer}
 use Rattle.proposals.specs.Propose.{learnt, nextT, pairFor, proposed}

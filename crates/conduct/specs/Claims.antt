@@ -2,7 +2,7 @@
 -- Assumes nothing.
 use Prim.Native.Nat.{ℕ}
 use mathlib.Core.Path.{_≡_}
-use mathlib.Core.List.{List, [], _∷_, _++_, map, reverse}
+use mathlib.Core.List.{List, _∷_, _++_, map, reverse}
 use mathlib.Core.Bool.{true}
 use lib.Dec.{T}
 use Rattle.stamps.specs.Stamp.{exclusive}
@@ -10,7 +10,7 @@ use Rattle.formats.specs.declared.Format.{Format}
 use Rattle.image.specs.Layout.{shapeOk}
 use Rattle.image.specs.Image.{fresh}
 use Rattle.lists.specs.Search.{none}
-use Rattle.model.specs.Words.{Sent, Event, received, imageAfter, logOf, accepted, premise, OneSession, intrudes}
+use Rattle.model.specs.Words.{Event, received, imageAfter, logOf, accepted, premise, OneSession, intrudes}
 use Rattle.model.specs.Claims.{AllBytes}
 use Rattle.conduct.specs.System.{Move, Made, opening, course, byRules, sentBy}
 

@@ -11,7 +11,6 @@ use Rattle.lists.specs.Table.{settled}
 use Rattle.stamps.specs.Stamp.{noPair}
 use Rattle.stamps.specs.declared.Pair.{Pair}
 use Rattle.commands.specs.Command.{update}
-use Rattle.commands.specs.declared.Command.{Command}
 use Rattle.commands.specs.Bytes.{fieldsOf, formed}
 use Rattle.formats.specs.declared.Format.{Format}
 use Rattle.image.specs.Image.{fresh}

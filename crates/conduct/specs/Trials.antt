@@ -9,16 +9,15 @@ use lib.ListN.{take}
 use Rattle.formats.specs.declared.Format.the-variants.{V1}
 use Rattle.stamps.specs.Stamp.{stamp, shared, exclusive, noPair}
 use Rattle.stamps.specs.declared.Pair.{Pair}
-use Rattle.lock_queue.specs.Queue.{State, noWaiting}
+use Rattle.lock_queue.specs.Queue.{noWaiting}
 use Rattle.lock_queue.specs.declared.Waiting.{Waiting}
 use Rattle.commands.specs.Bytes.{fieldsOf}
 use Rattle.model.specs.Serve.{serve}
-use Rattle.model.specs.Words.{Sent, Event, received, logOf, carries, under, premise}
-use Rattle.model.specs.Cases.{pair, request, requestOpening, text205, text401, long}
+use Rattle.model.specs.Words.{Sent, received, logOf, carries, under, premise}
+use Rattle.model.specs.Cases.{pair, request, writeOriginal, requestOpening, text205, text401, long}
 use Rattle.conduct.specs.System.{
   System,
   Move,
-  Made,
   Told,
   begin,
   propose,
@@ -36,7 +35,6 @@ use Rattle.conduct.specs.System.{
   stepTo,
   course,
   byRules,
-  sentOf,
   sentBy,
 }
 
@@ -62,12 +60,9 @@ singleCard = opening V1 1 16 twoPlaces
 abbrev pub waits : ℕ → ℕ → ℕ → Waiting
 waits mode s x = record { mode = mode; pair = pair s x }
 
--- A read and a write of card 0's original under a pair.
+-- A read of card 0's original under a pair; a write of it is `writeOriginal`.
 abbrev pub readUnder : ℕ → ℕ → Sent
 readUnder s x = request 1 shared (pair s x) 0 [] (long 3)
-
-abbrev pub writeUnder : ℕ → ℕ → List ℕ → Sent
-writeUnder s x text = request 3 exclusive (pair s x) 0 text []
 
 -- A write that relies on one pair and opens another.
 abbrev pub writeOpening : Pair → Pair → List ℕ → Sent
@@ -90,7 +85,7 @@ story =
     ∷ propose deskTwo 0 exclusive
     ∷ ask 0 (waits exclusive (stamp 0 1 0) (stamp 1 2 0))
     ∷ leave 0 deskOne
-    ∷ send (writeUnder (stamp 0 1 0) (stamp 1 2 0) text205)
+    ∷ send (writeOriginal (stamp 0 1 0) (stamp 1 2 0) text205)
     -- desk 1's session is stale now; it learns, and reads under desk 2's exclusive stamp with a larger s
     ∷ send (readUnder (stamp 0 1 0) 0)
     ∷ learn deskOne 0 (pair (stamp 0 1 0) (stamp 1 2 0))
@@ -107,13 +102,13 @@ story =
     ∷ send (writeOpening (pair (stamp 1 1 0) (stamp 1 2 0)) (pair (stamp 1 1 0) (stamp 2 1 0)) text401)
     -- malformed bytes are free too; desk 2's write comes again, late
     ∷ send (record { command = 1 ∷ 2 ∷ 0 ∷ []; lent = [] })
-    ∷ send (writeUnder (stamp 0 1 0) (stamp 1 2 0) text205)
+    ∷ send (writeOriginal (stamp 0 1 0) (stamp 1 2 0) text205)
     -- the queue is lost; desk 2 starts again, knows nothing and is let in, but the guard is not taken in
     ∷ lose 0 (noWaiting ∷ noWaiting ∷ [])
     ∷ begin deskTwoAgain
     ∷ propose deskTwoAgain 0 exclusive
     ∷ ask 0 (waits exclusive 0 (stamp 0 2 1))
-    ∷ send (writeUnder 0 (stamp 0 2 1) text205)
+    ∷ send (writeOriginal 0 (stamp 0 2 1) text205)
     -- it learns from the guard's reply, leaves, and reads what desk 1 wrote
     ∷ learn deskTwoAgain 0 (pair (stamp 1 1 0) (stamp 2 1 0))
     ∷ propose deskTwoAgain 0 shared
@@ -158,7 +153,7 @@ pub record Story : Type 0 where
       ≡ [] ∷ [] ∷ [] ∷ text205 ∷ [] ∷ [] ∷ [] ∷ [] ∷ text401 ∷ []
   -- the premise has something to say of it: a shared command carries the stamp of an exclusive one
   pub carried : carries (fieldsOf V1 (readUnder (stamp 1 1 0) (stamp 1 2 0) .command)) ≡ true
-  pub below : under (stamp 1 2 0) (fieldsOf V1 (writeUnder (stamp 0 1 0) (stamp 1 2 0) text205 .command)) ≡ true
+  pub below : under (stamp 1 2 0) (fieldsOf V1 (writeOriginal (stamp 0 1 0) (stamp 1 2 0) text205 .command)) ≡ true
 
 -- ---- one rule broken
 
@@ -181,7 +176,7 @@ threeAsks = begin deskThree ∷ propose deskThree 0 shared ∷ ask 0 (waits shar
 
 -- Desk 1 writes under (0, 0.1.0).
 abbrev pub oneWrites : List Move
-oneWrites = begin deskOne ∷ propose deskOne 0 exclusive ∷ send (writeUnder 0 (stamp 0 1 0) text205) ∷ []
+oneWrites = begin deskOne ∷ propose deskOne 0 exclusive ∷ send (writeOriginal 0 (stamp 0 1 0) text205) ∷ []
 
 -- Desk 2 learns that, and reads under (0.2.0, 0.1.0).
 abbrev pub twoReads : List Move
@@ -197,7 +192,7 @@ abbrev pub oneAbove : List Move
 oneAbove =
     learn deskOne 0 (pair (stamp 0 3 0) 0)
     ∷ propose deskOne 0 exclusive
-    ∷ send (writeUnder (stamp 0 3 0) (stamp 0 1 0) text401)
+    ∷ send (writeOriginal (stamp 0 3 0) (stamp 0 1 0) text401)
     ∷ []
 
 -- Desk 2, which knows (0, 0.1.0), proposes (0.2.0, 0.1.0) and reads.
@@ -243,7 +238,7 @@ oneFarAbove =
     ∷ begin deskOne
     ∷ learn deskOne 0 (pair (stamp 1 3 0) 0)
     ∷ propose deskOne 0 exclusive
-    ∷ send (writeUnder (stamp 1 3 0) (stamp 0 1 0) text401)
+    ∷ send (writeOriginal (stamp 1 3 0) (stamp 0 1 0) text401)
     ∷ []
 
 -- Rule 10.15.
@@ -252,12 +247,12 @@ pub record RulesNeeded : Type 0 where
   pub start-again : BrokenBy (threeAsks ++ (oneWrites ++ twoReads)) (begin deskOne) oneAbove
   -- rule 10.8: a command under a pair that nobody proposed; one that relies on a pair that was proposed and opens one that was not; under one that was
   -- proposed in the other mode; for another card
-  pub never-proposed : BrokenBy (oneWrites ++ twoReads) (send (writeUnder (stamp 0 3 0) (stamp 0 1 0) text401)) []
+  pub never-proposed : BrokenBy (oneWrites ++ twoReads) (send (writeOriginal (stamp 0 3 0) (stamp 0 1 0) text401)) []
   pub never-proposed-update :
       BrokenBy (oneWrites ++ twoReads) (send (writeOpening (pair 0 (stamp 0 1 0)) (pair (stamp 0 3 0) (stamp 0 1 0)) text401)) []
-  pub other-mode : BrokenBy (oneWrites ++ twoReads) (send (writeUnder (stamp 0 2 0) (stamp 0 1 0) text401)) []
+  pub other-mode : BrokenBy (oneWrites ++ twoReads) (send (writeOriginal (stamp 0 2 0) (stamp 0 1 0) text401)) []
   pub other-card :
-      BrokenBy (oneWrites ++ (twoReads ++ aboveElsewhere)) (send (writeUnder (stamp 0 3 0) (stamp 0 1 0) text401)) []
+      BrokenBy (oneWrites ++ (twoReads ++ aboveElsewhere)) (send (writeOriginal (stamp 0 3 0) (stamp 0 1 0) text401)) []
   -- rule 10.8: an ask under a pair that nobody proposed, at a queue that was just lost: it is told, and learnt
   pub never-proposed-ask :
       BrokenBy (threeAsks ++ (begin deskOne ∷ begin deskTwo ∷ lose 0 (noWaiting ∷ noWaiting ∷ []) ∷ []))
@@ -281,13 +276,13 @@ pub record RulesNeeded : Type 0 where
   -- rule 10.5: an exclusive proposal with an x that is not above the known one
   pub kept-x :
       BrokenWith (oneWrites ++ twoReads) (claims exclusive (stamp 0 2 0) (stamp 0 1 0))
-      (send (writeUnder (stamp 0 2 0) (stamp 0 1 0) text401) ∷ [])
+      (send (writeOriginal (stamp 0 2 0) (stamp 0 1 0) text401) ∷ [])
   -- rule 10.11: something known, stored or queued at the opening
   pub knew :
       BrokenWith (threeAsks ++ (begin deskOne ∷ begin deskTwo ∷ [])) (withKnown deskTwo (λ k. pair 0 (stamp 0 1 0)))
       (twoBelow ++ oneAbove)
   pub stored :
-      BrokenWith [] (λ y. withImage (serve V1 (y .image) (writeUnder 0 (stamp 0 1 0) text205 .command) [] .image) y)
+      BrokenWith [] (λ y. withImage (serve V1 (y .image) (writeOriginal 0 (stamp 0 1 0) text205 .command) [] .image) y)
       (twoLearnsAt (send (readUnder (stamp 0 2 0) 0)) ++ oneFarAbove)
   pub queued :
       BrokenWith []

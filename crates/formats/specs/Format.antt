@@ -1,8 +1,14 @@
 -- The versions of images and of commands, as data: what differs between them, and nothing else (rules 2.3, 2.4, 2.5 and 3.1).
 -- Assumes nothing.
 use Prim.Native.Nat.{ℕ}
+use mathlib.Core.Bool.{Bool, true, false}
 use Rattle.formats.specs.declared.Format.{Format}
 use Rattle.formats.specs.declared.Format.the-variants.{V1, V2}
+
+-- The version that a plain value names: whether it is the second.
+abbrev pub formatOf : Bool → Format
+formatOf false = V1
+formatOf true = V2
 
 -- The number that a header has for its version (rules 2.3 and 15.3).
 abbrev pub version : Format → ℕ

@@ -1,8 +1,23 @@
 // What differs between the versions, and nothing else.
 ghost use mathlib.Core.Path.{_≡_};
-ghost use Rattle.formats.specs.Format.{version, translations, entrySize, originalAt, fromsAt, lengthsAt, fixed, updateAt, blankAt};
+ghost use Rattle.formats.specs.Format.{formatOf, version, translations, entrySize, originalAt, fromsAt, lengthsAt, fixed, updateAt, blankAt};
 use crate::FIXED_V1;
 use crate::Format;
+
+// A version as a plain value: whether it is the second. The compiler lends a `Format` to a call, and sees only plain values through calls; so what takes
+// the version in this way is compiled for one version where no other is asked for.
+pub const FIRST: bool = false;
+
+pub const SECOND: bool = true;
+
+pub fn format_of(second: bool) -> Format
+    ensures { λ r. ⌜ r ≡ formatOf second ⌝ }
+{
+    if second {
+        return Format::V2;
+    }
+    Format::V1
+}
 
 pub fn version(f: Format) -> u16
     ensures { λ r. ⌜ r ≡ version f ⌝ }

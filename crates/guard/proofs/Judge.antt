@@ -16,7 +16,7 @@ use Rattle.guard.specs.declared.Entry.{Entry}
 use Rattle.guard.specs.declared.Judged.{Judged}
 use Rattle.lists.proofs.Table.{given, unapplied, none-applies, settled-new, settled-old}
 use Rattle.commands.proofs.Rules.{command-rules}
-use Rattle.stamps.proofs.Stamp.{larger-old, stale-more, near-raises}
+use Rattle.stamps.proofs.Stamp.{larger-old, near-raises}
 
 second-fails : (a b : Bool) → (a && b) ≡ false → a ≡ true → b ≡ false
 second-fails true b h e = h
@@ -46,9 +46,6 @@ pub record Accepted (e : Entry) (c : Command) (room lent : ℕ) : Type 0 where
 
 module _ (e : Entry) (c : Command) (room lent : ℕ) where
   -- Each number stands on one row.
-  pub once-entry : T (once (entryRows e c room lent))
-  once-entry = tt
-
   pub once-rows : T (once (judgeRows e c room lent))
   once-rows = tt
 
@@ -128,7 +125,3 @@ pub raise-near : {e : Entry} {c : Command} {room lent : ℕ} → Accepted e c ro
     → (stampT (raise e c .pair .s) ≤ stampT (e .pair .s) + mostAhead) × (stampT (raise e c .pair .x) ≤ stampT (e .pair .x) + mostAhead)
 unfolding raise
 raise-near {e} {c} a = near-raises (e .pair) (update c) (a .near)
-
--- What was stale stays stale when the entry is raised.
-pub stale-raised : (e : Entry) (c d : Command) → T (stale (d .mode) (e .pair) (verifier d)) → T (stale (d .mode) (raise e c .pair) (verifier d))
-stale-raised e c d t = stale-more (d .mode) (verifier d) (raise-more e c .0) (raise-more e c .1) t

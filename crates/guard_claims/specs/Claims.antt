@@ -39,7 +39,7 @@ pub record Judging (e : Entry) (c : Command) (room lent : ℕ) : Type 0 where
   pub sound : T (entrySound room e) → T (entrySound room (judged e c room lent .entry))
   pub fits : FitsEntry e → FitsCommand c → FitsEntry (judged e c room lent .entry)
   pub grows : (e .pair .s ≤ judged e c room lent .entry .pair .s) × (e .pair .x ≤ judged e c room lent .entry .pair .x)
-  -- No command raises the T of a stored stamp by more than 1,000,000 (rule 4.9).
+  -- The T of a stored stamp grows by 1,000,000 at most, whatever is judged (rule 4.9).
   pub bounded :
       (stampT (judged e c room lent .entry .pair .s) ≤ stampT (e .pair .s) + mostAhead)
       × (stampT (judged e c room lent .entry .pair .x) ≤ stampT (e .pair .x) + mostAhead)

@@ -1,14 +1,14 @@
 -- A walk over the kept commands, oldest first, that works something out: what is left to work out from the place reached on gives the whole.
 -- Assumes nothing.
-use Prim.Native.Nat.{ℕ, zero, suc, _+_, _-_, _*_, _≤_, _<_}
+use Prim.Native.Nat.{ℕ, _+_, _-_, _*_, _≤_, _<_}
 use native.Mathlib.Omega.{arith}
-use mathlib.Core.Path.{_≡_, refl, sym, ap, subst, _∙_}
+use mathlib.Core.Path.{_≡_, refl, sym, ap, _∙_}
 use mathlib.Core.Logic.{_⊎_, inl, inr}
 use mathlib.Core.List.{List, [], _∷_, reverse, reverseAux}
 use mathlib.Core.Bool.{Bool, true, false, cond, _&&_}
 use lib.Dec.{eqb}
 use borrow.Author.Tests.{ne-eqb}
-use lib.ListN.{length, take, drop, length-append}
+use lib.ListN.{length, drop, length-append}
 use Rattle.formats.specs.declared.Format.the-variants.{V1}
 use Rattle.lists.specs.Parts.{part, spread}
 use Rattle.lists.proofs.Parts.{drop-part, length-part}
@@ -20,7 +20,7 @@ use Rattle.commands.specs.Bytes.{fieldsOf, payload}
 use Rattle.guard.specs.Judge.{raise, lastEdition, editionsSpent}
 use Rattle.guard.specs.Entry.{noEntry}
 use Rattle.guard.specs.declared.Entry.{Entry}
-use Rattle.stream.specs.Stream.{commands, nextAt, endOf}
+use Rattle.stream.specs.Stream.{commands, nextAt}
 use Rattle.stream.specs.declared.Next.the-variants.{Whole, Cut}
 use Rattle.stream.proofs.Commands.{Walked, walked-none, walked-more, walked-done}
 use Rattle.stream.proofs.Walks as walk

@@ -34,7 +34,7 @@ pub record Measured (bytes : List ℕ) (end count payloads : ℕ) : Type 0 where
 unfoldable pub writtenBy : ℕ → List (List ℕ) → ℕ → List ℕ
 writtenBy act kept k = last (λ (b : List ℕ). concerns k b && eqb (fieldsOf V1 b .act) act) (payload V1) [] kept
 
--- One well-formed command for a card that exists: either limit would be passed with it.
+-- One well-formed command for an existing card: either limit would be passed with it.
 abbrev pub overWith : List (List ℕ) → Command → Bool
 overWith kept c = ltb mostKept (length kept + 1) || ltb mostPayload (c .length + length (spread (payload V1) kept))
 

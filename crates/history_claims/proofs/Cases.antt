@@ -1,16 +1,16 @@
 -- The worked cases: by computation, and by the theorems where their hypotheses are met. Assumes nothing.
-use Prim.Native.Nat.{ℕ, zero, suc, _+_, _<_, _≤_}
+use Prim.Native.Nat.{ℕ, zero, suc, _≤_}
 use native.Mathlib.Omega.{arith}
-use mathlib.Core.Path.{_≡_, refl, sym, ap, subst, _∙_}
-use mathlib.Core.List.{List, [], _∷_, _++_, map, reverse}
+use mathlib.Core.Path.{_≡_, refl, sym, ap, _∙_}
+use mathlib.Core.List.{List, [], _∷_, reverse}
 use mathlib.Core.Bool.{Bool, true, false, cond, not, _&&_, _||_}
-use borrow.Author.Tests.{eqb-true, ltb-true, ltb-false, le-ltb, lt-ltb, ne-eqb}
+use borrow.Author.Tests.{ltb-true, le-ltb, ne-eqb}
 use lib.Dec.{T, ltb, eqb, lit≤}
 use lib.ListN.{length, replicate, length-replicate}
 use Rattle.formats.specs.declared.Format.the-variants.{V1}
-use Rattle.lists.specs.Parts.{part, splice, table, spread, every, zeros, Bytes}
+use Rattle.lists.specs.Parts.{part, splice, spread, zeros, Bytes}
 use Rattle.lists.specs.Le.{le, toLe}
-use Rattle.lists.specs.Search.{any, none, those}
+use Rattle.lists.specs.Search.{any, none}
 use Rattle.lists.specs.Table.{row, all, allFrom, first}
 use Rattle.lists.proofs.Bytes.{Bytes-nil, Bytes-cons}
 use Rattle.lists.proofs.Table.{first-then}

@@ -3,14 +3,13 @@
 use Prim.Native.Nat.{ℕ, zero, suc, _<_}
 use native.Mathlib.Omega.{arith}
 use mathlib.Core.Path.{_≡_, refl, sym, ap, subst, _∙_}
-use mathlib.Core.List.{List, [], _∷_, map, reverse}
-use mathlib.Core.Bool.{Bool, true, false, cond}
+use mathlib.Core.List.{List, [], _∷_, reverse}
+use mathlib.Core.Bool.{Bool, false}
 use borrow.Author.Tests.{eqb-true, ne-eqb}
 use lib.Dec.{T}
 use lib.ListN.{length}
 use Rattle.formats.specs.declared.Format.the-variants.{V1}
 use Rattle.lists.specs.Parts.{spread}
-use Rattle.lists.specs.Search.{those}
 use Rattle.lists.specs.Table.{Row, first, listed}
 use Rattle.lists.proofs.Spread.{table-is}
 use Rattle.lists.proofs.Table.{given, unapplied, last-given, none-applies, first-all}
@@ -26,12 +25,12 @@ use Rattle.model.specs.Serve.{entryOf, serve}
 use Rattle.model.specs.Words.{Sent, Event, imageAfter}
 use Rattle.model.specs.Claims.{AllBytes}
 use Rattle.model.proofs.Demand.{bytes-reverse, same-log}
-use Rattle.model.proofs.Machine.{numberOn, eventBy, cardsFrom}
+use Rattle.model.proofs.Machine.{numberOn, cardsFrom}
 use Rattle.model.proofs.Simulation.{same-event, same-images, all-good}
 use Rattle.history.specs.WorkedOut.{entryFrom}
 use Rattle.history.specs.Engine.{overLimits, HISTORY-FULL, guardRows, engineRows, deducedBy, deduced}
-use Rattle.history_claims.specs.Claims.{cardFrom, cardsShown, keptAfter, engineEvents, engineLog, wasAccepted, Keeping, KeepsAccepted, EqualsGuard, FirstFull, EngineNumbers, historyNumbers, EngineListed}
-use Rattle.history_claims.proofs.Same.{Shows, shows-fresh, Together, together, number-is, full-accepted, full-entry}
+use Rattle.history_claims.specs.Claims.{cardFrom, cardsShown, keptAfter, engineEvents, engineLog, Keeping, KeepsAccepted, EqualsGuard, FirstFull, EngineNumbers, historyNumbers, EngineListed}
+use Rattle.history_claims.proofs.Same.{Shows, shows-fresh, together, number-is, full-accepted, full-entry}
 
 -- ---- what it keeps
 

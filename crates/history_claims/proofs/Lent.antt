@@ -1,20 +1,16 @@
 -- The history engine over lent bytes, whole. Assumes nothing.
 use Prim.Native.Nat.{ℕ}
-use mathlib.Core.Path.{_≡_, refl, sym, ap, subst, _∙_}
+use mathlib.Core.Path.{_≡_, refl, sym, ap, _∙_}
 use mathlib.Core.List.{List, [], _∷_, reverse}
-use mathlib.Core.Bool.{true}
-use lib.ListN.{length, take}
 use Rattle.formats.specs.declared.Format.the-variants.{V1}
-use Rattle.image.specs.Image.{Cards}
 use Rattle.model.specs.Words.{Sent, Event, received}
 use Rattle.lists.specs.Search.{none}
-use Rattle.stream.specs.Stream.{commands}
 use Rattle.stream.proofs.Place.{cut-short}
 use Rattle.stream.proofs.Commands.{commands-cut}
 use Rattle.history.specs.Engine.{deduced}
 use Rattle.history_claims.specs.Claims.{keptAfter, engineEvent, engineEvents, engineLog, gave22, cardsShown}
 use Rattle.history_claims.proofs.Claims.{equals-guard}
-use Rattle.history.specs.Lent.{historySize, keptIn, historyServe}
+use Rattle.history.specs.Lent.{keptIn, historyServe}
 use Rattle.history_claims.specs.Lent.{heldAfter, eventsOver, EngineOverBytes, LentEqualsGuard}
 use Rattle.history_claims.proofs.Bytes.{bytes-kept}
 

@@ -6,7 +6,7 @@ use mathlib.Core.List.{List, [], _∷_}
 use mathlib.Core.Bool.{true, false}
 use borrow.Author.Tests.{eqb-true, eqb-false, eq-eqb, ltb-true, not-true}
 use lib.Dec.{eqb, ltb, lit<}
-use lib.ListN.{length, getD, set, length-set, length-replicate, getD-replicate}
+use lib.ListN.{length, getD, set, length-replicate, getD-replicate}
 use lib.Seq.{getD-set-same, getD-set-other}
 use Rattle.formats.specs.declared.Format.the-variants.{V1}
 use Rattle.lists.specs.Parts.{splice}
@@ -20,7 +20,7 @@ use Rattle.guard.specs.declared.Entry.{Entry}
 use Rattle.guard.specs.Replies.{replied}
 use Rattle.image.specs.Image.{Card, Cards, view, noCard}
 use Rattle.image.specs.Image.{freshCards}
-use Rattle.model.specs.Serve.{cardOf, entryOf, requestRows, stepped, answerBy, replyBy}
+use Rattle.model.specs.Serve.{cardOf, entryOf, stepped, answerBy, replyBy}
 use Rattle.model.specs.Words.{Sent, Event, received}
 use Rattle.lists.specs.Search.{any, none}
 use Rattle.model.proofs.Stepped.{seen-named}

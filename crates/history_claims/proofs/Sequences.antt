@@ -2,8 +2,8 @@
 use Prim.Native.Nat.{ℕ}
 use mathlib.Core.Path.{_≡_, refl, sym, ap, subst, _∙_}
 use mathlib.Core.Logic.{_⊎_, inl, inr}
-use mathlib.Core.List.{List, [], _∷_, _++_, nil≢cons, cons≢nil, head-eq-of-cons-eq, tail-eq-of-cons-eq}
-use mathlib.Core.Bool.{Bool, true, false, cond, _&&_, _||_}
+use mathlib.Core.List.{List, [], _∷_, _++_, nil≢cons, head-eq-of-cons-eq, tail-eq-of-cons-eq}
+use mathlib.Core.Bool.{Bool, true, false, cond}
 use borrow.Author.Tests.{eq-eqb, eqb-true}
 use lib.Dec.{eqb}
 use Rattle.formats.specs.declared.Format.the-variants.{V1}
@@ -14,7 +14,7 @@ use Rattle.commands.specs.Bytes.{fieldsOf, formed}
 use Rattle.image.specs.Image.{sound}
 use Rattle.model.specs.Serve.{serve, serveBy}
 use Rattle.model.specs.Words.{Sent, Event, eventOf, imageAfter, history}
-use Rattle.model.specs.Claims.{SentBytes, AllBytes}
+use Rattle.model.specs.Claims.{AllBytes}
 use Rattle.history_claims.specs.Swaps.{swap, Apart, sentFor, SameSequences, eventFor, SameByCard, Sequences}
 use Rattle.history_claims.proofs.Swaps.{imageBy, event, unsound-image, swapping}
 

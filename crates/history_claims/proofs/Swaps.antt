@@ -7,16 +7,15 @@ use mathlib.Core.Bool.{true, false}
 use Rattle.formats.specs.declared.Format.the-variants.{V1}
 use Rattle.lists.specs.Parts.{Bytes}
 use Rattle.lists.proofs.Tests.{cases, to-T}
-use Rattle.guard.specs.Replies.{replied}
 use Rattle.image.specs.Image.{Cards, encode, decode, sound}
 use Rattle.image.specs.Image.{GoodCards}
 use Rattle.image_claims.proofs.Claims.{soundReadsBack, goodEncodes}
 use Rattle.model.specs.Serve.{serve, serveBy}
 use Rattle.model.specs.Words.{Sent, Event, eventOf, imageAfter, history}
 use Rattle.model.specs.Claims.{SentBytes, AllBytes}
-use Rattle.model.proofs.Machine.{numberOn, eventBy, cardsBy}
+use Rattle.model.proofs.Machine.{numberOn, cardsBy}
 use Rattle.model.proofs.Simulation.{good-more, same-event, same-image}
-use Rattle.history_claims.specs.Swaps.{swap, Apart, ApartAt, Undisturbed, Swapping}
+use Rattle.history_claims.specs.Swaps.{swap, Apart, Swapping}
 use Rattle.history_claims.proofs.Commute.{unseen-event, unseen-number, same-cards}
 
 -- ---- one request on any image of bytes

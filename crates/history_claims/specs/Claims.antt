@@ -18,7 +18,7 @@ use Rattle.image.specs.Layout.{shapeOk}
 use Rattle.image.specs.Image.{fresh, Card, Cards, decode}
 use Rattle.model.specs.Serve.{entryOf, serve}
 use Rattle.model.specs.Words.{Sent, Event, imageAfter, logOf, received}
-use Rattle.model.specs.Claims.{SentBytes, AllBytes}
+use Rattle.model.specs.Claims.{AllBytes}
 use Rattle.history.specs.WorkedOut.{entryFrom, textFrom}
 use Rattle.history.specs.Engine.{overLimits, HISTORY-FULL, Deduced, guardRows, engineRows, deduced}
 

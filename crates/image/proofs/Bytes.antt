@@ -3,15 +3,15 @@ use Prim.Native.Nat.{ℕ, suc, _+_, _-_, _≤_, _<_}
 use native.Mathlib.Omega.{arith}
 use mathlib.Core.Path.{_≡_, refl, ap, _∙_}
 use mathlib.Core.List.{List, _∷_, []}
-use mathlib.Core.Bool.{Bool, true, false, _&&_}
+use mathlib.Core.Bool.{Bool, true, false}
 use borrow.Author.Tests.{ne-eqb, leb-true, eqb-true}
 use lib.Dec.{eqb}
 use lib.ListN.{length, take, drop}
 use Rattle.lists.specs.Parts.{part, zeros, every}
 use Rattle.lists.specs.Le.{field}
 use Rattle.lists.specs.Table.{all, allFrom}
-use Rattle.lists.proofs.Every.{every-fail, every-out}
-use Rattle.lists.proofs.Tests.{all-out, all-fails-at, and-left}
+use Rattle.lists.proofs.Every.{every-fail}
+use Rattle.lists.proofs.Tests.{all-out, all-fails-at}
 use Rattle.guard.specs.Entry.{entrySound}
 use Rattle.guard.specs.declared.Entry.{Entry}
 use Rattle.formats.specs.declared.Format.{Format}
@@ -36,12 +36,11 @@ lengths room e h =
       translation = leb-true (e .translation) room (all-out _ h 4);
     }
 
--- With the third test known to hold, the other three decide.
-three : (a b d : Bool) → (a && b && d) ≡ all (a ∷ b ∷ true ∷ d ∷ [])
+-- With the other tests known to hold, the third decides.
+third : (b : Bool) → b ≡ all (true ∷ true ∷ b ∷ true ∷ [])
 unfolding all allFrom
-three true true d = refl
-three true false d = refl
-three false b d = refl
+third true = refl
+third false = refl
 
 module _ (f : Format) (image : List ℕ) where
   pub short : length image < headerSize → headerSound f image ≡ false
@@ -61,18 +60,28 @@ module _ (f : Format) (image : List ℕ) where
   unfolding translationSound
   translation-holds k t e = rw e
 
-  pub translations-fail : (k : ℕ) → every (translationSound f image k) (translations f) ≡ false → cardSound f image k ≡ false
+  -- A card fails by its entry, by either of its blanks, and by its original's tail; without them its translations decide.
+  pub entry-fails : (k : ℕ) → entrySound (roomOf image) (entryAt f image k 0) ≡ false → cardSound f image k ≡ false
   unfolding cardSound
-  translations-fail k e = all-fails-at _ 2 e
+  entry-fails k e = all-fails-at _ 2 (every-fail (translationSound f image k) (translations f) 0 (numbers f .some) (translation-fails k 0 e))
 
-  pub translations-hold : (k : ℕ) → every (translationSound f image k) (translations f) ≡ true →
-      (eqb (field (entryPlace f k + 18) 2 image) 0 && zeros (part (entryPlace f k + entryEnd f) (entrySize f - entryEnd f) image)
-      && tailZero f image k 0 (entryAt f image k 0 .original)) ≡ cardSound f image k
+  pub field-fails : (k : ℕ) → eqb (field (entryPlace f k + 18) 2 image) 0 ≡ false → cardSound f image k ≡ false
   unfolding cardSound
-  translations-hold k e =
-      rw e
-      (three (eqb (field (entryPlace f k + 18) 2 image) 0) (zeros (part (entryPlace f k + entryEnd f) (entrySize f - entryEnd f) image))
-      (tailZero f image k 0 (entryAt f image k 0 .original)))
+  field-fails k e = all-fails-at _ 0 e
+
+  pub blank-fails : (k : ℕ) → zeros (part (entryPlace f k + entryEnd f) (entrySize f - entryEnd f) image) ≡ false → cardSound f image k ≡ false
+  unfolding cardSound
+  blank-fails k e = all-fails-at _ 1 e
+
+  pub tail-fails : (k : ℕ) → tailZero f image k 0 (entryAt f image k 0 .original) ≡ false → cardSound f image k ≡ false
+  unfolding cardSound
+  tail-fails k e = all-fails-at _ 3 e
+
+  pub translations-decide : (k : ℕ) → eqb (field (entryPlace f k + 18) 2 image) 0 ≡ true →
+      zeros (part (entryPlace f k + entryEnd f) (entrySize f - entryEnd f) image) ≡ true →
+      tailZero f image k 0 (entryAt f image k 0 .original) ≡ true → every (translationSound f image k) (translations f) ≡ cardSound f image k
+  unfolding cardSound
+  translations-decide k a b d = rw (a, b, d) (third (every (translationSound f image k) (translations f)))
 
   -- A body and an entry lie within the image, by the numbers that were read.
   pub body-lies : {n c k side place : ℕ} → place ≡ bodyPlace f n c k side → n ≡ countOf image → c ≡ roomOf image →
@@ -94,14 +103,6 @@ module _ (f : Format) (image : List ℕ) where
   pub all-hold : headerSound f image ≡ true → every (cardSound f image) (countOf image) ≡ true → sound f image ≡ true
   unfolding sound
   all-hold e g = rw (e, g)
-
-  -- The original's length is at most the room, where every translation keeps the rules.
-  pub first-fits : (k : ℕ) → every (translationSound f image k) (translations f) ≡ true → entryAt f image k 0 .original ≤ roomOf image
-  unfolding translationSound
-  first-fits k e =
-      lengths (roomOf image) (entryAt f image k 0)
-      (and-left (entrySound (roomOf image) (entryAt f image k 0)) (tailZero f image k 1 (entryAt f image k 0 .translation))
-      (every-out (translationSound f image k) (translations f) e 0 (numbers f .some))) .original
 
   -- What stands behind an entry's numbers, by the numbers that were read.
   pub blank-is : {at last size : ℕ} (k : ℕ) → at ≡ entryPlace f k → last ≡ entryEnd f → size ≡ entrySize f

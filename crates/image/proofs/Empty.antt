@@ -3,7 +3,7 @@ use Prim.Native.Nat.{ℕ, zero, suc, _+_, _*_, _-_, _<_}
 use native.Mathlib.Omega.{arith}
 use mathlib.Core.Path.{_≡_, refl, sym, ap, _∙_, subst}
 use mathlib.Core.List.{List, [], append-assoc}
-use lib.ListN.{length, getD, replicate, length-replicate, getD-replicate, replicate-append-replicate}
+use lib.ListN.{getD, replicate, length-replicate, getD-replicate, replicate-append-replicate}
 use Rattle.lists.specs.Parts.{spread, table}
 use Rattle.lists.specs.Le.{toLe}
 use Rattle.lists.proofs.Spread.{table-is, spread-replicate}

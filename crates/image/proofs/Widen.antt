@@ -1,13 +1,13 @@
 -- Cards of version 1 in the bytes of version 2. Assumes nothing.
-use Prim.Native.Nat.{ℕ, zero, suc, _+_, _*_, _≤_, _<_}
+use Prim.Native.Nat.{ℕ, suc, _+_, _*_, _≤_, _<_}
 use native.Mathlib.Omega.{arith}
 use native.Mathlib.Nat.{add-zero, zero-mul}
 use mathlib.Core.Path.{_≡_, refl, sym, ap, subst, _∙_}
-use mathlib.Core.List.{List, [], _∷_, _++_, map, append-assoc}
+use mathlib.Core.List.{List, [], _++_, map, append-assoc}
 use mathlib.Core.Bool.{Bool, true, false, cond, not}
 use mathlib.Core.Logic.{_⊎_, inl, inr}
 use borrow.Author.Tests.{lt-ltb, le-ltb, ltb-true, ltb-false}
-use lib.Dec.{T, ltb, eqb, lit≤, lit<}
+use lib.Dec.{T, ltb, lit<}
 use lib.ListN.{length, getD, replicate, length-replicate, getD-replicate, length-append}
 use Rattle.lists.specs.Parts.{part, splice, spread, table, Bytes}
 use Rattle.lists.specs.Table.{settled}
@@ -28,7 +28,6 @@ use Rattle.image.proofs.Encode.{length-pad, length-bodies, length-encod
 use Rattle.image.proofs.Put.{table-set, put-part-entry}
 use Rattle.image.proofs.Empty.{fresh-cards}
 use Rattle.image.proofs.EntryWritten.{seenAfter, entry-written}
-use Rattle.image.proofs.Entry.{entryBytes-ext}
 use Rattle.image.proofs.Decode.{view-at, bodies-back, places, long}
 
 -- The card at place j on the way.

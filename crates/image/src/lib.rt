@@ -12,6 +12,17 @@ use guard::UNSOUND;
 
 // ---- The image: the bytes of a store's cards.
 
+// The limits: N is 1 to MOST_CARDS, C is LEAST_ROOM to MOST_ROOM in steps of ROOM_STEP, the whole is at most MOST_BYTES.
+pub const MOST_CARDS: usize = 128;
+
+pub const LEAST_ROOM: usize = 16;
+
+pub const MOST_ROOM: usize = 1024;
+
+pub const ROOM_STEP: usize = 16;
+
+pub const MOST_BYTES: usize = 65536;
+
 // Whether any bytes are a sound image of a version.
 pub fn sound_as(f: Format, image: &[u8]) -> bool
     ensures { λ r. ⌜ r ≡ sound f (now (image .entry)) ⌝ }
@@ -37,7 +48,7 @@ pub fn sound_as(f: Format, image: &[u8]) -> bool
 pub fn sound(image: &[u8]) -> bool
     ensures { λ r. ⌜ r ≡ sound V1 (now (image .entry)) ⌝ }
 {
-    sound_as(Format::V1, image)
+    inner::checks::sound_of(formats::inner::FIRST, image)
 }
 
 // ---- The image in front of some bytes, of version 1.

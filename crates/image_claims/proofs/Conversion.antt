@@ -3,10 +3,10 @@ use Prim.Native.Nat.{ℕ, zero, suc, _<_}
 use native.Mathlib.Omega.{arith}
 use mathlib.Core.Path.{_≡_, refl, sym, ap, subst, _∙_}
 use mathlib.Core.List.{List, [], _∷_, map}
-use mathlib.Core.Bool.{true, false, not, _&&_}
+use mathlib.Core.Bool.{true, false, _&&_}
 use borrow.Author.Tests.{eqb-true, not-false}
 use lib.Dec.{T, eqb, lit<}
-use lib.ListN.{length, getD}
+use lib.ListN.{length, getD, length-map}
 use Rattle.lists.specs.Le.{le, toLe}
 use Rattle.lists.specs.Parts.{part, spread, table, every, zeros, Bytes}
 use Rattle.lists.specs.Table.{all, allFrom, applies}
@@ -25,12 +25,8 @@ use Rattle.image.proofs.Cards.{count-back, room-back, cardAt-encode}
 use Rattle.image.proofs.Decode.{count-decode, room-decode, card-decode}
 use Rattle.image.proofs.Encode.{length-encode}
 use Rattle.image_claims.specs.Claims.{Encodes}
-use Rattle.image_claims.specs.Conversion.{Keeps, Converts, Conversion, ConvertCases}
+use Rattle.image_claims.specs.Conversion.{Keeps, Conversion, ConvertCases}
 use Rattle.image_claims.proofs.Claims.{soundReadsBack, goodEncodes, fits-none, sound-none}
-
-pub length-map : (cards : List Card) → length (map widened cards) ≡ length cards
-length-map [] = refl
-length-map (a ∷ cards) = ap suc (length-map cards)
 
 pub getD-map : (cards : List Card) (k : ℕ) → k < length cards → getD (map widened cards) k (noCard V2) ≡ widened (getD cards k (noCard V1))
 getD-map [] k h = absurd (omega arith)
@@ -67,9 +63,9 @@ good-widened room card good =
 pub good-cards : (cs : Cards) → GoodCards V1 cs → T (shapeOk V2 (length (cs .cards)) (cs .room)) → GoodCards V2 (widenedCards cs)
 good-cards cs good shape =
     record {
-      shape = rw (length-map (cs .cards)) shape;
+      shape = rw (length-map (cs .cards) widened) shape;
       each = λ k below.
-          let there : k < length (cs .cards) = rw (length-map (cs .cards)) at below in
+          let there : k < length (cs .cards) = rw (length-map (cs .cards) widened) at below in
           rw (getD-map (cs .cards) k there) (good-widened (cs .room) (getD (cs .cards) k (noCard V1)) (good .each k there));
     }
 
@@ -97,7 +93,7 @@ conversion image lent b e =
       each = λ k below.
           let there : k < length (cs .cards) = subst (λ (m : ℕ). k < m) (sym (count-decode V1 image)) below in
           let card : cardAt V2 (encode V2 wide) k ≡ widened (cardAt V1 image k) =
-          cardAt-encode V2 wide good k (subst (λ (m : ℕ). k < m) (sym (length-map (cs .cards))) there)
+          cardAt-encode V2 wide good k (subst (λ (m : ℕ). k < m) (sym (length-map (cs .cards) widened)) there)
           ∙ getD-map (cs .cards) k there
           ∙ ap widened (card-decode V1 image k below) in
           subst (Keeps (cardAt V1 image k)) (sym card) (keeps (cardAt V1 image k));
@@ -122,7 +118,7 @@ conversion image lent b e =
     wide = widenedCards cs
 
     many : length (wide .cards) ≡ countOf image
-    many = length-map (cs .cards) ∙ count-decode V1 image
+    many = length-map (cs .cards) widened ∙ count-decode V1 image
 
     good : GoodCards V2 wide
     good =

@@ -3,3 +3,4 @@ pub mod Pass
 pub mod Loaded
 pub mod Shared
 pub mod Served
+pub mod Arrays

@@ -1,1 +1,2 @@
 pub mod Slice
+pub mod Arrays

@@ -1,2 +1,3 @@
 // What other crates need, and what asks something of its caller.
+pub mod arrays;
 pub mod places;

@@ -1,4 +1,4 @@
-// The lock queue of one card as a lent slice of waiting entries: the places are loaded, judged by value, and stored back.
+// The lock queue of one card in lent memory, as a slice of waiting entries or (in `inner`) as arrays of numbers: it is loaded, judged by value, and stored back.
 pub mod inner;
 mod lent;
 

@@ -1,11 +1,11 @@
 -- Laws of `Bytes` and `zeros`. Assumes nothing.
 use Prim.Native.Nat.{ℕ, zero, suc, _+_, _-_, _<_, zero-le, suc-le-suc}
-use mathlib.Core.Path.{_≡_, refl, sym, ap, _∙_}
+use mathlib.Core.Path.{_≡_, refl, sym, ap}
 use mathlib.Core.List.{List, [], _∷_, _++_}
 use mathlib.Core.Bool.{true, _&&_, and-assoc}
 use borrow.Author.Tests.{eqb-true, eq-eqb}
 use lib.Dec.{eqb, lit<}
-use lib.ListN.{length, take, drop, getD, replicate, length-drop, take-append-drop}
+use lib.ListN.{length, take, drop, getD, replicate}
 use lib.Seq.{getD-drop}
 use Rattle.lists.specs.Parts.{part, splice, zeros, Bytes}
 use Rattle.lists.proofs.Tests.{and-left, and-right, and-in}
@@ -86,11 +86,3 @@ pub zeros-in : (l : List ℕ) → ((i : ℕ) → i < length l → getD l i 0 ≡
 unfolding zeros
 zeros-in [] h = refl
 zeros-in (b ∷ l) h = and-in (eq-eqb b 0 (h 0 (suc-le-suc zero-le))) (zeros-in l (λ i k. h (suc i) (suc-le-suc k)))
-
-pub zeros-drop : (n : ℕ) (l : List ℕ) → zeros l ≡ true → zeros (drop n l) ≡ true
-zeros-drop n l e = zeros-in (drop n l) (λ i h. getD-drop n l i 0 ∙ zeros-at l e (n + i))
-
--- A list that is zero from place n on is its first n elements and zeros.
-pub zeros-tail : (n : ℕ) (l : List ℕ) → zeros (drop n l) ≡ true → l ≡ take n l ++ replicate (length l - n) 0
-zeros-tail n l e =
-    sym (take-append-drop n l) ∙ ap (λ (m : List ℕ). take n l ++ m) (zeros-means (drop n l) e ∙ ap (λ (k : ℕ). replicate k 0) (length-drop n l))

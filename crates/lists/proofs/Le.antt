@@ -9,10 +9,10 @@ use lib.ListN.{length, drop, getD, replicate, length-take}
 use lib.Seq.{drop-cons}
 use lib.Arith.{digits-lt, digits-div, digits-mod}
 use lib.Dec.{T, eqb, lit<, eqb→eq}
-use Rattle.lists.specs.Parts.{part, splice, zeros, Bytes}
+use Rattle.lists.specs.Parts.{part, zeros, Bytes}
 use Rattle.lists.specs.Le.{le, toLe}
 use Rattle.lists.proofs.Bytes.{Bytes-nil, Bytes-cons, Bytes-part}
-use Rattle.lists.proofs.Parts.{drop-left, length-part, getD-part, splice-here, splice-part}
+use Rattle.lists.proofs.Parts.{drop-left, length-part, getD-part}
 use Rattle.lists.proofs.Tests.{same, T-and, T-and-left, T-and-right, eq→eqb}
 
 -- One more byte below, and fewer bytes than k.
@@ -77,19 +77,6 @@ le-injective a b h k e f = sym (toLe-le a h) ∙ rw (e, f) (toLe-le b k)
 -- Two numbers that fit and have the same bytes are the same.
 pub toLe-injective : (count m n : ℕ) → m < 256 ^ count → n < 256 ^ count → toLe count m ≡ toLe count n → m ≡ n
 toLe-injective count m n h k e = sym (le-toLe count m h) ∙ ap le e ∙ le-toLe count n k
-
--- What is written at a place is read there, and what is read, written back, changes nothing.
-pub le-splice : (at count n : ℕ) (l : List ℕ) → at ≤ length l → n < 256 ^ count → le (part at count (splice at (toLe count n) l)) ≡ n
-le-splice at count n l h k =
-    ap (λ (m : ℕ). le (part at m (splice at (toLe count n) l))) (sym (length-toLe count n))
-    ∙ ap le (splice-here at (toLe count n) l h)
-    ∙ le-toLe count n k
-
-pub splice-le : (at count : ℕ) (l : List ℕ) → Bytes l → at + count ≤ length l → splice at (toLe count (le (part at count l))) l ≡ l
-splice-le at count l h k =
-    let whole : toLe count (le (part at count l)) ≡ part at count l =
-    ap (λ (m : ℕ). toLe m (le (part at count l))) (sym (length-part at count l k)) ∙ toLe-le (part at count l) (Bytes-part at count l h) in
-    rw whole (splice-part at count l k)
 
 -- ---- one byte, two numbers end to end, and zero
 

@@ -34,11 +34,6 @@ module _ {A : Type 0} where
   unfolding part
   part-all l = take-length l
 
-  -- A part by its first element and the rest.
-  pub part-cons : (at n : ℕ) (l : List A) (d : A) → at < length l → part at (suc n) l ≡ getD l at d ∷ part (at + 1) n l
-  unfolding part
-  part-cons at n l d h = rw (drop-left l d h)
-
   -- Parts that lie end to end.
   pub part-join : (at m n : ℕ) (l : List A) → part at (m + n) l ≡ part at m l ++ part (at + m) n l
   unfolding part
@@ -74,15 +69,6 @@ module _ {A : Type 0} where
   pub part-append-right : (k at n : ℕ) (a b : List A) → length a ≡ k → part (k + at) n (a ++ b) ≡ part at n b
   unfolding part
   part-append-right k at n a b e = ap (take n) (sym (drop-drop at k (a ++ b)) ∙ ap (drop at) (drop-at a b k e))
-
-  -- Across the seam.
-  pub part-append-across : (at n : ℕ) (a b : List A) → at ≤ length a → length a ≤ at + n → part at n (a ++ b) ≡ drop at a ++ take (at + n - length a) b
-  unfolding part
-  part-append-across at n a b h k =
-      let count : n ≡ length (drop at a) + (at + n - length a) = rw length-drop (omega arith) in
-      ap (take n) (drop-append-le at a b h)
-      ∙ ap (λ (m : ℕ). take m (drop at a ++ b)) count
-      ∙ take-append-add (drop at a) b (at + n - length a)
 
   -- The middle one of three lists.
   pub part-middle : (at n : ℕ) (a b c : List A) → length a ≡ at → length b ≡ n → part at n (a ++ (b ++ c)) ≡ b
@@ -148,6 +134,10 @@ module _ {A : Type 0} where
   splice-here at v l h =
       ap (λ (k : ℕ). part k (length v) (splice at v l)) (sym (add-zero at)) ∙ part-splice at 0 (length v) v l h (omega arith) ∙ part-all v
 
+  pub splice-front : (v l : List A) → take (length v) (splice 0 v l) ≡ v
+  unfolding part
+  splice-front v l = splice-here 0 v l (omega arith)
+
   pub splice-before : (at i n : ℕ) (v l : List A) → at ≤ length l → i + n ≤ at → part i n (splice at v l) ≡ part i n l
   splice-before at i n v l h k =
       sym (part-take i n at (splice at v l) k) ∙ ap (part i n) (take-splice at v l h) ∙ part-take i n at l k
@@ -199,12 +189,6 @@ module _ {A : Type 0} where
   unfolding splice
   splice-whole v l e = rw (zero-add, e, drop-of-length-le l {i = length l} (omega arith), append-nil)
 
-  pub splice-splice : (at : ℕ) (w v l : List A) → at ≤ length l → length w ≡ length v → splice at w (splice at v l) ≡ splice at w l
-  splice-splice at w v l h e =
-      ap (λ (k : ℕ). splice k w (splice at v l)) (sym (add-zero at))
-      ∙ splice-within at 0 w v l h (omega arith)
-      ∙ ap (λ (u : List A). splice at u l) (splice-whole w v e)
-
   pub splice-adjacent : (at : ℕ) (a b l : List A) → at ≤ length l → splice (at + length a) b (splice at a l) ≡ splice at (a ++ b) l
   unfolding splice part
   splice-adjacent at a b l h =
@@ -220,33 +204,12 @@ module _ {A : Type 0} where
   unfolding splice
   split at v l = rw (zero-add, drop-drop)
 
-  pub splice-comm : (i j : ℕ) (v w l : List A) → i + length v ≤ j → j ≤ length l → splice i v (splice j w l) ≡ splice j w (splice i v l)
-  splice-comm i j v w l h k =
-      let long : length (take j l) ≡ j = length-take-le j l k in
-      let within : i + length v ≤ length (take j l) = rw long h in
-      let front : List A = splice i v (take j l) in
-      let whole : splice i v l ≡ front ++ drop j l =
-      ap (splice i v) (sym (take-append-drop j l)) ∙ splice-append-left i v (take j l) (drop j l) within in
-      let place : length front ≡ j = length-splice i v (take j l) within ∙ long in
-      ap (splice i v) (split j w l)
-      ∙ splice-append-left i v (take j l) (splice 0 w (drop j l)) within
-      ∙ sym (split j w (splice i v l) ∙ rw (whole, take-at front (drop j l) j place, drop-at front (drop j l) j place))
-
-  -- A part's own elements, spliced back, and a splice inside a part.
+  -- A part's own elements, spliced back.
   pub splice-part : (at n : ℕ) (l : List A) → at + n ≤ length l → splice at (part at n l) l ≡ l
   unfolding splice part
   splice-part at n l h =
       let rest : part at n l ++ drop (at + n) l ≡ drop at l = rw (← drop-drop) (take-append-drop n (drop at l)) in
       rw (length-part at n l h, rest, take-append-drop)
-
-  pub part-of-splice : (at n i : ℕ) (w l : List A) → at + n ≤ length l → i + length w ≤ n → part at n (splice (at + i) w l) ≡ splice i w (part at n l)
-  part-of-splice at n i w l h k =
-      let within : i + length w ≤ length (part at n l) = rw (length-part at n l h) k in
-      let long : n ≡ length (splice i w (part at n l)) = sym (length-splice i w (part at n l) within ∙ length-part at n l h) in
-      ap (λ (m : List A). part at n (splice (at + i) w m)) (sym (splice-part at n l h))
-      ∙ ap (part at n) (splice-within at i w (part at n l) l (omega arith) within)
-      ∙ ap (λ (m : ℕ). part at m (splice at (splice i w (part at n l)) l)) long
-      ∙ splice-here at (splice i w (part at n l)) l (omega arith)
 
   -- A splice of one element is a store.
   pub splice-set : (at : ℕ) (a : A) (l : List A) → at < length l → splice at (a ∷ []) l ≡ set l at a

@@ -1,13 +1,13 @@
 -- Laws of `spread` and `table`. Assumes nothing.
-use Prim.Native.Nat.{ℕ, zero, suc, _+_, _*_, _≤_, _<_, zero-le, suc-le-suc}
+use Prim.Native.Nat.{ℕ, zero, suc, _+_, _*_, _<_, zero-le, suc-le-suc}
 use native.Mathlib.Omega.{arith}
 use native.Mathlib.Nat.{zero-mul, le-of-suc-le-suc, not-suc-le-zero, eq-or-lt-of-le}
 use native.Mathlib.Numerals.{add-one}
 use mathlib.Core.Path.{_≡_, refl, sym, ap, _∙_}
 use mathlib.Core.Logic.{_⊎_, inl, inr}
 use mathlib.Core.List.{List, [], _∷_, _++_, map, map-append, append-assoc, append-nil}
-use lib.ListN.{length, take, drop, getD, set, replicate, length-append, take-append-drop, replicate-append-replicate, List·getD-append}
-use lib.Seq.{getD-append-seam, ext-getD, take-at, drop-at, length-take-le}
+use lib.ListN.{length, getD, set, replicate, length-append, replicate-append-replicate, List·getD-append}
+use lib.Seq.{getD-append-seam, ext-getD}
 use Rattle.lists.specs.Parts.{part, splice, table, spread, Bytes}
 use Rattle.lists.proofs.Parts.{part-join, part-append-right, part-middle, splice-append-right, splice-middle}
 use Rattle.lists.proofs.Bytes.{Bytes-nil, Bytes-append}
@@ -53,20 +53,6 @@ module _ {A B : Type 0} where
         let place : suc k * w ≡ w + k * w = omega arith in
         rw place
         (splice-append-right w (k * w) (f a) (f b) (spread f l) (wide b) ∙ ap (λ (m : List B). f b ++ m) (splice-spread l k a (le-of-suc-le-suc h)))
-
-    pub take-spread : (k : ℕ) (l : List A) → k ≤ length l → take (k * w) (spread f l) ≡ spread f (take k l)
-    take-spread k l h =
-        let long : length (spread f (take k l)) ≡ k * w = length-spread (take k l) ∙ rw (length-take-le k l h) in
-        ap (λ (m : List A). take (k * w) (spread f m)) (sym (take-append-drop k l))
-        ∙ ap (take (k * w)) (spread-append f (take k l) (drop k l))
-        ∙ take-at (spread f (take k l)) (spread f (drop k l)) (k * w) long
-
-    pub drop-spread : (k : ℕ) (l : List A) → k ≤ length l → drop (k * w) (spread f l) ≡ spread f (drop k l)
-    drop-spread k l h =
-        let long : length (spread f (take k l)) ≡ k * w = length-spread (take k l) ∙ rw (length-take-le k l h) in
-        ap (λ (m : List A). drop (k * w) (spread f m)) (sym (take-append-drop k l))
-        ∙ ap (drop (k * w)) (spread-append f (take k l) (drop k l))
-        ∙ drop-at (spread f (take k l)) (spread f (drop k l)) (k * w) long
 
   -- An element that makes a repeat.
   pub spread-replicate : (f : A → List B) (a : A) (w : ℕ) (b : B) → f a ≡ replicate w b → (n : ℕ) → spread f (replicate n a) ≡ replicate (n * w) b

@@ -130,10 +130,6 @@ beq-true true false e = sym e
 beq-true false true e = e
 beq-true false false e = refl
 
-pub beq-refl : (a : Bool) → Bool·beq a a ≡ true
-beq-refl true = refl
-beq-refl false = refl
-
 -- ---- lists of tests
 
 pub allFrom-and : (b : Bool) (ts : List Bool) → allFrom b ts ≡ (b && all ts)

@@ -1,29 +1,27 @@
 -- The claims on the queue. Assumes nothing.
-use Prim.Native.Nat.{ℕ, zero, suc, _+_, _-_, _≤_, _<_, max}
+use Prim.Native.Nat.{ℕ, zero, suc, _+_, _-_, _≤_, _<_}
 use native.Mathlib.Omega.{arith}
-use native.Mathlib.Numerals.{add-one}
-use mathlib.Core.Path.{_≡_, refl, sym, ap, subst, _∙_}
+use mathlib.Core.Path.{_≡_, refl, sym, ap, _∙_}
 use mathlib.Core.Logic.{_⊎_, inl, inr}
-use mathlib.Core.List.{List, [], _∷_, _++_, map, append-assoc}
-use mathlib.Core.Bool.{Bool, true, false, cond, not, _&&_, and-false, and-true}
-use borrow.Author.Tests.{eq-eqb, ne-eqb, eqb-true, eqb-false, leb-true, le-leb, ltb-true, ltb-false, not-true, not-false}
-use lib.Dec.{T, ltb, leb, eqb, eqb→eq}
-use lib.ListN.{length, take, drop, getD, length-append, length-take, length-drop, length-map, length-set}
-use lib.Seq.{getD-take, length-take-le, take-suc-set, drop-set-lt, take-at, drop-at, getD-at, append-snoc, take-append-le, drop-append-le, set-append-left, getD-append-seam, take-append-seam}
-use Rattle.lists.specs.Table.{all, allFrom, applies, noRow, earlier, listed}
-use Rattle.lists.proofs.Tests.{cases, never-both, and-fails, T-and-left, to-T, from-T, and-in, and-left, and-right, or-cases}
-use Rattle.stamps.proofs.Stamp.{max-one, larger-old, SessionRules, session-rules}
+use mathlib.Core.List.{List, [], _∷_, _++_, map}
+use mathlib.Core.Bool.{Bool, true, false, cond, not, _&&_, and-false}
+use borrow.Author.Tests.{eq-eqb, eqb-true, eqb-false, ltb-true, ltb-false, not-true}
+use lib.Dec.{T, ltb, eqb, eqb→eq}
+use lib.ListN.{length, take, drop, getD, length-take, length-map}
+use lib.Seq.{getD-take, length-take-le, getD-at, getD-append-seam, take-append-seam}
+use Rattle.lists.specs.Table.{all, noRow, listed}
+use Rattle.lists.proofs.Tests.{cases, T-and-left, to-T, from-T, and-left, and-right, or-cases}
+use Rattle.stamps.proofs.Stamp.{larger-old, session-rules}
 use Rattle.lists.proofs.Table.{given, unapplied, first-all}
-use Rattle.stamps.specs.Stamp.{stampValid, deskNumber, deskStart, own, shared, exclusive, largerOfEach, noPair}
+use Rattle.stamps.specs.Stamp.{stampValid, deskNumber, deskStart, own, shared, exclusive}
 use Rattle.lock_queue_claims.specs.Claims.{EachNumber, Acceptance, RefusalLeaves, BlankAnswers, LookedWithin, StaysGood, JoinsEnd, GapClosed, FreedZeroed, OthersKept, LargestGrows, AskerHolds, LeaverHoldsNothing, HoldersShared, RoomAfterLeaving, NoDeskZero, BeyondLent, askNumbers, leaveNumbers, lapseNumbers, QueueListed}
-use Rattle.lock_queue.specs.Queue.{State, noWaiting, mostPlaces, standing, desk, desks, stands, firstPlace, looked, noExclusive, holdsAt, holds}
-use Rattle.lock_queue.specs.Good.{distinct, waitingFormed, within, good}
-use Rattle.lock_queue.specs.Requests.{joined, removed, without, modeOf, upgrading, onto, denied, Request, asks, leaves, lapses, queueRows, sender, applied, blankAnswer, answered, number, after, answer}
+use Rattle.lock_queue.specs.Queue.{State, noWaiting, standing, desk, desks, stands, firstPlace, looked, noExclusive, holdsAt, holds}
+use Rattle.lock_queue.specs.Good.{waitingFormed, good}
+use Rattle.lock_queue.specs.Requests.{joined, removed, without, modeOf, upgrading, Request, asks, leaves, lapses, queueRows, sender, applied, blankAnswer, answered, number, after, answer}
 use Rattle.lock_queue.specs.declared.Waiting.{Waiting}
-use Rattle.lock_queue.proofs.Checks.{good-unsized, good-out, good-by}
+use Rattle.lock_queue.proofs.Checks.{good-out}
 use Rattle.lock_queue.proofs.Standing.{stands-place, stands-append, map-append}
-use Rattle.lock_queue.proofs.Upgrades.{up-stands, absent-plain, onto-up, onto-plain}
-use Rattle.lock_queue.proofs.Judged.{each-once, no-row, accepted-good, accepted-after, refused-after, not-bad, ask-room, leave-stands, leave-place, lapse-leaves}
+use Rattle.lock_queue.proofs.Judged.{each-once, accepted-good, accepted-after, leave-place, lapse-leaves}
 use Rattle.lock_queue.proofs.Removed.{all-at, gone, removed-absent, stands-inside, place-desk, place-last, none-exclusive}
 use Rattle.lock_queue.proofs.After as queue-after
 use Rattle.lock_queue.proofs.After.{after-keeps, absent, joined-standing, joined-good, some-left, without-standing, without-good, up-left, up-lie, up-again, up-plain, plainly, onto-largest}

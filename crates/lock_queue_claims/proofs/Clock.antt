@@ -1,21 +1,21 @@
 -- Laws of f64 for leases: a fair wait is above zero, and the difference of two times is not where the clock went back; what is no number is out of
 -- range. Assumes nothing.
-use Prim.Native.Nat.{ℕ, zero, suc, _+_, _-_, _*_, _%_, _^_, _≤_, _<_, zero-le}
-use native.Mathlib.Nat.{mul-one, one-mul, mul-assoc, mul-comm, mul-left-comm, mul-pos, le-refl, le-trans, le-of-eq, lt-of-lt-of-le, not-le-of-lt, mul-le-mul-left, add-comm, sub-add-cancel}
+use Prim.Native.Nat.{ℕ, zero, suc, _+_, _-_, _*_, _%_, _^_, _≤_, _<_}
+use native.Mathlib.Nat.{mul-one, mul-assoc, mul-comm, mul-pos, le-trans, le-of-eq, lt-of-lt-of-le, not-le-of-lt, mul-le-mul-left, add-comm, sub-add-cancel}
 use native.Mathlib.Omega.{arith}
 use mathlib.Core.Path.{_≡_, refl, sym, ap, subst, _∙_}
-use mathlib.Core.Bool.{Bool, true, false, not, cond, _&&_, _||_}
+use mathlib.Core.Bool.{Bool, true, false, cond, _&&_}
 use mathlib.Core.Logic.{_⊎_, inl, inr}
-use borrow.Author.Tests.{leb-true, leb-false, not-false}
-use Rattle.lists.proofs.Tests.{cases, to-T, to-false}
+use borrow.Author.Tests.{leb-true, leb-false}
+use Rattle.lists.proofs.Tests.{cases}
 use lib.IntN.{ℤ, pos, negsuc}
-use lib.Dec.{T, ltb, leb, eqb, ltb→lt, leb→le, lt→ltb, eqb→eq, eqb·suc-zero}
+use lib.Dec.{T, ltb, leb, eqb, ltb→lt, leb→le, eqb→eq, eqb·suc-zero}
 use lib.Pow.{pow-add, pow-pos, pow-mono, pow-lt, shl-lt}
-use lib.Ieee.{Float, nan, inf, fin, Format, binary64, prec, emax, low, up, down, odd, units, round, sum, add, sub, mul, div, neg, lt, le, fits, ofInt}
+use lib.Ieee.{Float, nan, inf, fin, Format, binary64, prec, emax, low, up, down, odd, units, round, sum, add, sub, mul, div, lt, le, fits, ofInt}
 use lib.Ieee.Fits.{reach, up-pos, down-pos, and-l, and-r}
 use lib.Ieee.Exact.{HasValue, round-exact}
 use lib.Ieee.Order.{round-mono}
-use lib.Ieee.Positive.{num, den, positive, den-pos, above, above-of-le, positive-of-value, mul-at, own-value, le→cross}
+use lib.Ieee.Positive.{above, above-of-le, positive-of-value, le→cross}
 use lib.Ieee.Scale.{finite}
 use Rattle.floats.specs.Numbers.{wholeFloat, half}
 use Rattle.lock_queue.specs.declared.Lease.{Lease}

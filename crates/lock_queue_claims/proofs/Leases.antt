@@ -1,7 +1,7 @@
 -- The claims on leaving by lease. Assumes nothing.
 use Prim.Native.Nat.{ℕ}
-use mathlib.Core.Path.{_≡_, refl}
-use mathlib.Core.Bool.{Bool, true, false, not, _&&_}
+use mathlib.Core.Path.{_≡_}
+use mathlib.Core.Bool.{true, false, _&&_}
 use borrow.Author.Tests.{not-false}
 use lib.Dec.{T}
 use lib.Ieee.{binary64, sub, fits, lt}

@@ -3,23 +3,21 @@ use Prim.Native.Nat.{ℕ, _≤_}
 use native.Mathlib.Omega.{arith}
 use mathlib.Core.Path.{_≡_, refl, sym, ap, _∙_}
 use mathlib.Core.Logic.{_⊎_, inl, inr}
-use mathlib.Core.List.{map, _++_, [], _∷_}
-use mathlib.Core.Bool.{Bool, true, false, cond, not, _&&_, and-false}
-use borrow.Author.Tests.{eq-eqb, ne-eqb, eqb-false, not-true, not-false}
+use mathlib.Core.Bool.{Bool, true, false, not, _&&_, and-false}
+use borrow.Author.Tests.{eq-eqb, ne-eqb, not-true}
 use lib.Dec.{T, eqb}
 use lib.ListN.{length, getD}
 use lib.Seq.{length-take-le}
-use Rattle.lists.specs.Table.{all, applies}
-use Rattle.lists.proofs.Tests.{cases, never-both, to-T, from-T, and-in, and-left, and-right}
+use Rattle.lists.specs.Table.{applies}
+use Rattle.lists.proofs.Tests.{never-both, to-T, from-T, to-false, and-in, and-left, and-right}
 use Rattle.stamps.proofs.Stamp.{session-rules}
 use Rattle.stamps.specs.Stamp.{shared, exclusive}
 use Rattle.lock_queue.specs.Queue.{State, noWaiting, standing, desk, desks, stands, firstPlace}
 use Rattle.lock_queue.specs.Good.{waitingFormed, good}
-use Rattle.lock_queue.specs.Requests.{modeOf, upgrading, denied, asks, leaves, removed, queueRows, applied, number, after}
+use Rattle.lock_queue.specs.Requests.{modeOf, upgrading, asks, leaves, removed, queueRows, applied, number, after}
 use Rattle.lock_queue.specs.declared.Waiting.{Waiting}
 use Rattle.lock_queue.proofs.Checks.{good-out}
 use Rattle.lock_queue.proofs.Judged.{accepted-after, accepted-good}
-use Rattle.lock_queue.proofs.Upgrades.{up-stands}
 use Rattle.lock_queue_claims.specs.Upgrades.{AsksUpgrade, TwelveMeans, UpgradeByPair, UpgradeNeverFull, UpgradeIsBoth, NewcomerJoinsEnd, NewcomerHolds}
 use Rattle.lock_queue.proofs.After.{absent, up-left, up-again, up-same}
 use Rattle.lock_queue_claims.proofs.Claims.{each-number, joins-end, asker-holds}
@@ -122,11 +120,7 @@ twelve-means lent q new = (out, λ h. into (from-T (good lent q) (h .0)) (from-T
 
 module _ (lent : ℕ) (q : State) (new : Waiting) (lie : lent ≤ length (q .places)) (other : AsksUpgrade new q → ⊥) (e : number lent q (asks new) ≡ 0) where
   plain : upgrading (new .mode) (desk new) (standing q) ≡ false
-  plain = never-true (upgrading (new .mode) (desk new) (standing q)) other
-    where
-      never-true : (b : Bool) → (T b → ⊥) → b ≡ false
-      never-true true h = absurd (h tt)
-      never-true false h = refl
+  plain = to-false (upgrading (new .mode) (desk new) (standing q)) other
 
   same : removed (desk new) (standing q) ≡ standing q
   same = removed-absent (desk new) (standing q) (absent lent q new lie e plain)

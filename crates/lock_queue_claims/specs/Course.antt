@@ -1,6 +1,6 @@
 -- What is claimed of every list of requests to one queue, from the empty queue on (rules 7.3 and 7.16). Proved in proofs/Course.antt.
 -- Assumes nothing.
-use Prim.Native.Nat.{ℕ, _≤_, max}
+use Prim.Native.Nat.{ℕ, _≤_}
 use mathlib.Core.Path.{_≡_}
 use mathlib.Core.List.{List, [], _∷_, map}
 use mathlib.Core.Bool.{cond}

@@ -3,10 +3,10 @@ use Prim.Native.Nat.{ℕ, zero, suc, _+_, _%_, _≤_, _<_}
 use native.Mathlib.Omega.{arith}
 use mathlib.Core.Path.{_≡_, refl, sym, ap, subst, _∙_}
 use mathlib.Core.List.{List, [], _∷_, _++_, map, map-append, reverse, reverse-append}
-use mathlib.Core.Bool.{true, false}
+use mathlib.Core.Bool.{true}
 use borrow.Author.Tests.{le-leb, eq-eqb}
 use lib.Dec.{T, leb, eqb}
-use lib.ListN.{length, getD, List·getD-eq-default}
+use lib.ListN.{length, getD, length-map, List·getD-eq-default}
 use Rattle.lists.specs.Le.{le, toLe}
 use Rattle.lists.specs.Parts.{part, splice, table, spread, every, zeros}
 use Rattle.lists.specs.Table.{all, allFrom}
@@ -18,16 +18,16 @@ use Rattle.guard.specs.Judge.{behind, raise}
 use Rattle.guard.specs.Replies.{replied}
 use Rattle.formats.specs.declared.Format.the-variants.{V1, V2}
 use Rattle.image.specs.Layout.{shapeOk, sizeOf, mostCards, leastRoom, mostRoom, roomStep, mostBytes}
-use Rattle.image.specs.Bytes.{header, entryBytes, pad, readEntry, entryAt, countOf, roomOf}
+use Rattle.image.specs.Bytes.{header, entryBytes, pad, readEntry, entryAt}
 use Rattle.image.specs.Image.{Translation, Card, Cards, translationOf, noTranslation, noCard, text, bodies, encode, cardAt, decode, tailZero, translationSound, cardSound, headerSound, sound, fresh, freshCards, makes, GoodCards}
 use Rattle.image.specs.Convert.{widened, widenedCards, converted, convertNumber}
 use Rattle.image.proofs.Shape.{shape}
 use Rattle.image.proofs.Making.{made}
 use Rattle.image.proofs.Cards.{count-back, room-back}
 use Rattle.image_claims.proofs.Claims.{freshSound, goodEncodes}
-use Rattle.image_claims.proofs.Conversion.{length-map, getD-map, good-cards}
+use Rattle.image_claims.proofs.Conversion.{getD-map, good-cards}
 use Rattle.model.specs.Serve.{stepped, serveBy, serve}
-use Rattle.model.specs.Words.{Sent, Event, imageAfter, history, logOf, lastText, outdated}
+use Rattle.model.specs.Words.{Sent, Event, imageAfter, history, logOf, lastText}
 use Rattle.model.specs.Claims.{AllBytes}
 use Rattle.model.specs.Cases.{run}
 use Rattle.model.specs.Conversion.{imageBefore, logAcross, Demand3Across, StoryAcross}
@@ -82,7 +82,7 @@ tied-widened before k card tied =
 
 ties-widened : (cs : Cards) (before : List Event) → Ties V1 cs before → Ties V2 (widenedCards cs) before
 ties-widened cs before ties k below =
-    let there : k < length (cs .cards) = subst (λ (m : ℕ). k < m) (length-map (cs .cards)) below in
+    let there : k < length (cs .cards) = subst (λ (m : ℕ). k < m) (length-map (cs .cards) widened) below in
     subst (Tied V2 before k) (sym (getD-map (cs .cards) k there)) (tied-widened before k (getD (cs .cards) k (noCard V1)) (ties k there))
 
 -- No command changes the room.
@@ -140,7 +140,7 @@ module _ (n c : ℕ) (ok : T (shapeOk V2 n c)) (sent more : List Sent) (b : AllB
 
   told-across : Along (Told n) (eventsFrom V2 (widenedCards cs) (reverse more) ++ eventsFrom V1 (freshCards V1 n c) (reverse sent))
   told-across =
-      let size : length (widenedCards cs .cards) ≡ n = length-map (cs .cards) ∙ count-is in
+      let size : length (widenedCards cs .cards) ≡ n = length-map (cs .cards) widened ∙ count-is in
       let past = eventsFrom V1 (freshCards V1 n c) (reverse sent) in
       subst (λ (k : ℕ). Along (Told k) (eventsFrom V2 (widenedCards cs) (reverse more) ++ past)) size
       (told-all V2 (widenedCards cs) past (ties-widened cs past (fresh-ties V1 n c (reverse sent)))

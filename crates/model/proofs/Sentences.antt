@@ -7,10 +7,9 @@ use mathlib.Core.List.{List, [], _∷_}
 use mathlib.Core.Bool.{Bool, true, false, not, _&&_, or-false}
 use borrow.Author.Tests.{eqb-true, le-ltb, ltb-true, ltb-false}
 use lib.Dec.{ltb}
-use lib.ListN.{length, take, drop}
-use lib.Seq.{take-append-seam}
-use Rattle.lists.specs.Parts.{splice}
+use lib.ListN.{length, take}
 use Rattle.lists.specs.Search.{any}
+use Rattle.lists.proofs.Parts.{splice-front}
 use Rattle.lists.proofs.Tests.{to-T, from-T, cases}
 use Rattle.stamps.specs.Stamp.{stale, stampT, mostAhead, stampTooFar, tooFar, markFits}
 use Rattle.stamps.specs.declared.Pair.{Pair}
@@ -69,10 +68,6 @@ read-length original card c h = let act = eqb-true (c .act) 1 h in rw act
 read-length (translation t) card c h =
     let act = eqb-true (c .act) 2 (reads-act c t h) in
     subst (λ (j : ℕ). readLength (raise (view (c .language) card) c) c ≡ length (text (translation j) card)) (reads-named c t h) (rw act)
-
-take-splice : (v l : List ℕ) → take (length v) (splice 0 v l) ≡ v
-unfolding splice
-take-splice v l = take-append-seam v (drop (0 + length v) l)
 
 -- ---- one request
 
@@ -177,7 +172,7 @@ module _ (f : Format) (cs : Cards) (s : Sent) (before : List Event) (ties : Ties
   shown-text : (l : Language) → numberOn f cs s ≡ 0 → reads l c ≡ true → take (length (text l stored)) (event .reply) ≡ text l stored
   shown-text l e r =
       subst (λ (n : ℕ). take (length (text l stored)) (eventBy f n cs s .reply) ≡ text l stored) (sym e)
-      (rw (copy-text l stored c r) (take-splice (text l stored) (s .lent)))
+      (rw (copy-text l stored c r) (splice-front (text l stored) (s .lent)))
 
   pub told : Told (length (cs .cards)) event before
   told =

@@ -3,7 +3,7 @@ use Prim.Native.Nat.{ℕ}
 use mathlib.Core.Path.{_≡_, refl, sym, ap, _∙_}
 use mathlib.Core.Logic.{_↔_, _⊎_, inl, inr}
 use mathlib.Core.List.{List, [], _∷_, _++_}
-use mathlib.Core.Bool.{Bool, true, false, _&&_, _||_}
+use mathlib.Core.Bool.{Bool, true, false, _||_, and-false}
 use borrow.Author.Tests.{not-true}
 use Rattle.lists.proofs.Tests.{never-both, cases, and-right, or-fails, not-in}
 use Rattle.lists.specs.Search.{any, none, since, last}
@@ -59,7 +59,7 @@ module _ (t : ℕ) (before : List Event) (k : ℕ) where
       current : (e : Event) (m : Nearest translated e before) → none edited (m .among .front) ≡ true → outdated t before k ≡ true → ⊥
       current e m alone h =
           let own : edited e ≡ false =
-          and-false' (accepted k e) (no-original (commandOf e) t (and-right (accepted k e) (writes (translation t) (commandOf e)) (m .holds))) in
+          rw (no-original (commandOf e) t (and-right (accepted k e) (writes (translation t) (commandOf e)) (m .holds))) (and-false (accepted k e)) in
           let stands : since edited before ≡ m .among .front ++ (e ∷ since edited (m .among .back)) =
           ap (since edited) (m .among .split)
           ∙ since-past edited (m .among .front) (e ∷ m .among .back) alone
@@ -67,10 +67,6 @@ module _ (t : ℕ) (before : List Event) (k : ℕ) where
           let none-there : translated e ≡ false =
           none-means translated (since edited before) .0 h e (record { front = m .among .front; back = since edited (m .among .back); split = stands }) in
           never-both (m .holds) none-there
-        where
-          and-false' : (a : Bool) {b : Bool} → b ≡ false → (a && b) ≡ false
-          and-false' true e = e
-          and-false' false e = refl
 
       out : outdated t before k ≡ true → (any translated before ≡ true) ⊎ (any translated before ≡ false)
           → (none translated before ≡ true) ⊎ Overwritten t before k

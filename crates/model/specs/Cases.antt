@@ -26,8 +26,8 @@ pub record Got : Type 0 where
 unfoldable pub run : Format → List ℕ → List Sent → List Got
 run f image [] = []
 run f image (s ∷ later) =
-    record { answer = serve f image (s .command) (s .lent) .answer; reply = serve f image (s .command) (s .lent) .reply }
-    ∷ run f (serve f image (s .command) (s .lent) .image) later
+    let served = serve f image (s .command) (s .lent) in
+    record { answer = served .answer; reply = served .reply } ∷ run f (served .image) later
 
 -- What a run gets is what the log of demand 3 shows for the same requests.
 abbrev pub shown : Event → Got

@@ -3,7 +3,7 @@
 use Prim.Native.Nat.{ℕ}
 use mathlib.Core.Path.{_≡_}
 use mathlib.Core.List.{List, [], _∷_, _++_}
-use mathlib.Core.Bool.{Bool, cond}
+use mathlib.Core.Bool.{cond}
 use lib.Dec.{T}
 use Rattle.stamps.specs.Stamp.{largerOfEach, noPair}
 use Rattle.stamps.specs.declared.Pair.{Pair}

@@ -3,7 +3,7 @@
 use Prim.Native.Nat.{ℕ, _+_}
 use mathlib.Core.Path.{_≡_}
 use mathlib.Core.List.{List, [], _∷_, map, reverse}
-use mathlib.Core.Bool.{Bool, true, false, cond, not, _&&_, _||_}
+use mathlib.Core.Bool.{Bool, true, not, _&&_, _||_}
 use lib.Dec.{ltb, leb, eqb}
 use Rattle.lists.specs.Search.{any, none, since, last}
 use Rattle.stamps.specs.Stamp.{shared, exclusive, stampT, deskStart, mostAhead, noMark, markFits}
@@ -89,8 +89,8 @@ late before c = any (largerX (c .card) c) before || eqb (c .mode) exclusive && a
 abbrev pub inReach : (Pair → ℕ) → Command → Event → Bool
 inReach side c e = accepted (c .card) e && leb (stampT (side (update c))) (stampT (side (update (commandOf e))) + mostAhead)
 
--- On one side c is in reach neither from 0, with which every card begins, nor from an earlier accepted command for its card: its T is more than 1,000,000
--- above the largest.
+-- On one side c is in reach neither from 0, with which every card begins, nor from an earlier accepted command for its card: its T exceeds
+-- the largest by more than 1,000,000.
 abbrev pub outOfReach : (Pair → ℕ) → List Event → Command → Bool
 outOfReach side before c = ltb mostAhead (stampT (side (update c))) && none (inReach side c) before
 

@@ -1,9 +1,8 @@
 -- The input taken apart: the image's copy, the reply buffer and the stream; and the three cases of the output. Assumes nothing.
-use Prim.Native.Nat.{ℕ, zero, _+_, _-_, _*_, _/_, _≤_, _<_}
+use Prim.Native.Nat.{ℕ, zero, _+_, _-_, _≤_, _<_}
 use mathlib.Core.Path.{_≡_, refl, sym, ap, _∙_}
-use mathlib.Core.List.{List, [], _++_}
-use mathlib.Core.Bool.{Bool, true, false, cond}
-use lib.Dec.{ltb}
+use mathlib.Core.List.{List, _++_}
+use mathlib.Core.Bool.{Bool, true, false}
 use lib.ListN.{length, take, drop, replicate, length-drop, length-append}
 use lib.Seq.{take-at, take-length, length-take-le}
 use borrow.Author.Tests.{lt-ltb, le-ltb}

@@ -1,10 +1,8 @@
 -- The digits that the kit makes of a number are its decimal. Assumes nothing.
 use Prim.Native.Nat.{ℕ, zero, suc, _+_, _-_, _*_, _/_, _%_, _^_, _≤_, _<_}
 use native.Mathlib.Omega.{arith}
-use native.Mathlib.Nat.{pow-suc, pow-zero, one-le-pow, mod-lt, mod-eq-of-lt, le-div-iff-mul-le, div-lt-iff-lt-mul, pow-le-pow-right, le-of-suc-le-suc, lt-of-not-le}
-use mathlib.Core.Path.{_≡_, refl, sym, ap, _∙_}
-use mathlib.Core.List.{List, [], _∷_, _++_}
-use mathlib.Core.Bool.{cond}
+use native.Mathlib.Nat.{pow-suc, one-le-pow, mod-lt, mod-eq-of-lt, le-div-iff-mul-le, div-lt-iff-lt-mul, pow-le-pow-right, le-of-suc-le-suc, lt-of-not-le}
+use mathlib.Core.Path.{_≡_}
 use lib.Dec.{ltb, lit<}
 use borrow.Author.Tests.{lt-ltb, le-ltb}
 use Rattle.io.specs.Digits.{glyph, digits, Fewest}

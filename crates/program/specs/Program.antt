@@ -66,7 +66,7 @@ blankOf input = replicate (roomOf input) 0
 abbrev pub runOf : List ℕ → Run
 runOf input = runs V1 (imageOf input) (blankOf input) (commands V1 (streamOf input))
 
--- From the bytes of standard input to the bytes of standard output.
+-- Takes the bytes of standard input to those of standard output.
 unfoldable pub outputOf : List ℕ → List ℕ
 outputOf input =
     cond (ltb mostInput (length input)) (quoted "too long\n")

@@ -1,7 +1,7 @@
 -- The worked cases, by computation. Assumes nothing.
 use mathlib.Core.Path.{refl}
 use Rattle.lists.specs.Table.{all, allFrom}
-use Rattle.lock_queue.specs.Queue.{stands, looked, firstPlace, holds, holdsAt, noExclusive}
+use Rattle.lock_queue.specs.Queue.{stands, firstPlace}
 use Rattle.lock_queue.specs.Good.{distinct, good}
 use Rattle.lock_queue.specs.Requests.{joined, removed, without, upgrading, onto, answered, number, after, answer}
 use Rattle.proposals.specs.Propose.{learnt, nextT, pairFor, proposed}

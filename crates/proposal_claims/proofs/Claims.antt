@@ -1,22 +1,22 @@
 -- The claims on proposals. Assumes nothing.
-use Prim.Native.Nat.{ℕ, zero, suc, _+_, _*_, _/_, _%_, _≤_, _<_}
+use Prim.Native.Nat.{ℕ, zero, suc, _+_, _*_, _/_, _≤_, _<_}
 use native.Mathlib.Omega.{arith}
 use mathlib.Core.Path.{_≡_, refl, sym, ap, subst, _∙_}
 use mathlib.Core.Logic.{_⊎_, inl, inr}
 use mathlib.Core.List.{List, [], _∷_}
-use mathlib.Core.Bool.{Bool, true, false, cond, not, _&&_, _||_}
-use borrow.Author.Tests.{eqb-true, eqb-false, ltb-true, ltb-false, lt-ltb, ne-eqb, not-true}
+use mathlib.Core.Bool.{Bool, true, false, cond, not, _&&_}
+use borrow.Author.Tests.{eqb-false, ltb-true, ltb-false, ne-eqb, not-true}
 use lib.Dec.{T, eqb, ltb, ltb→lt}
 use Rattle.lists.specs.Table.{all, allFrom, listed}
-use Rattle.lists.proofs.Tests.{cases, to-T, from-T, and-in, and-left, and-right, T-or-cases, T-and-right, or-right, not-in}
-use Rattle.stamps.specs.Stamp.{stamp, deskNumber, deskStart, deskOf, own, stampValid, sessionChecks, shared, exclusive, stale, largerOfEach}
+use Rattle.lists.proofs.Tests.{cases, and-left, and-right, T-or-cases, T-and-right, not-in}
+use Rattle.stamps.specs.Stamp.{stamp, deskStart, deskOf, stampValid, sessionChecks, shared, exclusive, stale, largerOfEach}
 use Rattle.stamps.specs.declared.Pair.{Pair}
 use Rattle.lists.proofs.Table.{given, first-all}
 use Rattle.stamps.proofs.Stamp.{stamp-desk, stamp-desk-start, stamp-valid}
 use Rattle.lock_queue.specs.Queue.{State, desk}
 use Rattle.lock_queue.specs.declared.Waiting.{Waiting}
 use Rattle.lock_queue.specs.declared.Silence.{Silence}
-use Rattle.lock_queue.specs.Requests.{joined, without, Request, asks, leaves, lapses, denied, answered, number, after, answer}
+use Rattle.lock_queue.specs.Requests.{joined, without, Request, asks, leaves, lapses, answered, number, after, answer}
 use Rattle.lock_queue.proofs.Judged.{accepted-after}
 use Rattle.lock_queue.proofs.After.{refusal-leaves, onto-largest}
 use Rattle.lock_queue_claims.proofs.Claims.{each-number}
@@ -24,7 +24,7 @@ use Rattle.lock_queue_claims.specs.Course.{queueAfter}
 use Rattle.proposals.specs.declared.Known.{Known}
 use Rattle.proposals.specs.Propose.{learnt, nextT, ownAbove, lastT, pairFor, proposalRows, proposed}
 use Rattle.proposals.proofs.Propose.{made-rules, own-above, own-least, made-pair}
-use Rattle.proposal_claims.specs.Claims.{OfDesk, SmallestAbove, Smallest, Spent, Fine, WellProposed, entered, quiet, NotDenied, EachProposal, Unmoved, proposalNumbers, ProposalListed}
+use Rattle.proposal_claims.specs.Claims.{OfDesk, Smallest, Spent, WellProposed, entered, quiet, NotDenied, EachProposal, Unmoved, proposalNumbers, ProposalListed}
 
 -- A number with this desk and start is the stamp of its T.
 own-stamp : (desk start m : ℕ) → OfDesk desk start m → m ≡ stamp (m / 4294967296) desk start

@@ -7,7 +7,6 @@ use mathlib.Core.Bool.{true, false}
 use lib.ListN.{replicate}
 use Rattle.stamps.specs.Stamp.{stamp, shared, exclusive}
 use Rattle.lock_queue.specs.Queue.{State, noWaiting, emptyQueue}
-use Rattle.lock_queue.specs.declared.Waiting.{Waiting}
 use Rattle.lock_queue.specs.Numbers.{PAIR-DENIED}
 use Rattle.lock_queue.specs.Requests.{Request, asks, leaves, number, after, answer}
 use Rattle.proposals.specs.declared.Known.{Known}

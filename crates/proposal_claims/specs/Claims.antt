@@ -7,15 +7,13 @@ use mathlib.Core.List.{List, [], _∷_}
 use mathlib.Core.Bool.{Bool, true, false, not, _&&_}
 use lib.Dec.{T, eqb}
 use Rattle.lists.specs.Table.{all, applies, noRow, earlier, listed}
-use Rattle.stamps.specs.Stamp.{stamp, deskNumber, deskOf, stampValid, sessionChecks, shared, exclusive, noPair}
-use Rattle.stamps.specs.declared.Pair.{Pair}
+use Rattle.stamps.specs.Stamp.{deskNumber, deskOf, stampValid, sessionChecks, noPair}
 use Rattle.lock_queue.specs.Queue.{State}
 use Rattle.lock_queue.specs.declared.Waiting.{Waiting}
 use Rattle.lock_queue.specs.Numbers.{PAIR-DENIED}
 use Rattle.lock_queue.specs.Requests.{Request, asks, leaves, lapses, number, after, answer}
 use Rattle.lock_queue_claims.specs.Course.{queueAfter}
 use Rattle.proposals.specs.declared.Known.{Known}
-use Rattle.proposals.specs.declared.Proposed.{Proposed}
 use Rattle.proposals.specs.Propose.{learnt, nextT, ownAbove, lastT, proposalRows, proposed}
 
 -- A stamp of this desk and start.

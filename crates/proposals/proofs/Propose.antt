@@ -1,18 +1,17 @@
 -- Laws of proposals. Assumes nothing.
-use Prim.Native.Nat.{ℕ, _≤_, _<_, _+_, _*_, _/_}
+use Prim.Native.Nat.{ℕ, _≤_, _<_, _/_}
 use native.Mathlib.Omega.{arith}
-use mathlib.Core.Path.{_≡_, refl, sym, ap, _∙_}
+use mathlib.Core.Path.{_≡_, refl}
 use mathlib.Core.Logic.{_⊎_, inl, inr}
-use mathlib.Core.Bool.{Bool, true, false, cond, not, _&&_, _||_}
-use borrow.Author.Tests.{ltb-true, ltb-false, not-false, not-true, eqb-true, eqb-false, eq-eqb, ne-eqb}
+use mathlib.Core.Bool.{Bool, true, false, not, _&&_, _||_}
+use borrow.Author.Tests.{ltb-true, ltb-false, not-false, not-true, eqb-true, eqb-false}
 use lib.Dec.{ltb, eqb}
 use Rattle.lists.specs.Table.{first, settled, applies}
 use Rattle.lists.proofs.Table.{unapplied, none-applies, settled-new}
 use Rattle.lists.proofs.Tests.{cases, and-left, and-right, or-cases}
-use Rattle.stamps.specs.Stamp.{stamp, shared, exclusive, own, deskStart, noPair}
+use Rattle.stamps.specs.Stamp.{stamp, shared, exclusive, own, noPair}
 use Rattle.stamps.specs.declared.Pair.{Pair}
 use Rattle.proposals.specs.declared.Known.{Known}
-use Rattle.proposals.specs.declared.Proposed.{Proposed}
 use Rattle.proposals.specs.Propose.{learnt, nextT, ownAbove, lastT, pairFor, proposalRows, proposed}
 
 -- A proposal, field by field.
@@ -79,7 +78,3 @@ pair-exclusive k = refl
 pub made-pair : (k : Known) (mode : ℕ) → proposed k mode .number ≡ 0 → proposed k mode .pair ≡ pairFor k mode
 unfolding proposed
 made-pair k mode e = settled-new _ _ e
-
-pub made-known : (k : Known) (mode : ℕ) → proposed k mode .number ≡ 0 → proposed k mode .known ≡ learnt k (pairFor k mode)
-unfolding proposed
-made-known k mode e = settled-new _ _ e

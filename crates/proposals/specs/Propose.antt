@@ -3,7 +3,7 @@
 -- Assumes nothing.
 use Prim.Native.Nat.{ℕ, _+_}
 use mathlib.Core.List.{List, [], _∷_}
-use mathlib.Core.Bool.{Bool, cond, not, _&&_, _||_}
+use mathlib.Core.Bool.{cond, not, _&&_, _||_}
 use lib.Dec.{ltb, eqb}
 use Rattle.lists.specs.Table.{Row, row, first, settled}
 use Rattle.stamps.specs.Stamp.{MALFORMED, stamp, stampT, shared, exclusive, own, largerOfEach, noPair}

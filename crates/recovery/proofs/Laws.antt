@@ -4,7 +4,7 @@ use native.Mathlib.Omega.{arith}
 use native.Mathlib.Numerals.{add-one}
 use mathlib.Core.Path.{_≡_, refl, sym, ap, _∙_, subst}
 use mathlib.Core.List.{List, [], _∷_}
-use mathlib.Core.Bool.{Bool, true, false, not, _&&_, _||_}
+use mathlib.Core.Bool.{Bool, true, false, not, _&&_, _||_, and-false}
 use borrow.Author.Tests.{eq-eqb, ne-eqb, le-ltb}
 use lib.ListN.{length, List·getD-eq-default}
 use lib.Dec.{leb, eqb, lit<}
@@ -29,7 +29,7 @@ use Rattle.model.proofs.Sound.{stays-sound}
 use Rattle.store.specs.Carried.{carried}
 use Rattle.store.proofs.Step.{refusal, serve-malformed, serve-no-card, serve-found}
 use Rattle.redo_log.specs.Log.{LogRecord, goodLog, recordCount, startAt, lastBegun, kindAt, recordAt, records}
-use Rattle.redo_log.proofs.Records.{here, last-ext, update-length, synced-length, card-read, commit-read, synced-read}
+use Rattle.redo_log.proofs.Records.{here, record-kind, last-ext, update-length, synced-length, card-read, commit-read, synced-read}
 use Rattle.redo_log.proofs.ReadBack.{record-of}
 use Rattle.recovery_model.specs.Recovery.{recordIn, transactionIn, commitsTo, syncsFrom, due, entryFor}
 use Rattle.lists.specs.Search.{any}
@@ -67,10 +67,6 @@ module _ (p : LogRecord → Bool) (log : List ℕ) where
   sought-all i e h = rw e at h
 
 -- ---- a record of a good log
-
-record-kind : (log : List ℕ) (j : ℕ) → recordAt log j .kind ≡ kindAt log j
-unfolding recordAt
-record-kind log j = refl
 
 module _ (log : List ℕ) (j : ℕ) (g : goodLog log ≡ true) (h : j < recordCount log) where
   pub not-commit : (t : ℕ) → (kindAt log j ≡ 3 → ⊥) → commitsTo t (recordAt log j) ≡ false
@@ -119,11 +115,7 @@ module _ (image : List ℕ) (c : Command) (text : List ℕ) (e : sound V1 image 
   unfolding formed
   serve-bad w =
       serve-malformed V1 image (commandBytes V1 c text) [] e
-      (and-out (eqb (length (commandBytes V1 c text)) (fixed V1 + field 50 2 (commandBytes V1 c text)) && zeros (blanks V1 (commandBytes V1 c text))) (ap wellFormed (fields-command c text V1 f known) ∙ w))
-    where
-      and-out : (a : Bool) {b : Bool} → b ≡ false → (a && b) ≡ false
-      and-out true h = h
-      and-out false h = refl
+      (rw (ap wellFormed (fields-command c text V1 f known) ∙ w) (and-false (eqb (length (commandBytes V1 c text)) (fixed V1 + field 50 2 (commandBytes V1 c text)) && zeros (blanks V1 (commandBytes V1 c text)))))
 
   module _ (w : wellFormed c ≡ true) where
     pub serve-none : cardsOf image ≤ c .card → serve V1 image (commandBytes V1 c text) [] ≡ refusal (refused 2) image []

@@ -2,7 +2,6 @@
 pub mod inner;
 
 ghost use mathlib.Core.Path.{_≡_};
-ghost use Rattle.formats.specs.declared.Format.the-variants.{V1};
 ghost use Rattle.recovery_model.specs.Recovery.{recovered};
 ghost use Rattle.recovery.specs.Step.{pairsOf, recoveryAnswer};
 

@@ -3,7 +3,7 @@ use Prim.Native.Nat.{ℕ, zero, suc, _+_, _≤_, _<_}
 use native.Mathlib.Omega.{arith}
 use mathlib.Core.Path.{_≡_, refl, sym, ap, _∙_, subst}
 use mathlib.Core.Logic.{_⊎_, inl, inr}
-use mathlib.Core.List.{List, [], _∷_, _++_, reverse, reverseAux}
+use mathlib.Core.List.{List, [], _∷_, _++_, reverse}
 use mathlib.Core.Bool.{Bool, true, false, cond}
 use borrow.Author.Tests.{ltb-true, ltb-false}
 use lib.ListN.{length, getD, length-drop, List·getD-eq-default}
@@ -25,7 +25,7 @@ use Rattle.model.specs.Words.{Sent, imageAfter}
 use Rattle.model.specs.Claims.{SentBytes, AllBytes}
 use Rattle.model.proofs.Machine.{cardsFrom}
 use Rattle.model.proofs.Simulation.{all-good, same-images}
-use Rattle.model.proofs.Demand.{demand3}
+use Rattle.model.proofs.Demand.{bytes-reverse, demand3}
 use Rattle.redo_log.specs.Log.{LogRecord, recordCard, recordSide, recordText, recordCount, recordAt, startAt, lengthAt, goodLog, records}
 use Rattle.redo_log.proofs.Records.{short-record}
 use Rattle.redo_log.proofs.ReadBack.{length-records, record-of}
@@ -167,10 +167,6 @@ same-mixed start (oneRecovery pairs log ∷ before) =
 bytes-append : (a b : List Sent) → AllBytes a → AllBytes b → AllBytes (a ++ b)
 bytes-append [] b x y = y
 bytes-append (s ∷ a) b x y = (x .0, bytes-append a b (x .1) y)
-
-bytes-reverse : (sent more : List Sent) → AllBytes sent → AllBytes more → AllBytes (reverseAux sent more)
-bytes-reverse [] more b m = m
-bytes-reverse (s ∷ sent) more b m = bytes-reverse sent (s ∷ more) (b .1) (b .0, m)
 
 pub bytes-mixed : (cs : Cards) → GoodCards V1 cs → (deeds : List Deed) → FitsDeeds deeds → AllBytes (requestsOfDeeds (encode V1 cs) deeds)
 unfolding requestsOfDeeds

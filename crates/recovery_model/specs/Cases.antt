@@ -8,22 +8,16 @@ use Rattle.formats.specs.declared.Format.the-variants.{V1}
 use Rattle.commands.specs.Command.{original, translation}
 use Rattle.commands.specs.Bytes.{commandBytes}
 use Rattle.stamps.specs.Stamp.{noPair}
-use Rattle.image.specs.Image.{fresh, sound}
+use Rattle.image.specs.Image.{fresh}
 use Rattle.model.specs.Serve.{serve}
-use Rattle.model.specs.Cases.{stamp1, writeOriginal}
+use Rattle.model.specs.Cases.{stamp1, text205, text401, writeOriginal}
 use Rattle.redo_log.specs.Log.{LogRecord}
 use Rattle.redo_log_claims.specs.Claims.{cutAfter}
 use Rattle.redo_log_claims.specs.Cases.{beginOf, updateOf, commitOf, syncedOf, emptyLog}
 use Rattle.recovery_model.specs.Recovery.{Pairs, Recovery, entryFor, recovering, recovered}
 use Rattle.recovery_model.specs.Claims.{textIn}
 
--- Two texts, and one of 17 bytes.
-abbrev pub text1 : List ℕ
-text1 = 50 ∷ 48 ∷ 53 ∷ []
-
-abbrev pub text2 : List ℕ
-text2 = 52 ∷ 48 ∷ 49 ∷ []
-
+-- A text of 17 bytes.
 abbrev pub text17 : List ℕ
 text17 = replicate 17 97
 
@@ -91,43 +85,43 @@ recoveryCase rs pairs start gives line first second =
 abbrev pub recoveryCases : List RecoveryCase
 recoveryCases =
     -- both texts of a committed transaction; none of an uncommitted one; the last of two
-    recoveryCase (beginOf 1 ∷ updateOf 0 1 text1 ∷ updateOf 0 2 text2 ∷ commitOf 1 ∷ []) pairs1 blankImage 0 0 text1 text2
-    ∷ recoveryCase (beginOf 1 ∷ updateOf 0 1 text1 ∷ beginOf 2 ∷ updateOf 0 1 text2 ∷ commitOf 2 ∷ []) pairs1 blankImage 0 0 text2 []
-    ∷ recoveryCase (beginOf 1 ∷ updateOf 0 1 text1 ∷ updateOf 0 1 text2 ∷ commitOf 1 ∷ []) pairs1 blankImage 0 0 text2 []
+    recoveryCase (beginOf 1 ∷ updateOf 0 1 text205 ∷ updateOf 0 2 text401 ∷ commitOf 1 ∷ []) pairs1 blankImage 0 0 text205 text401
+    ∷ recoveryCase (beginOf 1 ∷ updateOf 0 1 text205 ∷ beginOf 2 ∷ updateOf 0 1 text401 ∷ commitOf 2 ∷ []) pairs1 blankImage 0 0 text401 []
+    ∷ recoveryCase (beginOf 1 ∷ updateOf 0 1 text205 ∷ updateOf 0 1 text401 ∷ commitOf 1 ∷ []) pairs1 blankImage 0 0 text401 []
     -- synced as of an earlier transaction, of that one, of a higher one, wherever it stands; and another card
-    ∷ recoveryCase (syncedOf 0 1 ∷ beginOf 2 ∷ updateOf 0 1 text1 ∷ commitOf 2 ∷ []) pairs1 blankImage 0 0 text1 []
-    ∷ recoveryCase (syncedOf 0 2 ∷ beginOf 2 ∷ updateOf 0 1 text1 ∷ commitOf 2 ∷ []) pairs1 blankImage 0 0 [] []
-    ∷ recoveryCase (beginOf 2 ∷ updateOf 0 1 text1 ∷ commitOf 2 ∷ syncedOf 0 3 ∷ []) pairs1 blankImage 0 0 [] []
-    ∷ recoveryCase (syncedOf 1 2 ∷ beginOf 2 ∷ updateOf 0 1 text1 ∷ commitOf 2 ∷ []) pairs1 blankImage 0 0 text1 []
+    ∷ recoveryCase (syncedOf 0 1 ∷ beginOf 2 ∷ updateOf 0 1 text205 ∷ commitOf 2 ∷ []) pairs1 blankImage 0 0 text205 []
+    ∷ recoveryCase (syncedOf 0 2 ∷ beginOf 2 ∷ updateOf 0 1 text205 ∷ commitOf 2 ∷ []) pairs1 blankImage 0 0 [] []
+    ∷ recoveryCase (beginOf 2 ∷ updateOf 0 1 text205 ∷ commitOf 2 ∷ syncedOf 0 3 ∷ []) pairs1 blankImage 0 0 [] []
+    ∷ recoveryCase (syncedOf 1 2 ∷ beginOf 2 ∷ updateOf 0 1 text205 ∷ commitOf 2 ∷ []) pairs1 blankImage 0 0 text205 []
     -- what was written before a refusal stays, and nothing is written after it
-    ∷ recoveryCase (beginOf 1 ∷ updateOf 0 1 text1 ∷ updateOf 0 1 text17 ∷ updateOf 0 1 text2 ∷ commitOf 1 ∷ []) pairs1 blankImage 5 2 text1 []
+    ∷ recoveryCase (beginOf 1 ∷ updateOf 0 1 text205 ∷ updateOf 0 1 text17 ∷ updateOf 0 1 text401 ∷ commitOf 1 ∷ []) pairs1 blankImage 5 2 text205 []
     -- no pair, no original for a translation, no such card, an older pair, no sound image
-    ∷ recoveryCase (beginOf 1 ∷ updateOf 0 1 text1 ∷ commitOf 1 ∷ []) noPairs blankImage 1 1 [] []
-    ∷ recoveryCase (beginOf 1 ∷ updateOf 0 2 text1 ∷ commitOf 1 ∷ []) pairs1 blankImage 1 1 [] []
-    ∷ recoveryCase (beginOf 1 ∷ updateOf 9 1 text1 ∷ commitOf 1 ∷ []) (record { s = replicate 10 65536; x = replicate 10 65536 }) blankImage 2 1 [] []
-    ∷ recoveryCase (beginOf 1 ∷ updateOf 0 1 text1 ∷ commitOf 1 ∷ []) pairs1 markedImage 3 1 [] []
-    ∷ recoveryCase (beginOf 1 ∷ updateOf 0 1 text1 ∷ commitOf 1 ∷ []) pairs1 (take 143 blankImage) 9 1 [] []
+    ∷ recoveryCase (beginOf 1 ∷ updateOf 0 1 text205 ∷ commitOf 1 ∷ []) noPairs blankImage 1 1 [] []
+    ∷ recoveryCase (beginOf 1 ∷ updateOf 0 2 text205 ∷ commitOf 1 ∷ []) pairs1 blankImage 1 1 [] []
+    ∷ recoveryCase (beginOf 1 ∷ updateOf 9 1 text205 ∷ commitOf 1 ∷ []) (record { s = replicate 10 65536; x = replicate 10 65536 }) blankImage 2 1 [] []
+    ∷ recoveryCase (beginOf 1 ∷ updateOf 0 1 text205 ∷ commitOf 1 ∷ []) pairs1 markedImage 3 1 [] []
+    ∷ recoveryCase (beginOf 1 ∷ updateOf 0 1 text205 ∷ commitOf 1 ∷ []) pairs1 (take 143 blankImage) 9 1 [] []
     -- a stored mark is expected and stays
-    ∷ recoveryCase (beginOf 1 ∷ updateOf 0 1 text1 ∷ commitOf 1 ∷ []) pairs2 markedImage 0 0 text1 []
+    ∷ recoveryCase (beginOf 1 ∷ updateOf 0 1 text205 ∷ commitOf 1 ∷ []) pairs2 markedImage 0 0 text205 []
     ∷ []
 
 -- Two transactions appended one after the other. The first takes 16, 18 and 16 stores, the second 16, 18 and 16.
 abbrev pub twoTransactions : List LogRecord
-twoTransactions = beginOf 1 ∷ updateOf 0 1 text1 ∷ commitOf 1 ∷ beginOf 2 ∷ updateOf 0 1 text2 ∷ commitOf 2 ∷ []
+twoTransactions = beginOf 1 ∷ updateOf 0 1 text205 ∷ commitOf 1 ∷ beginOf 2 ∷ updateOf 0 1 text401 ∷ commitOf 2 ∷ []
 
 abbrev pub recoveredCut : ℕ → Recovery
 recoveredCut k = recovered pairs1 (cutAfter k (emptyLog 64) twoTransactions) blankImage
 
 pub record RecoveryCases : Type 0 where
   pub cases : AllRecover recoveryCases
-  pub mark : entryFor (recovering pairs2 (beginOf 1 ∷ updateOf 0 1 text1 ∷ commitOf 1 ∷ []) markedImage 3 .image) 0 .mark ≡ record { desk = 5; transaction = 7 }
+  pub mark : entryFor (recovering pairs2 (beginOf 1 ∷ updateOf 0 1 text205 ∷ commitOf 1 ∷ []) markedImage 3 .image) 0 .mark ≡ record { desk = 5; transaction = 7 }
   -- what is sent is the plain write under the given pair, with no update pair of its own
-  pub plain : recovering pairs1 (beginOf 1 ∷ updateOf 0 1 text1 ∷ commitOf 1 ∷ []) blankImage 3 .sent ≡ writeOriginal stamp1 stamp1 text1 ∷ []
+  pub plain : recovering pairs1 (beginOf 1 ∷ updateOf 0 1 text205 ∷ commitOf 1 ∷ []) blankImage 3 .sent ≡ writeOriginal stamp1 stamp1 text205 ∷ []
   -- cut one store before the end of the first commit, at its end, one store before the end of the second, at its end
   pub cut49 : (recoveredCut 49 .number ≡ 0) × (textIn (recoveredCut 49 .image) original 0 ≡ [])
-  pub cut50 : (recoveredCut 50 .number ≡ 0) × (textIn (recoveredCut 50 .image) original 0 ≡ text1)
-  pub cut99 : (recoveredCut 99 .number ≡ 0) × (textIn (recoveredCut 99 .image) original 0 ≡ text1)
-  pub cut100 : (recoveredCut 100 .number ≡ 0) × (textIn (recoveredCut 100 .image) original 0 ≡ text2)
+  pub cut50 : (recoveredCut 50 .number ≡ 0) × (textIn (recoveredCut 50 .image) original 0 ≡ text205)
+  pub cut99 : (recoveredCut 99 .number ≡ 0) × (textIn (recoveredCut 99 .image) original 0 ≡ text205)
+  pub cut100 : (recoveredCut 100 .number ≡ 0) × (textIn (recoveredCut 100 .image) original 0 ≡ text401)
   -- a second run under the same pairs: no write is refused, and the original is one edition on
   pub again : recovered pairs1 (cutAfter 100 (emptyLog 64) twoTransactions) (recoveredCut 100 .image) .number ≡ 0
   -- a bad log

@@ -127,7 +127,7 @@ shaped-synced : (body : List ℕ) → shaped (record { kind = 4; body = body }) 
 unfolding shaped
 shaped-synced body e = eqb-true (length body) 6 (and-right (ltb (length body) 65536) _ e)
 
-record-kind : (log : List ℕ) (i : ℕ) → recordAt log i .kind ≡ kindAt log i
+pub record-kind : (log : List ℕ) (i : ℕ) → recordAt log i .kind ≡ kindAt log i
 unfolding recordAt
 record-kind log i = refl
 

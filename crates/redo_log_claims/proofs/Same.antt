@@ -8,7 +8,7 @@ use lib.Seq.{getD-take, getD-drop, ext-getD}
 use Rattle.lists.specs.Parts.{part, table, every}
 use Rattle.lists.specs.Le.{le, field}
 use Rattle.lists.proofs.Every.{every-ext}
-use Rattle.redo_log.specs.Log.{bodiesFrom, kindAt, lengthAt, linePlace, startAt, recordAt, lastBegun, opened, recordOk, records}
+use Rattle.redo_log.specs.Log.{bodiesFrom, kindAt, lengthAt, linePlace, startAt, recordAt, lastBegun, opened, recordOk}
 use Rattle.redo_log.proofs.Records.{start-next, last-ext, opened-ext}
 
 pub record Same (n : ℕ) (a b : List ℕ) : Type 0 where

@@ -5,7 +5,7 @@ use native.Mathlib.Nat.{mod-lt}
 use mathlib.Core.Path.{_≡_, refl, sym, ap, _∙_, subst}
 use mathlib.Core.Logic.{_⊎_, inl, inr}
 use mathlib.Core.List.{List, [], _∷_, _++_}
-use mathlib.Core.Bool.{true, not, _&&_, _||_}
+use mathlib.Core.Bool.{true, _&&_, _||_}
 use borrow.Author.Tests.{eq-eqb, le-leb, ltb-true, eqb-true}
 use lib.ListN.{length, take, getD}
 use lib.Seq.{take-all}

@@ -9,7 +9,7 @@ use lib.Dec.{eqb, lit<}
 use lib.ListN.{length, take, drop, getD, set, replicate, length-set, length-take, drop-of-length-le}
 use Rattle.lists.specs.Parts.{part, splice, zeros}
 use Rattle.lists.specs.Le.{le}
-use Rattle.lists.proofs.Parts.{drop-left, splice-nil, splice-cons, splice-here}
+use Rattle.lists.proofs.Parts.{drop-left, splice-nil, splice-cons}
 use Rattle.lists.proofs.Le.{le-from, digit}
 
 -- A loop that writes v over s₀ from place `at` on, one element after the other: it has made `s` when it has written i elements,
@@ -75,11 +75,7 @@ unfolding zeros
 zeros-done true i l h = rw (drop-of-length-le l h)
 zeros-done false i l h = refl
 
--- Nothing written leaves everything, and what was written to the front is the front.
+-- Nothing written leaves everything.
 pub none-written : (at : ℕ) (v l : List ℕ) → length v ≡ 0 → l ≡ splice at v l
 none-written at [] l e = sym (splice-nil at l)
 none-written at (a ∷ v) l e = absurd (omega arith)
-
-pub front-written : (v l : List ℕ) → take (length v) (splice 0 v l) ≡ v
-unfolding part
-front-written v l = splice-here 0 v l (omega arith)

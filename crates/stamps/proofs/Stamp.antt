@@ -1,5 +1,5 @@
 -- Laws of stamps, pairs and staleness. Assumes nothing.
-use Prim.Native.Nat.{ℕ, _+_, _*_, _-_, _/_, _≤_, _<_, max}
+use Prim.Native.Nat.{ℕ, _+_, _*_, _-_, _≤_, _<_, max}
 use native.Mathlib.Omega.{arith}
 use mathlib.Core.Path.{_≡_, sym, ap, subst, _∙_}
 use mathlib.Core.Logic.{_⊎_, inl, inr}
@@ -19,15 +19,8 @@ module _ (t : ℕ) {desk start : ℕ} (d : desk < 65536) (i : start < 65536) whe
   pub stamp-desk : deskNumber (stamp t desk start) ≡ desk
   stamp-desk = omega arith
 
-  pub stamp-t : stampT (stamp t desk start) ≡ t
-  stamp-t = omega arith
-
   pub stamp-valid : (desk ≡ 0 → ⊥) → stampValid (stamp t desk start) ≡ true
   stamp-valid h = or-right (eqb (stamp t desk start) 0) (not-in (ne-eqb (deskNumber (stamp t desk start)) 0 (λ e. h (sym stamp-desk ∙ e))))
-
-  -- Stamps are compared by T first.
-  pub stamp-later : {later : ℕ} (desk' start' : ℕ) → t < later → stamp t desk start < stamp later desk' start'
-  stamp-later desk' start' h = omega arith
 
 -- The larger of two numbers is one of them.
 pub max-one : (P : ℕ → Type 0) (a b : ℕ) → P a → P b → P (max a b)
@@ -86,9 +79,6 @@ near-raises old new h =
 -- The larger of each is at least both.
 pub larger-old : (old new : Pair) → (old .s ≤ largerOfEach old new .s) × (old .x ≤ largerOfEach old new .x)
 larger-old old new = omega arith
-
-pub larger-new : (old new : Pair) → (new .s ≤ largerOfEach old new .s) × (new .x ≤ largerOfEach old new .x)
-larger-new old new = omega arith
 
 -- The rules of a mode and a pair, one by one.
 pub record SessionRules (m : ℕ) (pair : Pair) : Type 0 where

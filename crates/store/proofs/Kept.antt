@@ -22,7 +22,7 @@ use Rattle.formats.specs.declared.Format.{Format}
 use Rattle.formats.specs.Format.{translations, entrySize}
 use Rattle.image.specs.Layout.{headerSize, mostRoom, sides, entryPlace, bodyPlace}
 use Rattle.image.specs.Bytes.{entryBytes, pad, countOf, roomOf, entryAt}
-use Rattle.image.specs.Image.{Card, Translation, translationOf, view, sideText, noCard, withCard, cardEntry, bodies, translationAt, cardAt, encode, decode, tailZero, sound}
+use Rattle.image.specs.Image.{Card, view, sideText, withCard, cardEntry, bodies, translationAt, cardAt, encode, decode, tailZero, sound}
 use Rattle.image.proofs.Encode.{length-pad}
 use Rattle.image.proofs.Entry.{entryBytes-ext}
 use Rattle.image.proofs.Decode.{count-decode, room-decode, card-decode, view-at, entry-lies, body-lies, sideLength, side-fits, side-tail, places, entry-back, long, encode-decode}
@@ -153,9 +153,6 @@ module _ (f : Format) (image : List ℕ) (b : Bytes image) (holds : T (sound f i
     unfolding textWritten
     keeps = go (writes original c) (writesTranslation c) refl refl
       where
-        none-else : writesTranslation c ≡ false → (j : ℕ) → writes (translation j) c ≡ false
-        none-else q j = rw q
-
         only-original : writes original c ≡ true → (j : ℕ) → (j ≡ 0 → ⊥) → writesSide f card c t size listed j ≡ false
         only-original p zero apart = absurd (apart refl)
         only-original p (suc j) apart = let act = eqb-true (c .act) 3 p in rw act

@@ -3,3 +3,4 @@ pub mod Kept
 pub mod Step
 pub mod Running
 pub mod One
+pub mod Line

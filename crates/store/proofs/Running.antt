@@ -1,9 +1,9 @@
--- Laws of a run: what the loop of `run_checked` keeps. Assumes nothing.
+-- Laws of a run: what the loop of `many` keeps. Assumes nothing.
 use Prim.Native.Nat.{ℕ, suc, _+_, _-_, _*_, _/_, _≤_, _<_}
 use native.Mathlib.Omega.{arith}
 use native.Mathlib.Nat.{zero-add, sub-zero}
 use mathlib.Core.Path.{_≡_, refl, sym, ap, _∙_}
-use mathlib.Core.List.{List, [], _∷_, _++_}
+use mathlib.Core.List.{List, [], _++_}
 use lib.ListN.{length, take, drop, length-append}
 use lib.Seq.{take-nil}
 use Rattle.formats.specs.declared.Format.{Format}

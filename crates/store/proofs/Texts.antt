@@ -15,7 +15,7 @@ use Rattle.guard.specs.declared.Entry.{Entry}
 use Rattle.guard.specs.Replies.{readLength}
 use Rattle.formats.specs.declared.Format.{Format}
 use Rattle.formats.specs.Format.{translations}
-use Rattle.image.specs.Layout.{mostRoom, sides, bodyPlace}
+use Rattle.image.specs.Layout.{mostRoom, bodyPlace}
 use Rattle.image.specs.Bytes.{countOf, roomOf, readEntry, entryAt}
 use Rattle.image.specs.Image.{Card, Translation, cardAt, sound}
 use Rattle.image.proofs.Decode.{side-fits, body-lies, places, translation-at}

@@ -29,7 +29,7 @@ textWritten f image c text =
     (bodyWritten f image (c .card) 0 text)
     (cond (writesTranslation c) (bodyWritten f image (c .card) (suc (c .language)) text) image)
 
--- ---- One well-formed command for a card that exists, on a sound image, in the terms of the step's own functions: the judging entry, and what is
+-- ---- One well-formed command for an existing card, on a sound image, in the terms of the step's own functions: the judging entry, and what is
 -- left. A request as a whole is `serve`.
 
 -- The entry of the card that a command names, as seen in the translation that it names, judges it.

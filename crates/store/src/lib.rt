@@ -38,14 +38,30 @@ pub struct Ran {
     pub end: usize,
 }
 
-// Judges the whole commands of a stream in their order, as `answer` does, with the image checked once. The number and the seven reply fields of each
-// answer are written to `lines`, end to end; where no room is left for them the run stops, and can be gone on with from `end`.
+// Judges the whole commands of a stream of a version in their order, as `answer_as` does, with the image checked once. The number and the seven reply
+// fields of each answer are written to `lines`, end to end; where no room is left for them the run stops, and can be gone on with from `end`.
+pub fn run_as(
+    f: Format,
+    image: &mut [u8],
+    stream: &[u8],
+    reply: &mut [u8],
+    lines: &mut [u64],
+) -> Ran
+    ensures ran { λ r. ⌜ r ≡ ranOf f (now (stream .entry)) (length (now (lines .entry))) ⌝ }
+    ensures image { λ _. ⌜ now (image .exit) ≡ runs f (now (image .entry)) (now (reply .entry)) (judgedOf f (now (stream .entry)) (length (now (lines .entry)))) .image ⌝ }
+    ensures reply { λ _. ⌜ now (reply .exit) ≡ runs f (now (image .entry)) (now (reply .entry)) (judgedOf f (now (stream .entry)) (length (now (lines .entry)))) .reply ⌝ }
+    ensures lines { λ _. ⌜ now (lines .exit) ≡ splice 0 (lined (runs f (now (image .entry)) (now (reply .entry)) (judgedOf f (now (stream .entry)) (length (now (lines .entry)))))) (now (lines .entry)) ⌝ }
+{
+    let checked = image::sound_as(f, image);
+    inner::run::many(f, image, stream, reply, checked, lines)
+}
+
+// A run of version 1, as `run_as` does it, with the version handed on as a plain value.
 pub fn run(image: &mut [u8], stream: &[u8], reply: &mut [u8], lines: &mut [u64]) -> Ran
     ensures ran { λ r. ⌜ r ≡ ranOf V1 (now (stream .entry)) (length (now (lines .entry))) ⌝ }
     ensures image { λ _. ⌜ now (image .exit) ≡ runs V1 (now (image .entry)) (now (reply .entry)) (judgedOf V1 (now (stream .entry)) (length (now (lines .entry)))) .image ⌝ }
     ensures reply { λ _. ⌜ now (reply .exit) ≡ runs V1 (now (image .entry)) (now (reply .entry)) (judgedOf V1 (now (stream .entry)) (length (now (lines .entry)))) .reply ⌝ }
     ensures lines { λ _. ⌜ now (lines .exit) ≡ splice 0 (lined (runs V1 (now (image .entry)) (now (reply .entry)) (judgedOf V1 (now (stream .entry)) (length (now (lines .entry)))))) (now (lines .entry)) ⌝ }
 {
-    let checked = image::sound(image);
-    inner::run::run_checked(Format::V1, image, stream, reply, checked, lines)
+    inner::run::run_of(formats::inner::FIRST, image, stream, reply, lines)
 }

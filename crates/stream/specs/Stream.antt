@@ -3,7 +3,7 @@
 use Prim.Native.Nat.{ℕ, zero, suc, _+_, _≤_}
 use mathlib.Core.Path.{_≡_}
 use mathlib.Core.List.{List, [], _∷_}
-use mathlib.Core.Bool.{Bool, cond, _&&_}
+use mathlib.Core.Bool.{Bool, true, false, cond, _&&_}
 use lib.Dec.{leb}
 use lib.ListN.{length, take, drop}
 use Rattle.formats.specs.declared.Format.{Format}
@@ -36,6 +36,11 @@ nextAt v stream at = cond (whole v (drop at stream)) (Whole (at + extent v (drop
 abbrev pub onward : ℕ → Next → ℕ
 onward at (Whole end) = end
 onward at Cut = at
+
+-- A whole command stands there.
+abbrev pub isWhole : Next → Bool
+isWhole (Whole end) = true
+isWhole Cut = false
 
 -- The whole commands of a stream, in order, up to the first that is not whole. Each takes at least one byte, so that as many steps as there
 -- are bytes are enough.

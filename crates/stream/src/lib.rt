@@ -1,4 +1,6 @@
 // A stream: commands end to end, and a reader of it, which has the lent stream and a place in it.
+pub mod inner;
+
 ghost use mathlib.Core.Path.{_≡_};
 ghost use Rattle.formats.specs.declared.Format.the-variants.{V1};
 ghost use Rattle.stream.specs.Stream.{nextAt, onward, endOf, begun, passed};

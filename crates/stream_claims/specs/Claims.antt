@@ -10,7 +10,6 @@ use Rattle.formats.specs.declared.Format.{Format}
 use Rattle.formats.specs.declared.Format.the-variants.{V1}
 use Rattle.lists.specs.Parts.{part}
 use Rattle.formats.specs.Format.{fixed}
-use Rattle.lists.specs.Le.{field}
 use Rattle.stream.specs.Stream.{whole, OneCommand, nextAt, commands, endOf, endToEnd, placeOf, begun, movedTo, steps}
 use Rattle.stream.specs.declared.Next.the-variants.{Whole, Cut}
 

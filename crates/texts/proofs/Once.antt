@@ -1,8 +1,8 @@
 -- Bytes that begin with a section's, or a step's, begin with those of no other. Assumes nothing.
-use Prim.Native.Nat.{ℕ, zero, suc, _+_, _^_, _≤_, _<_}
+use Prim.Native.Nat.{ℕ, zero, suc, _+_}
 use native.Mathlib.Omega.{arith}
 use mathlib.Core.Path.{_≡_, refl, sym, ap, _∙_}
-use mathlib.Core.List.{List, [], _∷_, _++_, append-assoc}
+use mathlib.Core.List.{List, _∷_, _++_, append-assoc}
 use lib.ListN.{length, take, drop}
 use lib.Seq.{take-append-seam, drop-append-seam}
 use Rattle.lists.specs.Le.{toLe}
@@ -17,7 +17,7 @@ split w v x y long e = (
   sym (drop-append-seam w x) ∙ ap (drop (length w)) e ∙ ap (λ (n : ℕ). drop n (v ++ y)) long ∙ drop-append-seam v y,
 )
 
-never : {A : Type 0} {a b : ℕ} {x y : List ℕ} → a ∷ x ≡ b ∷ y → (a ≡ b → ⊥) → A
+pub never : {A : Type 0} {a b : ℕ} {x y : List ℕ} → a ∷ x ≡ b ∷ y → (a ≡ b → ⊥) → A
 never {A} {a} {b} {x} {y} e apart = let h : a ≡ b = cc in absurd (apart h)
 
 -- A unit byte is that of one scale.

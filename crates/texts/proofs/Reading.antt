@@ -12,14 +12,11 @@ use Rattle.lists.proofs.Parts.{drop-left, length-part}
 use Rattle.lists.proofs.Le.{length-toLe, toLe-le, le-part-bound}
 use Rattle.lists.proofs.Bytes.{Bytes-part}
 use Rattle.drops.specs.Drop.{Scale, celsius, fahrenheit, unitByte}
-use Rattle.texts.specs.Text.{TextStep, words, temperature, section, Section, done, _then_, stepCount, stepBytes, stepsBytes, sectionBytes, StepWithin, StepsWithin, SectionWithin, Says, WellFormedText, deepest}
-use Rattle.texts.proofs.Once.{step-once, section-once}
-use Rattle.texts.specs.Read.{StandsThere, Finds, ReadsSection, ReadsStep, ReadsSteps}
+use Rattle.texts.specs.Text.{TextStep, words, temperature, section, Section, done, _then_, stepCount, stepBytes, stepsBytes, sectionBytes, StepWithin, StepsWithin, SectionWithin, WellFormedText, deepest}
+use Rattle.texts.proofs.Once.{never, step-once, section-once}
+use Rattle.texts.specs.Read.{Finds, ReadsSection, ReadsStep, ReadsSteps}
 use Rattle.texts.specs.declared.inner.read.Extent.{Extent}
 use Rattle.texts.specs.declared.inner.read.Extent.the-variants.{Past, Ill}
-
-never : {A : Type 0} {a b : ℕ} {x y : List ℕ} → a ∷ x ≡ b ∷ y → (a ≡ b → ⊥) → A
-never {A} {a} {b} {x} {y} e apart = let h : a ≡ b = cc in absurd (apart h)
 
 pub step-long : (s : TextStep) → 2 ≤ length (stepBytes s)
 unfolding stepBytes toLe

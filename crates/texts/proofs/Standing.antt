@@ -1,9 +1,8 @@
 -- What stands at a place, taken apart. Assumes nothing.
 use Prim.Native.Nat.{ℕ, zero, suc, _+_, _-_, _≤_, _<_}
 use native.Mathlib.Omega.{arith}
-use native.Mathlib.Nat.{add-assoc}
 use mathlib.Core.Path.{_≡_, refl, sym, ap, subst, _∙_}
-use mathlib.Core.List.{List, [], _∷_, _++_, append-assoc, append-nil}
+use mathlib.Core.List.{List, _∷_, _++_, append-assoc}
 use lib.ListN.{length, take, drop, getD, length-drop, length-append}
 use lib.Seq.{drop-drop, drop-append-seam, take-append-seam}
 use Rattle.lists.specs.Parts.{part}
@@ -11,8 +10,7 @@ use Rattle.lists.specs.Le.{le, toLe, field}
 use Rattle.lists.proofs.Le.{length-toLe, le-toLe}
 use Rattle.lists.proofs.Parts.{drop-left}
 use Rattle.drops.specs.Drop.{Scale, unitByte}
-use Rattle.texts.specs.Text.{TextStep, words, temperature, section, Section, done, _then_, stepCount, stepBytes, stepsBytes, sectionBytes, StepWithin, StepsWithin, SectionWithin}
-use Rattle.texts.specs.Read.{StandsThere}
+use Rattle.texts.specs.Text.{TextStep, words, temperature, section, Section, _then_, stepCount, stepBytes, stepsBytes, sectionBytes, StepWithin, StepsWithin, SectionWithin}
 use Rattle.texts.proofs.Reading.{two, step-long, out}
 use Rattle.texts.specs.Walk.{SectionThere, StepThere, StepsThere}
 

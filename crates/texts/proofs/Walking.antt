@@ -1,19 +1,18 @@
 -- Laws of the walk over two texts: one for each way in which it goes on or answers. Assumes nothing.
-use Prim.Native.Nat.{ℕ, zero, suc, _+_, _-_, _≤_, _<_}
+use Prim.Native.Nat.{ℕ, _+_, _-_, _≤_, _<_}
 use native.Mathlib.Omega.{arith}
-use mathlib.Core.Path.{_≡_, refl, sym, ap, subst, _∙_}
+use mathlib.Core.Path.{_≡_, refl, sym, ap, _∙_}
 use mathlib.Core.Bool.{Bool, true, false, cond}
 use mathlib.Core.Option.{Option, none, some}
-use mathlib.Core.List.{List, [], _∷_, _++_}
+use mathlib.Core.List.{List}
 use lib.ListN.{length, getD, length-append}
-use Rattle.lists.specs.Le.{field}
 use Rattle.drops.specs.Drop.{Scale, celsius, fahrenheit, unitByte, scaleOf, dropOf, near}
 use Rattle.texts.specs.Text.{TextStep, words, temperature, section, Section, done, _then_, stepCount, stepBytes, stepsBytes, sectionBytes}
 use Rattle.texts.specs.Agree.{unmatchedStep, unmatched, orElse}
-use Rattle.texts.specs.Walk.{SectionThere, StepThere, StepsThere, dropThere, walked, TwoSections, TwoRuns, TwoSteps, SectionsWalked, RunsWalked, StepsWalked}
+use Rattle.texts.specs.Walk.{dropThere, walked, TwoSections, TwoRuns, TwoSteps, SectionsWalked, RunsWalked, StepsWalked}
 use Rattle.texts.specs.declared.inner.walk.Walk.{Walk}
 use Rattle.texts.specs.declared.inner.walk.Walk.the-variants.{Same, Differ}
-use Rattle.texts.proofs.Standing.{kind, Opened, opened, step-of, rest-of, step-fits, kind-here, words-here, drop-here, section-here, words-end, drop-end}
+use Rattle.texts.proofs.Standing.{kind, opened, step-of, rest-of, step-fits, kind-here, words-here, drop-here, section-here, words-end, drop-end}
 
 scale-back : (u : Scale) → scaleOf (unitByte u) ≡ u
 scale-back celsius = refl

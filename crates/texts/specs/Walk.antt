@@ -3,12 +3,11 @@
 -- Assumes nothing.
 use Prim.Native.Nat.{ℕ, _+_}
 use mathlib.Core.Path.{_≡_}
-use mathlib.Core.Bool.{Bool}
 use mathlib.Core.List.{List}
 use mathlib.Core.Option.{Option, none, some}
 use lib.ListN.{length, getD}
 use Rattle.lists.specs.Le.{field}
-use Rattle.drops.specs.Drop.{scaleOf, dropOf, near}
+use Rattle.drops.specs.Drop.{scaleOf, dropOf}
 use Rattle.drops.specs.declared.Drop.{Drop}
 use Rattle.texts.specs.Text.{TextStep, Section, stepCount, stepBytes, stepsBytes, sectionBytes, StepWithin, StepsWithin, SectionWithin}
 use Rattle.texts.specs.Agree.{unmatchedStep, unmatched}

@@ -7,8 +7,8 @@ use mathlib.Core.Option.{Option, none, some}
 use lib.Dec.{T}
 use lib.ListN.{length}
 use Rattle.lists.specs.Table.{listed}
-use Rattle.texts.specs.Text.{Section, stepsBytes, sectionBytes, Says, WellFormedText, deepest}
-use Rattle.texts.specs.Agree.{agreeSteps, unmatched, Verdict, verdict, placed, Compared, firstIll, secondIll, judged}
+use Rattle.texts.specs.Text.{Section, stepsBytes, sectionBytes, Says, deepest}
+use Rattle.texts.specs.Agree.{unmatched, Verdict, placed, Compared, firstIll, secondIll, judged}
 use Rattle.texts.proofs.Once.{section-once}
 use Rattle.texts_claims.specs.Claims.{OneReading, NoneBehind, OneVerdict, Agreed, Disagreed, VerdictExactly, compareNumbers, TextClaims}
 use Rattle.texts_claims.proofs.Agree.{matched-agree, place-inside}

@@ -1,16 +1,16 @@
 -- Verdicts by computation, for worked cases: a reader that is tried on bytes and finds every text that there is. Assumes nothing.
-use Prim.Native.Nat.{ℕ, zero, suc, _+_, _≤_, _<_}
+use Prim.Native.Nat.{ℕ, zero, suc, _+_, _<_}
 use native.Mathlib.Omega.{arith}
 use mathlib.Core.Path.{_≡_, refl, sym, ap, _∙_}
 use mathlib.Core.Bool.{Bool, true, false, _&&_}
 use mathlib.Core.List.{List, [], _∷_, _++_, append-assoc, append-nil}
 use mathlib.Core.Option.{Option, none, some}
-use lib.Dec.{T, eqb, ltb, leb, eqb→eq, ltb→lt}
+use lib.Dec.{eqb, ltb, leb}
 use lib.ListN.{length, take, drop, length-append}
 use lib.Seq.{take-append-seam, drop-append-seam}
 use borrow.Author.Tests.{eqb-true, ltb-true, le-leb}
 use Rattle.lists.specs.Le.{le, toLe}
-use Rattle.lists.proofs.Le.{length-toLe, le-toLe}
+use Rattle.lists.proofs.Le.{le-toLe}
 use Rattle.lists.proofs.Tests.{and-left, and-right, never-both}
 use Rattle.drops.specs.Drop.{Scale, celsius, fahrenheit, unitByte}
 use Rattle.texts.specs.Text.{TextStep, words, temperature, section, Section, done, _then_, stepCount, stepBytes, stepsBytes, sectionBytes, StepWithin, StepsWithin, SectionWithin, deepest, Says, WellFormedText}

@@ -28,7 +28,7 @@ fn compared(workload: &Workload) -> Result<(), &'static str> {
         return Err("the proved library and the straightforward version differ");
     }
     match workload.work {
-        Work::Run => {
+        Work::Run(_) => {
             if by_rust.count != workload.commands() || by_rust.end != workload.stream.len() {
                 return Err("not every command was answered");
             }
@@ -40,13 +40,13 @@ fn compared(workload: &Workload) -> Result<(), &'static str> {
                 return Err("the run and command by command differ");
             }
         }
-        Work::Answer if by_rust.lines[0][0] != workload.number => {
+        Work::Answer(_) if by_rust.lines[0][0] != workload.number => {
             return Err("the command got another number than it should");
         }
         Work::Check(format) if !at_once_sound(format, &by_rust.image) => {
             return Err("the image is not sound");
         }
-        Work::Answer | Work::Check(_) => {}
+        Work::Answer(_) | Work::Check(_) => {}
     }
     let image = &workload.image;
     if sound(Format::V1, image) != plain::is_sound(image, plain::zeros)
@@ -63,10 +63,12 @@ fn one_by_one(workload: &Workload) -> (Vec<plain::Line>, Vec<u8>, Vec<u8>) {
     let mut lent = Lent::new(workload);
     let mut rest = &workload.stream[..];
     let mut count = 0;
-    while rest.len() >= 52 {
+    let format = workload.work.format();
+    let fixed = format.command_bytes();
+    while rest.len() >= fixed {
         let length = u16::from_le_bytes([rest[50], rest[51]]);
-        let (command, more) = rest.split_at(52 + usize::from(length));
-        lent.lines[count] = answer(&mut lent.image, command, &mut lent.reply);
+        let (command, more) = rest.split_at(fixed + usize::from(length));
+        lent.lines[count] = answer(format, &mut lent.image, command, &mut lent.reply);
         count += 1;
         rest = more;
     }

@@ -2,7 +2,7 @@
 //! reads the image and the stream once, copies each text where the command's
 //! act says, and writes entries and lines. It judges nothing.
 
-use crate::plain::Line;
+use crate::plain::{language, Line, Version};
 
 fn u16_at(bytes: &[u8], at: usize) -> usize {
     u16::from_le_bytes([bytes[at], bytes[at + 1]]).into()
@@ -18,7 +18,12 @@ pub fn look(image: &[u8]) -> u64 {
 
 /// One pass over what a run touches: how many commands there were. The stream
 /// is one of whole commands for cards that exist.
-pub fn run(image: &mut [u8], stream: &[u8], reply: &mut [u8], lines: &mut [Line]) -> usize {
+pub fn run<V: Version>(
+    image: &mut [u8],
+    stream: &[u8],
+    reply: &mut [u8],
+    lines: &mut [Line],
+) -> usize {
     let sum = look(image);
     let (cards, room) = (u16_at(image, 6), u16_at(image, 8));
     let (mut at, mut count) = (0, 0);
@@ -26,16 +31,22 @@ pub fn run(image: &mut [u8], stream: &[u8], reply: &mut [u8], lines: &mut [Line]
         let length = u16_at(stream, at + 50);
         let act = stream[at] as usize;
         let card = u16_at(stream, at + 2) % cards;
-        let entry = 16 + 32 * card;
-        let body = 16 + 32 * cards + (2 * card + (act + 1) % 2) * room;
+        let language = language::<V>(&stream[at..]);
+        let entry = 16 + V::ENTRY * card;
+        let (length_at, side) = match act {
+            2 | 4 => (V::LENGTHS + 2 * language, 1 + language),
+            _ => (V::ORIGINAL, 0),
+        };
+        let bodies = 16 + V::ENTRY * cards;
+        let body = bodies + ((V::TRANSLATIONS + 1) * card + side) * room;
         match act {
             1 | 2 => {
-                let shown = u16_at(image, entry + 26 + 2 * act).min(reply.len());
+                let shown = u16_at(image, entry + length_at).min(reply.len());
                 reply[..shown].copy_from_slice(&image[body..body + shown]);
             }
             3 | 4 => {
                 let written = length.min(room);
-                let text = &stream[at + 52..at + 52 + written];
+                let text = &stream[at + V::FIXED..][..written];
                 image[body..body + written].copy_from_slice(text);
             }
             _ => {}
@@ -43,7 +54,7 @@ pub fn run(image: &mut [u8], stream: &[u8], reply: &mut [u8], lines: &mut [Line]
         image[entry..entry + 16].copy_from_slice(&stream[at + 4..at + 20]);
         lines[count] = [sum, act as u64, at as u64, length as u64, 0, 0, 0, 0];
         count += 1;
-        at += 52 + length;
+        at += V::FIXED + length;
     }
     count
 }

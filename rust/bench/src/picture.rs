@@ -1,14 +1,15 @@
 //! The picture: for each workload two bars, ours and the limit, as parts of
-//! the straightforward version's time, which is the line at 1.
+//! the straightforward version's time, which is the line at 1. A bar that would
+//! be longer than the picture is wide ends in a point.
 
 use std::fmt::Write;
 
 use crate::clock::Times;
 use crate::workloads::Workload;
 
-const LEFT: f64 = 230.0;
+const LEFT: f64 = 268.0;
 const UNIT: f64 = 420.0;
-const MOST: f64 = 1.4;
+const MOST: f64 = 1.2;
 const ROW: f64 = 17.0;
 const GAP: f64 = 30.0;
 
@@ -31,7 +32,7 @@ pub fn drawn(all: &[Workload], times: &[Times]) -> String {
         top += ROW;
     }
     let height = top + 20.0;
-    let width = LEFT + UNIT * MOST + 70.0;
+    let width = LEFT + UNIT * MOST + 80.0;
     let mut svg = format!(
         "<svg xmlns=\"http://www.w3.org/2000/svg\" viewBox=\"0 0 {width} {height}\" font-family=\"sans-serif\" font-size=\"12\">\n<rect width=\"{width}\" height=\"{height}\" fill=\"#ffffff\"/>\n"
     );
@@ -70,12 +71,11 @@ fn row(body: &mut String, top: f64, name: &str, times: &Times) {
     text(body, LEFT - 8.0, top + 11.0, "end", false, name);
     bar(body, top + 1.0, 8.0, times.ratio(), OURS);
     bar(body, top + 9.0, 4.0, times.limit / times.rust, LIMIT);
-    let end = LEFT + UNIT * times.ratio().min(MOST) + 6.0;
     text(
         body,
-        end,
-        top + 10.0,
-        "start",
+        LEFT + UNIT * MOST + 60.0,
+        top + 11.0,
+        "end",
         false,
         &format!("{:.2}", times.ratio()),
     );
@@ -84,6 +84,16 @@ fn row(body: &mut String, top: f64, name: &str, times: &Times) {
 fn bar(body: &mut String, top: f64, height: f64, ratio: f64, colour: &str) {
     let width = UNIT * ratio.min(MOST);
     writeln!(body, "<rect x=\"{LEFT}\" y=\"{top}\" width=\"{width:.1}\" height=\"{height}\" fill=\"{colour}\"/>").unwrap();
+    if ratio > MOST {
+        let end = LEFT + width;
+        let (middle, bottom) = (top + height / 2.0, top + height);
+        writeln!(
+            body,
+            "<path d=\"M{end:.1} {top}L{:.1} {middle}L{end:.1} {bottom}Z\" fill=\"{colour}\"/>",
+            end + 10.0
+        )
+        .unwrap();
+    }
 }
 
 fn key(svg: &mut String, x: f64, colour: &str, words: &str) {

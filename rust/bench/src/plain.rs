@@ -3,10 +3,56 @@
 //! then judges each command in place.
 
 const HEADER: usize = 16;
-const ENTRY: usize = 32;
-const ENTRY_V2: usize = 48;
-const FIXED: usize = 52;
 const MOST_AHEAD: u64 = 1_000_000;
+
+/// What differs between the versions: how long an entry is, how many
+/// translations a card has, where in an entry the original's length and, of
+/// translation 0, what it was made from and its length stand, how long a
+/// command is before its payload, and where its update pair stands.
+pub trait Version {
+    const ENTRY: usize;
+    const TRANSLATIONS: usize;
+    const ORIGINAL: usize;
+    const FROMS: usize;
+    const LENGTHS: usize;
+    const FIXED: usize;
+    const UPDATE: usize;
+
+    /// Whether bytes are a sound image, by this test of zeros.
+    fn is_sound(image: &[u8], zeros: impl Fn(&[u8]) -> bool) -> bool;
+}
+
+pub struct V1;
+
+impl Version for V1 {
+    const ENTRY: usize = 32;
+    const TRANSLATIONS: usize = 1;
+    const ORIGINAL: usize = 28;
+    const FROMS: usize = 26;
+    const LENGTHS: usize = 30;
+    const FIXED: usize = 52;
+    const UPDATE: usize = 20;
+
+    fn is_sound(image: &[u8], zeros: impl Fn(&[u8]) -> bool) -> bool {
+        is_sound(image, zeros)
+    }
+}
+
+pub struct V2;
+
+impl Version for V2 {
+    const ENTRY: usize = 48;
+    const TRANSLATIONS: usize = 4;
+    const ORIGINAL: usize = 26;
+    const FROMS: usize = 28;
+    const LENGTHS: usize = 36;
+    const FIXED: usize = 68;
+    const UPDATE: usize = 52;
+
+    fn is_sound(image: &[u8], zeros: impl Fn(&[u8]) -> bool) -> bool {
+        is_sound_v2(image, zeros)
+    }
+}
 
 /// The number, then s, x, commit desk, transaction, edition, translated-from
 /// and length.
@@ -61,6 +107,7 @@ impl Mark {
     }
 }
 
+/// An entry, with one of its translations.
 #[derive(Clone, Copy)]
 struct Entry {
     pair: Pair,
@@ -72,7 +119,7 @@ struct Entry {
 }
 
 impl Entry {
-    fn read(bytes: &[u8]) -> Entry {
+    fn read<V: Version>(bytes: &[u8], language: usize) -> Entry {
         Entry {
             pair: Pair::read(bytes, 0),
             mark: Mark {
@@ -80,21 +127,22 @@ impl Entry {
                 transaction: u32_at(bytes, 20),
             },
             edition: u16_at(bytes, 24),
-            from: u16_at(bytes, 26),
-            original: u16_at(bytes, 28),
-            translation: u16_at(bytes, 30),
+            from: u16_at(bytes, V::FROMS + 2 * language),
+            original: u16_at(bytes, V::ORIGINAL),
+            translation: u16_at(bytes, V::LENGTHS + 2 * language),
         }
     }
 
-    fn write(&self, bytes: &mut [u8]) {
+    fn write<V: Version>(&self, bytes: &mut [u8], language: usize) {
+        let (from, length) = (V::FROMS + 2 * language, V::LENGTHS + 2 * language);
         bytes[0..8].copy_from_slice(&self.pair.s.to_le_bytes());
         bytes[8..16].copy_from_slice(&self.pair.x.to_le_bytes());
         bytes[16..18].copy_from_slice(&self.mark.desk.to_le_bytes());
         bytes[20..24].copy_from_slice(&self.mark.transaction.to_le_bytes());
         bytes[24..26].copy_from_slice(&self.edition.to_le_bytes());
-        bytes[26..28].copy_from_slice(&self.from.to_le_bytes());
-        bytes[28..30].copy_from_slice(&self.original.to_le_bytes());
-        bytes[30..32].copy_from_slice(&self.translation.to_le_bytes());
+        bytes[from..from + 2].copy_from_slice(&self.from.to_le_bytes());
+        bytes[V::ORIGINAL..V::ORIGINAL + 2].copy_from_slice(&self.original.to_le_bytes());
+        bytes[length..length + 2].copy_from_slice(&self.translation.to_le_bytes());
     }
 
     fn is_sound(&self, room: usize) -> bool {
@@ -141,15 +189,15 @@ fn shape(image: &[u8], version: u8, entry: usize, bodies: usize) -> Option<(usiz
 
 /// Whether bytes are a sound image, by this test of zeros.
 pub fn is_sound(image: &[u8], zeros: impl Fn(&[u8]) -> bool) -> bool {
-    let Some((cards, room)) = shape(image, 1, ENTRY, 2) else {
+    let Some((cards, room)) = shape(image, 1, V1::ENTRY, 2) else {
         return false;
     };
-    let (front, bodies) = image.split_at(HEADER + ENTRY * cards);
-    let entries = front[HEADER..].chunks_exact(ENTRY);
+    let (front, bodies) = image.split_at(HEADER + V1::ENTRY * cards);
+    let entries = front[HEADER..].chunks_exact(V1::ENTRY);
     entries
         .zip(bodies.chunks_exact(2 * room))
         .all(|(bytes, body)| {
-            let entry = Entry::read(bytes);
+            let entry = Entry::read::<V1>(bytes, 0);
             let (original, translation) = body.split_at(room);
             u16_at(bytes, 18) == 0
                 && entry.is_sound(room)
@@ -160,11 +208,11 @@ pub fn is_sound(image: &[u8], zeros: impl Fn(&[u8]) -> bool) -> bool {
 
 /// Whether bytes are a sound image of version 2, by this test of zeros.
 pub fn is_sound_v2(image: &[u8], zeros: impl Fn(&[u8]) -> bool) -> bool {
-    let Some((cards, room)) = shape(image, 2, ENTRY_V2, 5) else {
+    let Some((cards, room)) = shape(image, 2, V2::ENTRY, 5) else {
         return false;
     };
-    let (front, bodies) = image.split_at(HEADER + ENTRY_V2 * cards);
-    let entries = front[HEADER..].chunks_exact(ENTRY_V2);
+    let (front, bodies) = image.split_at(HEADER + V2::ENTRY * cards);
+    let entries = front[HEADER..].chunks_exact(V2::ENTRY);
     entries
         .zip(bodies.chunks_exact(5 * room))
         .all(|(bytes, body)| {
@@ -193,6 +241,14 @@ pub fn is_sound_v2(image: &[u8], zeros: impl Fn(&[u8]) -> bool) -> bool {
         })
 }
 
+/// The language that a command of a version names.
+pub fn language<V: Version>(bytes: &[u8]) -> usize {
+    match V::TRANSLATIONS {
+        1 => 0,
+        _ => bytes[20] as usize,
+    }
+}
+
 struct Command<'a> {
     act: u8,
     exclusive: bool,
@@ -207,14 +263,22 @@ struct Command<'a> {
 
 impl<'a> Command<'a> {
     /// The command in these bytes, if they are one.
-    fn parse(bytes: &'a [u8]) -> Option<Command<'a>> {
-        let (fixed, payload) = bytes.split_at_checked(FIXED)?;
+    fn parse<V: Version>(bytes: &'a [u8]) -> Option<Command<'a>> {
+        let (fixed, payload) = bytes.split_at_checked(V::FIXED)?;
         let (act, mode) = (fixed[0], fixed[1]);
         let verifier = Pair::read(fixed, 4);
-        let update = match Pair::read(fixed, 20) {
+        let update = match Pair::read(fixed, V::UPDATE) {
             Pair { s: 0, x: 0 } => verifier,
             sent => sent,
         };
+        let language = language::<V>(bytes);
+        let translated = act == 2 || act == 4;
+        if language >= V::TRANSLATIONS || language != 0 && !translated {
+            return None;
+        }
+        if V::TRANSLATIONS > 1 && !zeros(&fixed[21..36]) {
+            return None;
+        }
         let mark = |at| Mark {
             desk: u16_at(fixed, at),
             transaction: u32_at(fixed, at + 2),
@@ -300,8 +364,8 @@ fn put_text(body: &mut [u8], text: &[u8]) {
 }
 
 /// One command on an image that is sound.
-fn step(image: &mut [u8], bytes: &[u8], reply: &mut [u8]) -> Line {
-    let Some(command) = Command::parse(bytes) else {
+fn step<V: Version>(image: &mut [u8], bytes: &[u8], reply: &mut [u8]) -> Line {
+    let Some(command) = Command::parse::<V>(bytes) else {
         return refused(1);
     };
     let cards = u16_at(image, 6) as usize;
@@ -309,15 +373,21 @@ fn step(image: &mut [u8], bytes: &[u8], reply: &mut [u8]) -> Line {
     if command.card >= cards {
         return refused(2);
     }
-    let (front, bodies) = image.split_at_mut(HEADER + ENTRY * cards);
-    let at = HEADER + ENTRY * command.card;
-    let mut entry = Entry::read(&front[at..at + ENTRY]);
+    let (front, bodies) = image.split_at_mut(HEADER + V::ENTRY * cards);
+    let at = HEADER + V::ENTRY * command.card;
+    let language = language::<V>(bytes);
+    let mut entry = Entry::read::<V>(&front[at..at + V::ENTRY], language);
     let number = command.number(&entry, room, reply.len());
     if number != 0 {
         return line(number, &entry, 0);
     }
-    let body = &mut bodies[2 * room * command.card..][..2 * room];
-    let (original, translation) = body.split_at_mut(room);
+    let size = (V::TRANSLATIONS + 1) * room;
+    let body = &mut bodies[size * command.card..][..size];
+    let (original, translations) = body.split_at_mut(room);
+    let translation = match V::TRANSLATIONS {
+        1 => translations,
+        _ => &mut translations[room * language..][..room],
+    };
     let payload = command.payload;
     let mut shown = 0;
     match command.act {
@@ -344,14 +414,14 @@ fn step(image: &mut [u8], bytes: &[u8], reply: &mut [u8]) -> Line {
     entry.pair.s = entry.pair.s.max(command.update.s);
     entry.pair.x = entry.pair.x.max(command.update.x);
     entry.mark = command.next;
-    entry.write(&mut front[at..at + ENTRY]);
+    entry.write::<V>(&mut front[at..at + V::ENTRY], language);
     line(0, &entry, shown)
 }
 
 /// One command, with the image checked first.
-pub fn answer(image: &mut [u8], command: &[u8], reply: &mut [u8]) -> Line {
-    if is_sound(image, zeros) {
-        step(image, command, reply)
+pub fn answer<V: Version>(image: &mut [u8], command: &[u8], reply: &mut [u8]) -> Line {
+    if V::is_sound(image, zeros) {
+        step::<V>(image, command, reply)
     } else {
         refused(9)
     }
@@ -360,23 +430,23 @@ pub fn answer(image: &mut [u8], command: &[u8], reply: &mut [u8]) -> Line {
 /// The whole commands of a stream in their order, as long as there is room for
 /// their lines; the image is checked once. How many there were, and the byte
 /// where it stopped.
-pub fn run(
+pub fn run<V: Version>(
     image: &mut [u8],
     stream: &[u8],
     reply: &mut [u8],
     lines: &mut [Line],
 ) -> (usize, usize) {
-    let sound = is_sound(image, zeros);
+    let sound = V::is_sound(image, zeros);
     let mut rest = stream;
     for (count, line) in lines.iter_mut().enumerate() {
         let whole = rest
-            .get(50..FIXED)
-            .and_then(|length| rest.split_at_checked(FIXED + u16_at(length, 0) as usize));
+            .get(50..V::FIXED)
+            .and_then(|length| rest.split_at_checked(V::FIXED + u16_at(length, 0) as usize));
         let Some((command, more)) = whole else {
             return (count, stream.len() - rest.len());
         };
         *line = if sound {
-            step(image, command, reply)
+            step::<V>(image, command, reply)
         } else {
             refused(9)
         };

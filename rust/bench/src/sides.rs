@@ -30,6 +30,26 @@ mod exported {
             lines_length: usize,
             end: *mut u64,
         ) -> u64;
+        pub fn lupaniele_answer_v2(
+            image: *mut u8,
+            image_length: usize,
+            command: *const u8,
+            command_length: usize,
+            reply: *mut u8,
+            reply_length: usize,
+            fields: *mut [u64; 7],
+        ) -> u8;
+        pub fn lupaniele_run_v2(
+            image: *mut u8,
+            image_length: usize,
+            stream: *const u8,
+            stream_length: usize,
+            reply: *mut u8,
+            reply_length: usize,
+            lines: *mut u64,
+            lines_length: usize,
+            end: *mut u64,
+        ) -> u64;
     }
 }
 
@@ -78,21 +98,20 @@ impl Lent {
 #[inline(never)]
 pub fn work(side: Side, workload: &Workload, lent: &mut Lent) {
     match (workload.work, side) {
-        (Work::Run, Side::Rust) => {
+        (Work::Run(format), Side::Ours) => run(format, workload, lent),
+        (Work::Run(Format::V1), _) => plain_run::<plain::V1>(side, workload, lent),
+        (Work::Run(Format::V2), _) => plain_run::<plain::V2>(side, workload, lent),
+        (Work::Answer(Format::V1), Side::Rust) => {
             let (image, reply) = (&mut lent.image, &mut lent.reply);
-            (lent.count, lent.end) = plain::run(image, &workload.stream, reply, &mut lent.lines);
+            lent.lines[0] = plain::answer::<plain::V1>(image, workload.first(), reply);
         }
-        (Work::Run, Side::Ours) => run(workload, lent),
-        (Work::Run, Side::Limit) => {
+        (Work::Answer(Format::V2), Side::Rust) => {
             let (image, reply) = (&mut lent.image, &mut lent.reply);
-            lent.count = limit::run(image, &workload.stream, reply, &mut lent.lines);
+            lent.lines[0] = plain::answer::<plain::V2>(image, workload.first(), reply);
         }
-        (Work::Answer, Side::Rust) => {
+        (Work::Answer(format), Side::Ours) => {
             let (image, reply) = (&mut lent.image, &mut lent.reply);
-            lent.lines[0] = plain::answer(image, workload.first(), reply);
-        }
-        (Work::Answer, Side::Ours) => {
-            lent.lines[0] = answer(&mut lent.image, workload.first(), &mut lent.reply);
+            lent.lines[0] = answer(format, image, workload.first(), reply);
         }
         (Work::Check(Format::V1), Side::Rust) => {
             lent.count = plain::is_sound(&lent.image, plain::zeros).into();
@@ -101,9 +120,20 @@ pub fn work(side: Side, workload: &Workload, lent: &mut Lent) {
             lent.count = plain::is_sound_v2(&lent.image, plain::zeros).into();
         }
         (Work::Check(format), Side::Ours) => lent.count = sound(format, &lent.image).into(),
-        (Work::Answer | Work::Check(_), Side::Limit) => {
+        (Work::Answer(_) | Work::Check(_), Side::Limit) => {
             lent.count = (limit::look(&lent.image) != 0).into();
         }
+    }
+}
+
+/// A run by the straightforward version of a version's rules, or by its limit.
+fn plain_run<V: plain::Version>(side: Side, workload: &Workload, lent: &mut Lent) {
+    let (image, reply) = (&mut lent.image, &mut lent.reply);
+    let (stream, lines) = (&workload.stream, &mut lent.lines);
+    if side == Side::Rust {
+        (lent.count, lent.end) = plain::run::<V>(image, stream, reply, lines);
+    } else {
+        lent.count = limit::run::<V>(image, stream, reply, lines);
     }
 }
 
@@ -119,11 +149,15 @@ pub fn sound(format: Format, image: &[u8]) -> bool {
 }
 
 /// One request, by the proved library.
-pub fn answer(image: &mut [u8], command: &[u8], reply: &mut [u8]) -> plain::Line {
+pub fn answer(format: Format, image: &mut [u8], command: &[u8], reply: &mut [u8]) -> plain::Line {
+    let answer = match format {
+        Format::V1 => exported::lupaniele_answer,
+        Format::V2 => exported::lupaniele_answer_v2,
+    };
     let mut fields = [0; 7];
     // SAFETY: the pointers and lengths are the slices', which do not overlap.
     let number = unsafe {
-        exported::lupaniele_answer(
+        answer(
             image.as_mut_ptr(),
             image.len(),
             command.as_ptr(),
@@ -146,12 +180,16 @@ pub fn answer(image: &mut [u8], command: &[u8], reply: &mut [u8]) -> plain::Line
     ]
 }
 
-fn run(workload: &Workload, lent: &mut Lent) {
+fn run(format: Format, workload: &Workload, lent: &mut Lent) {
+    let run = match format {
+        Format::V1 => exported::lupaniele_run,
+        Format::V2 => exported::lupaniele_run_v2,
+    };
     let mut end = 0;
     let lines = lent.lines.as_flattened_mut();
     // SAFETY: the pointers and lengths are the slices', which do not overlap.
     let count = unsafe {
-        exported::lupaniele_run(
+        run(
             lent.image.as_mut_ptr(),
             lent.image.len(),
             workload.stream.as_ptr(),

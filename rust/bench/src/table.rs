@@ -10,12 +10,13 @@ pub fn print(all: &[Workload], times: &[Times], counts: Option<&[Count]>) {
     for (at, (workload, times)) in all.iter().zip(times).enumerate() {
         if workload.group != group {
             group = workload.group;
-            println!("\n| {group} | commands | Rust, µs | ours, µs | ratio | limit, µs | instructions: Rust | ours | ratio |");
+            println!("\n### {group}\n");
+            println!("| | commands | Rust, µs | ours, µs | ratio | limit, µs | instructions: Rust | ours | ratio |");
             println!("|---|---:|---:|---:|---:|---:|---:|---:|---:|");
         }
         let commands = match workload.work {
-            Work::Run => workload.commands().to_string(),
-            Work::Answer => "1".into(),
+            Work::Run(_) => workload.commands().to_string(),
+            Work::Answer(_) => "1".into(),
             Work::Check(_) => "0".into(),
         };
         print!(
@@ -35,7 +36,7 @@ pub fn print(all: &[Workload], times: &[Times], counts: Option<&[Count]>) {
     for (workload, times) in all.iter().zip(times) {
         if let Some(at_once) = times.at_once {
             println!(
-                "{}: the Rust check that looks at every byte takes {:.2} µs, ours {:.2} times that",
+                "- {}: the Rust check that looks at every byte takes {:.2} µs, ours {:.2} times that",
                 workload.name,
                 at_once / 1e3,
                 times.ours / at_once

@@ -37,14 +37,23 @@ impl Texts {
 }
 
 /// What is done with a workload.
-#[derive(Clone, Copy, PartialEq, Eq)]
+#[derive(Clone, Copy)]
 pub enum Work {
     /// The whole stream is run.
-    Run,
+    Run(Format),
     /// The first command alone is answered.
-    Answer,
+    Answer(Format),
     /// The image alone is checked, by its version.
     Check(Format),
+}
+
+impl Work {
+    /// The version of the image and of the stream.
+    pub fn format(self) -> Format {
+        match self {
+            Work::Run(format) | Work::Answer(format) | Work::Check(format) => format,
+        }
+    }
 }
 
 /// One thing to measure.
@@ -68,9 +77,10 @@ pub struct Workload {
 impl Workload {
     /// How many commands the stream has.
     pub fn commands(&self) -> usize {
+        let fixed = self.work.format().command_bytes();
         let (mut at, mut count) = (0, 0);
         while let Some(length) = self.stream.get(at + 50..at + 52) {
-            at += 52 + usize::from(u16::from_le_bytes([length[0], length[1]]));
+            at += fixed + usize::from(u16::from_le_bytes([length[0], length[1]]));
             count += 1;
         }
         count
@@ -79,7 +89,8 @@ impl Workload {
     /// The first command of the stream.
     pub fn first(&self) -> &[u8] {
         let length = u16::from_le_bytes([self.stream[50], self.stream[51]]);
-        &self.stream[..52 + usize::from(length)]
+        let fixed = self.work.format().command_bytes();
+        &self.stream[..fixed + usize::from(length)]
     }
 }
 
@@ -185,30 +196,49 @@ enum Manner {
 
 /// A stream of accepted commands for the image above, of at most so many bytes.
 fn accepted(cards: u64, size: usize, acts: Acts, manner: Manner, random: &mut Random) -> Vec<u8> {
+    accepted_of(Format::V1, cards, size, acts, manner, random)
+}
+
+/// The same of a version, with every language that it has.
+fn accepted_of(
+    format: Format,
+    cards: u64,
+    size: usize,
+    acts: Acts,
+    manner: Manner,
+    random: &mut Random,
+) -> Vec<u8> {
     let mut bytes = Vec::new();
-    let mut editions = vec![(1_u16, 1_u16); cards as usize];
+    let mut editions = vec![(1_u16, [1_u16; 4]); cards as usize];
     let mut t = START;
     loop {
         let (act, length) = acts.draw(random);
         let card = random.below(cards) as u16;
-        let (edition, from) = &mut editions[usize::from(card)];
+        let language = match (format, act) {
+            (Format::V2, 2 | 4) => random.below(4) as u8,
+            _ => 0,
+        };
+        let (edition, froms) = &mut editions[usize::from(card)];
+        let from = &mut froms[usize::from(language)];
         // a translation that is behind is not read: the original is
-        let act = if act == 2 && *from != *edition {
-            1
+        let (act, language) = if act == 2 && *from != *edition {
+            (1, 0)
         } else {
-            act
+            (act, language)
         };
         let writes = act == 3 || act == 4;
         let payload: Vec<u8> = (0..if writes { length } else { 0 })
             .map(|_| random.byte() | 1)
             .collect();
-        if bytes.len() + 52 + payload.len() > size {
+        if bytes.len() + format.command_bytes() + payload.len() > size {
             return bytes;
         }
         t += 1;
         let own = stamp(t, random.between(1, 9));
         let mut fields = CommandFields {
+            format,
             act,
+            language,
             mode: 2,
             card,
             pair: Pair::new(own, own),
@@ -293,11 +323,21 @@ fn spent(mut image: Vec<u8>) -> Vec<u8> {
     image
 }
 
+/// The groups of workloads, as the table and the picture head them.
+const ACCEPTED: &str = "Accepted commands: streams of 30,000 bytes, N 31 and C 512";
+const MANNERS: &str = "Shared without x, marks, update pairs (full texts)";
+const REFUSED: &str = "Refused: every command of the stream gets that number";
+const CHECK: &str = "The check of an image alone (version 2: N 25 and C 512)";
+const ALONE: &str = "One answer alone";
+const IMAGES: &str = "The same stream on larger images";
+const STREAMS: &str = "Longer streams on the same image";
+const VERSION_2: &str = "Version 2: streams of 30,000 bytes and one answer alone, N 25 and C 512";
+
 fn run_of(group: &'static str, name: String, image: Vec<u8>, stream: Vec<u8>) -> Workload {
     Workload {
         group,
         name,
-        work: Work::Run,
+        work: Work::Run(Format::V1),
         image,
         stream,
         reply: ROOM as usize,
@@ -315,6 +355,7 @@ pub fn all() -> Vec<Workload> {
     refusals(&mut all, &mut random);
     checks(&mut all, &mut random);
     growth(&mut all, &mut random);
+    version_2(&mut all, &mut random);
     all
 }
 
@@ -324,7 +365,7 @@ fn streams(all: &mut Vec<Workload>, random: &mut Random) {
             let start = image(CARDS, texts, false, Mark::default(), random);
             let stream = accepted(CARDS, STREAM, acts, Manner::Exclusive, random);
             let name = format!("{acts_name}, {texts_name} texts");
-            all.push(run_of("accepted", name, start, stream));
+            all.push(run_of(ACCEPTED, name, start, stream));
         }
     }
 }
@@ -335,19 +376,14 @@ fn manners(all: &mut Vec<Workload>, random: &mut Random) {
     for (name, acts) in [("verify", Acts::Verify), ("read", Acts::Read)] {
         let stream = accepted(CARDS, STREAM, acts, Manner::SharedWithoutX, random);
         let name = format!("{name}, shared with x zero");
-        all.push(run_of("manners", name, shared.clone(), stream));
+        all.push(run_of(MANNERS, name, shared.clone(), stream));
     }
     let marked = image(CARDS, full, false, MARK, random);
     let stream = accepted(CARDS, STREAM, Acts::Mix, Manner::WithMarks, random);
-    all.push(run_of(
-        "manners",
-        "mix, marks in use".into(),
-        marked,
-        stream,
-    ));
+    all.push(run_of(MANNERS, "mix, marks in use".into(), marked, stream));
     let start = image(CARDS, full, false, Mark::default(), random);
     let stream = accepted(CARDS, STREAM, Acts::Mix, Manner::WithUpdatePair, random);
-    all.push(run_of("manners", "mix, update pairs".into(), start, stream));
+    all.push(run_of(MANNERS, "mix, update pairs".into(), start, stream));
 }
 
 fn refusals(all: &mut Vec<Workload>, random: &mut Random) {
@@ -364,7 +400,7 @@ fn refusals(all: &mut Vec<Workload>, random: &mut Random) {
         all.push(Workload {
             number,
             reply,
-            ..run_of("refused", name, start, stream)
+            ..run_of(REFUSED, name, start, stream)
         });
     }
 }
@@ -379,7 +415,7 @@ fn checks(all: &mut Vec<Workload>, random: &mut Random) {
             let name = format!("check, {name} texts{version}");
             all.push(Workload {
                 work: Work::Check(format),
-                ..run_of("check", name, start, Vec::new())
+                ..run_of(CHECK, name, start, Vec::new())
             });
         }
     }
@@ -388,8 +424,8 @@ fn checks(all: &mut Vec<Workload>, random: &mut Random) {
         let stream = accepted(CARDS, STREAM, acts, Manner::Exclusive, random);
         let name = format!("one answer, {name}, full texts");
         all.push(Workload {
-            work: Work::Answer,
-            ..run_of("one answer", name, start, stream)
+            work: Work::Answer(Format::V1),
+            ..run_of(ALONE, name, start, stream)
         });
     }
 }
@@ -399,12 +435,39 @@ fn growth(all: &mut Vec<Workload>, random: &mut Random) {
     for cards in [2, 4, 8, 16, 31, 62] {
         let start = image(cards, Texts::Mixed, false, Mark::default(), random);
         let name = format!("mix, image of {} bytes", start.len());
-        all.push(run_of("growing image", name, start, stream.clone()));
+        all.push(run_of(IMAGES, name, start, stream.clone()));
     }
     for size in [3_000, 10_000, 30_000, 100_000, 300_000] {
         let start = image(CARDS, Texts::Full, false, Mark::default(), random);
         let stream = accepted(CARDS, size, Acts::Mix, Manner::Exclusive, random);
         let name = format!("mix, stream of {size} bytes");
-        all.push(run_of("growing stream", name, start, stream));
+        all.push(run_of(STREAMS, name, start, stream));
+    }
+}
+
+fn version_2(all: &mut Vec<Workload>, random: &mut Random) {
+    let format = Format::V2;
+    let mut pushed = |name, work, acts, random: &mut Random| {
+        let start = image_of(
+            format,
+            CARDS_V2,
+            Texts::Full,
+            false,
+            Mark::default(),
+            random,
+        );
+        let stream = accepted_of(format, CARDS_V2, STREAM, acts, Manner::Exclusive, random);
+        all.push(Workload {
+            work,
+            ..run_of(VERSION_2, name, start, stream)
+        });
+    };
+    for (name, acts) in Acts::ALL {
+        let name = format!("{name}, full texts, version 2");
+        pushed(name, Work::Run(format), acts, random);
+    }
+    for (name, acts) in [("verify", Acts::Verify), ("read", Acts::Read)] {
+        let name = format!("one answer, {name}, full texts, version 2");
+        pushed(name, Work::Answer(format), acts, random);
     }
 }

@@ -104,7 +104,7 @@ kinds! {
     LostIsolation 1 1 ".. in which a session was not isolated"
     Walks 2 2 "walks of a stream, to its end, to a cut"
     EveryCut 1 1 "streams cut at every byte"
-    Runs 3 0 "runs of streams: whole, with room for few lines, with room for none"
+    Runs 3 3 "runs of streams: whole, with room for few lines, with room for none"
     Places 2 2 "places of a stream where a whole command stands, where none does"
     Appends 4 0 "appends to a redo log: taken, refused with 23, with 24, cut with 26"
     Cuts 3 0 ".. cut within its body, within its line, before its count"

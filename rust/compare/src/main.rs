@@ -94,7 +94,6 @@ fn round(run: &mut Run, random: &mut Random) -> Compared<()> {
     lapses::any(run, random)?;
     desks::any(run, random)?;
     proposals::any(run, random)?;
-    runs::any(run, random)?;
     texts::any(run, random)?;
     history::any(run, random)?;
     logs::any(run, random)
@@ -114,6 +113,7 @@ fn of_version(run: &mut Run, random: &mut Random) -> Compared<()> {
     lists::any(run, random)?;
     systems::any(run, random)?;
     streams::any(run, random)?;
+    runs::any(run, random)?;
     swaps::any(run, random)
 }
 

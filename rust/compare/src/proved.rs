@@ -81,6 +81,17 @@ mod exported {
             lines_length: usize,
             end: *mut u64,
         ) -> u64;
+        pub fn lupaniele_run_v2(
+            image: *mut u8,
+            image_length: usize,
+            stream: *const u8,
+            stream_length: usize,
+            reply: *mut u8,
+            reply_length: usize,
+            lines: *mut u64,
+            lines_length: usize,
+            end: *mut u64,
+        ) -> u64;
         pub fn lupaniele_output(
             input: *const u8,
             input_length: usize,
@@ -157,11 +168,21 @@ pub fn answer(format: Format, image: &mut [u8], command: &[u8], reply: &mut [u8]
 
 /// A run of a stream: how many commands were judged, and the byte where it
 /// stopped.
-pub fn run(image: &mut [u8], stream: &[u8], reply: &mut [u8], lines: &mut [u64]) -> (usize, usize) {
+pub fn run(
+    format: Format,
+    image: &mut [u8],
+    stream: &[u8],
+    reply: &mut [u8],
+    lines: &mut [u64],
+) -> (usize, usize) {
+    let run = match format {
+        Format::V1 => exported::lupaniele_run,
+        Format::V2 => exported::lupaniele_run_v2,
+    };
     let mut end = u64::MAX;
     // SAFETY: the pointers and lengths are the slices', which do not overlap.
     let count = unsafe {
-        exported::lupaniele_run(
+        run(
             image.as_mut_ptr(),
             image.len(),
             stream.as_ptr(),

@@ -4,7 +4,7 @@
 
 use second::generate;
 use second::random::Random;
-use second::{answer, standing_at, Format, Standing};
+use second::{standing_at, Format, Standing};
 
 use crate::coverage::{Kind, Run};
 use crate::proved;
@@ -15,8 +15,9 @@ type Line = [u64; 8];
 
 /// Streams of any sort, cut anywhere, on images that are sound and damaged.
 pub fn any(run: &mut Run, random: &mut Random) -> Compared<()> {
-    let mut image = generate::sound_image(Format::V1, random);
-    let stream = generate::stream(Format::V1, random, &image);
+    let format = run.format;
+    let mut image = generate::sound_image(format, random);
+    let stream = generate::stream(format, random, &image);
     let cut = match random.below(3) {
         0 => random.index(stream.len() + 1),
         _ => stream.len(),
@@ -33,13 +34,19 @@ pub fn any(run: &mut Run, random: &mut Random) -> Compared<()> {
 
 /// The second program, command by command: the lines, where it stopped, and
 /// what is left in the image and in the reply buffer.
-fn told(image: &mut [u8], stream: &[u8], reply: &mut [u8], most: usize) -> (Vec<Line>, usize) {
+fn told(
+    format: Format,
+    image: &mut [u8],
+    stream: &[u8],
+    reply: &mut [u8],
+    most: usize,
+) -> (Vec<Line>, usize) {
     let (mut lines, mut at) = (Vec::new(), 0);
     while lines.len() < most {
-        let Standing::Command { next, .. } = standing_at(Format::V1, stream, at) else {
+        let Standing::Command { next, .. } = standing_at(format, stream, at) else {
             break;
         };
-        let given = answer(image, &stream[at..next], reply);
+        let given = format.answer(image, &stream[at..next], reply);
         let [s, x, desk, transaction, edition, from, length] = given.fields.numbers();
         lines.push([
             given.number.into(),
@@ -58,6 +65,7 @@ fn told(image: &mut [u8], stream: &[u8], reply: &mut [u8], most: usize) -> (Vec<
 
 /// One run with so many numbers to write to: what it leaves is what is told.
 fn compared(
+    format: Format,
     image: &mut Vec<u8>,
     stream: &[u8],
     reply: &mut Vec<u8>,
@@ -65,13 +73,13 @@ fn compared(
 ) -> Compared<(usize, usize)> {
     let before = (image.clone(), reply.clone());
     let (mut image_told, mut reply_told) = before.clone();
-    let (lines, end) = told(&mut image_told, stream, &mut reply_told, room / 8);
+    let (lines, end) = told(format, &mut image_told, stream, &mut reply_told, room / 8);
     let mut expected = vec![0x5a5a; room];
     for (place, line) in expected.chunks_exact_mut(8).zip(&lines) {
         place.copy_from_slice(line);
     }
     let mut written = vec![0x5a5a; room];
-    let ran = proved::run(image, stream, reply, &mut written);
+    let ran = proved::run(format, image, stream, reply, &mut written);
     let input = || {
         bytes("image", &before.0)
             + &bytes("stream", stream)
@@ -93,8 +101,8 @@ fn compared(
 /// A whole stream, with room for every line and one number more.
 fn whole(run: &mut Run, image: &[u8], stream: &[u8], reply: &[u8]) -> Compared<()> {
     let (mut image, mut reply) = (image.to_vec(), reply.to_vec());
-    let room = (stream.len() / 52 + 1) * 8 + 1;
-    compared(&mut image, stream, &mut reply, room)?;
+    let room = (stream.len() / run.format.command_bytes() + 1) * 8 + 1;
+    compared(run.format, &mut image, stream, &mut reply, room)?;
     run.case();
     run.seen_at(Kind::Runs, 0);
     Ok(())
@@ -112,7 +120,7 @@ fn in_parts(
     let (mut image, mut reply, mut at) = (image.to_vec(), reply.to_vec(), 0);
     loop {
         let room = random.index(40);
-        let (count, end) = compared(&mut image, &stream[at..], &mut reply, room)?;
+        let (count, end) = compared(run.format, &mut image, &stream[at..], &mut reply, room)?;
         run.case();
         run.seen_at(Kind::Runs, if room < 8 { 2 } else { 1 });
         at += end;

@@ -1,10 +1,6 @@
 -- Malformed, no such card, or carried. Assumes nothing.
-use Prim.Native.Nat.{_+_}
-use mathlib.Core.Path.{refl, sym, ap, _∙_}
-use native.Mathlib.Omega.{arith}
+use mathlib.Core.Path.{refl, sym, _∙_}
 use borrow.Author.Needs.{needs}
-use lib.ListN.{length, take}
-use lib.Seq.{length-take-le}
 use borrow.Author.Tests.{le-ltb, lt-ltb}
 use Rattle.formats.specs.declared.Format.the-variants.{V1}
 use Rattle.history.proofs.Requests.{exits, serves-malformed, serves-no-card, serves-found}

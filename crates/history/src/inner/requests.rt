@@ -1,4 +1,4 @@
-// One well-formed command for a card that exists.
+// One well-formed command for an existing card.
 ghost use mathlib.Core.Path.{_≡_};
 ghost use mathlib.Core.Bool.{true, _||_};
 ghost use mathlib.Core.List.{reverse};

@@ -5,9 +5,9 @@ use mathlib.Core.Path.{_≡_, refl, sym, ap, _∙_}
 use borrow.Author.Tests.{not-true, not-false}
 use lib.ListN.{length}
 use Rattle.lists.proofs.Tests.{to-T}
-use Rattle.formats.specs.declared.Format.the-variants.{V1, V2}
-use Rattle.image.specs.Bytes.{countOf, roomOf}
-use Rattle.image.specs.Image.{encode, sound, makeNumber}
+use Rattle.formats.specs.declared.Format.the-variants.{V2}
+use Rattle.image.specs.Bytes.{countOf}
+use Rattle.image.specs.Image.{encode, sound}
 use Rattle.image.specs.Convert.{widenedUpTo}
 use Rattle.image.proofs.Widen.{sound-header, all-widened, unsound-source, not-made, as-it-was, begins, converts}
 use borrow.Author.Needs.{needs}

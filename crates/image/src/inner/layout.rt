@@ -3,18 +3,12 @@ ghost use mathlib.Core.Path.{_≡_};
 ghost use Rattle.image.specs.Layout.{sides, sizeOf, shapeOk, entryPlace, entryEnd, bodyPlace};
 ghost use Rattle.formats.specs.Format.{fromsAt, lengthsAt};
 ghost use Prim.Native.Nat.{_+_, _*_};
+use crate::LEAST_ROOM;
+use crate::MOST_BYTES;
+use crate::MOST_CARDS;
+use crate::MOST_ROOM;
+use crate::ROOM_STEP;
 use formats::Format;
-
-// The limits: N is 1 to MOST_CARDS, C is LEAST_ROOM to MOST_ROOM in steps of ROOM_STEP, the whole is at most MOST_BYTES.
-pub const MOST_CARDS: usize = 128;
-
-pub const LEAST_ROOM: usize = 16;
-
-pub const MOST_ROOM: usize = 1024;
-
-pub const ROOM_STEP: usize = 16;
-
-pub const MOST_BYTES: usize = 65536;
 
 // The size of the header.
 pub const HEADER: usize = 16;

@@ -63,6 +63,23 @@ pub fn entry_at(f: Format, image: &[u8], k: u16, t: u8) -> Entry
     entry_of(f, &image[at..end], t)
 }
 
+// Of card k alone the edition that translation t was made from, and alone that translation's length.
+pub fn from_at(f: Format, image: &[u8], k: u16, t: u8) -> u16
+    requires { ⌜ (entryPlace f k + entrySize f ≤ length (now image)) × (t < translations f) ⌝ }
+    ensures { λ r. ⌜ r ≡ entryAt f (now (image .entry)) k t .from ⌝ }
+{
+    let at = layout::entry_place(f, k);
+    le::read_u16(image, at + layout::from_place(f, t))
+}
+
+pub fn length_at(f: Format, image: &[u8], k: u16, t: u8) -> u16
+    requires { ⌜ (entryPlace f k + entrySize f ≤ length (now image)) × (t < translations f) ⌝ }
+    ensures { λ r. ⌜ r ≡ entryAt f (now (image .entry)) k t .translation ⌝ }
+{
+    let at = layout::entry_place(f, k);
+    le::read_u16(image, at + layout::length_place(f, t))
+}
+
 // Reads the `count` bytes at `at` into the first bytes of a reply buffer.
 pub fn copy_text(image: &[u8], at: usize, count: u16, reply: &mut [u8])
     requires { ⌜ (count ≤ mostRoom) × (at + count ≤ length (now image)) × (count ≤ length (now reply)) ⌝ }

@@ -1,11 +1,14 @@
 ghost use mathlib.Core.Path.{_≡_};
 ghost use Prim.Native.Nat.{_+_, _-_, _≤_, _<_};
+ghost use mathlib.Core.Bool.{not, _&&_, _||_};
+ghost use lib.Dec.{T, leb, eqb};
 ghost use lib.ListN.{length};
 ghost use Rattle.lists.specs.Parts.{part, zeros, every};
+ghost use Rattle.lists.specs.Le.{field};
 ghost use Rattle.guard.specs.Entry.{entrySound};
-ghost use Rattle.formats.specs.Format.{translations};
-ghost use Rattle.image.specs.Bytes.{countOf, roomOf};
-ghost use Rattle.image.specs.Layout.{sizeOf};
+ghost use Rattle.formats.specs.Format.{translations, entrySize};
+ghost use Rattle.image.specs.Bytes.{countOf, roomOf, entryAt};
+ghost use Rattle.image.specs.Layout.{sizeOf, entryPlace, entryEnd};
 ghost use Rattle.image.specs.Image.{headerSound, translationSound, cardSound};
 use crate::inner::layout;
 use crate::inner::layout::HEADER;
@@ -17,18 +20,37 @@ use formats::Format;
 use guard::Entry;
 use slices::inner::fixed_width as le;
 
-// Whether an entry keeps the rules, where texts have this room.
+// Whether a text keeps the rules: its length, and the edition that it was made from, by the original's edition and the room. One from no edition is
+// empty, and so fits. Test by test, here and for a card: that is quicker than all answers at once.
+fn text_sound(edition: u16, from: u16, count: u16, room: u16) -> bool
+    ensures { λ r. ⌜ r ≡ leb count room && leb from edition && (not (eqb from 0) || eqb count 0) ⌝ }
+{
+    if from == 0 {
+        return count == 0;
+    }
+    if edition < from {
+        return false;
+    }
+    count <= room
+}
+
+// Whether an entry keeps the rules, where texts have this room. An original counts as made from its own edition.
 pub fn entry_sound(e: Entry, room: u16) -> bool
     ensures { λ r. ⌜ r ≡ entrySound room e ⌝ }
 {
-    stamps::stamp_valid(e.pair.s)
-        & stamps::stamp_valid(e.pair.x)
-        & stamps::mark_whole(e.mark)
-        & (e.original <= room)
-        & (e.translation <= room)
-        & (e.from <= e.edition)
-        & (!(e.edition == 0) | (e.original == 0))
-        & (!(e.from == 0) | (e.translation == 0))
+    if !stamps::stamp_valid(e.pair.s) {
+        return false;
+    }
+    if !stamps::stamp_valid(e.pair.x) {
+        return false;
+    }
+    if !stamps::mark_whole(e.mark) {
+        return false;
+    }
+    if !text_sound(e.edition, e.edition, e.original, room) {
+        return false;
+    }
+    text_sound(e.edition, e.from, e.translation, room)
 }
 
 // Whether the bytes of a body past its text are zero.
@@ -55,34 +77,52 @@ pub fn header_sound(f: Format, image: &[u8]) -> bool
         & (image.len() == layout::size_of(f, n, c))
 }
 
-// Whether the entry of card k keeps the rules as seen in translation t, and that translation's body too.
-fn translation_sound(f: Format, image: &[u8], k: u16, t: u8) -> bool
-    requires { ⌜ (length (now image) ≡ sizeOf f (countOf (now image)) (roomOf (now image))) × (k < countOf (now image)) × (t < translations f) ⌝ }
+// Whether the field between the numbers of card k's mark is zero.
+fn field_zero(f: Format, image: &[u8], k: u16) -> bool
+    requires { ⌜ entryPlace f k + entrySize f ≤ length (now image) ⌝ }
+    ensures { λ r. ⌜ r ≡ eqb (field (entryPlace f k + 18) 2 (now (image .entry))) 0 ⌝ }
+{
+    let at = layout::entry_place(f, k);
+    le::read_u16(image, at + 18) == 0
+}
+
+// Whether what stands behind the numbers of card k's entry is zero.
+fn blank_zero(f: Format, image: &[u8], k: u16) -> bool
+    requires { ⌜ entryPlace f k + entrySize f ≤ length (now image) ⌝ }
+    ensures { λ r. ⌜ r ≡ zeros (part (entryPlace f k + entryEnd f) (entrySize f - entryEnd f) (now (image .entry))) ⌝ }
+{
+    let at = layout::entry_place(f, k);
+    let start = at + layout::entry_end(f);
+    let end = at + formats::inner::entry_size(f);
+    slices::all_zero(&image[start..end])
+}
+
+// Whether the entry of card k keeps the rules as seen in translation t, and that translation's body too; seen in the first, the entry keeps them.
+fn translation_sound(f: Format, image: &[u8], k: u16, t: u8, edition: u16) -> bool
+    requires { ⌜ (length (now image) ≡ sizeOf f (countOf (now image)) (roomOf (now image))) × (k < countOf (now image)) × (t < translations f)
+        × (edition ≡ entryAt f (now image) k 0 .edition) × T (entrySound (roomOf (now image)) (entryAt f (now image) k 0)) ⌝ }
     ensures { λ r. ⌜ r ≡ translationSound f (now (image .entry)) k t ⌝ }
 {
     let n = read::count(image);
     let c = read::room(image);
-    let e = read::entry_at(f, image, k, t);
-    if !entry_sound(e, c) {
+    let from = read::from_at(f, image, k, t);
+    let count = read::length_at(f, image, k, t);
+    if !text_sound(edition, from, count, c) {
         return false;
     }
-    tail_zero(
-        image,
-        layout::body_place(f, n, c, k, t + 1),
-        e.translation,
-        c,
-    )
+    tail_zero(image, layout::body_place(f, n, c, k, t + 1), count, c)
 }
 
-// Whether card k keeps the rules in every translation.
-fn translations_sound(f: Format, image: &[u8], k: u16) -> bool
-    requires { ⌜ (length (now image) ≡ sizeOf f (countOf (now image)) (roomOf (now image))) × (k < countOf (now image)) ⌝ }
+// Whether card k keeps the rules in every translation; seen in the first, its entry keeps them.
+fn translations_sound(f: Format, image: &[u8], k: u16, edition: u16) -> bool
+    requires { ⌜ (length (now image) ≡ sizeOf f (countOf (now image)) (roomOf (now image))) × (k < countOf (now image))
+        × (edition ≡ entryAt f (now image) k 0 .edition) × T (entrySound (roomOf (now image)) (entryAt f (now image) k 0)) ⌝ }
     ensures { λ r. ⌜ r ≡ every (translationSound f (now (image .entry)) k) (translations f) ⌝ }
 {
     let count = formats::inner::translations(f);
     let mut t: u8 = 0;
     while t < count {
-        if !translation_sound(f, image, k, t) {
+        if !translation_sound(f, image, k, t, edition) {
             return false;
         }
         t += 1;
@@ -90,21 +130,25 @@ fn translations_sound(f: Format, image: &[u8], k: u16) -> bool
     true
 }
 
-// Whether card k keeps the rules.
+// Whether card k keeps the rules. What does not go by the translation is read and tested once.
 pub fn card_sound(f: Format, image: &[u8], k: u16) -> bool
     requires { ⌜ (length (now image) ≡ sizeOf f (countOf (now image)) (roomOf (now image))) × (k < countOf (now image)) ⌝ }
     ensures { λ r. ⌜ r ≡ cardSound f (now (image .entry)) k ⌝ }
 {
-    if !translations_sound(f, image, k) {
-        return false;
-    }
     let n = read::count(image);
     let c = read::room(image);
     let e = read::entry_at(f, image, k, 0);
-    let at = layout::entry_place(f, k);
-    let start = at + layout::entry_end(f);
-    let end = at + formats::inner::entry_size(f);
-    (le::read_u16(image, at + 18) == 0)
-        & slices::all_zero(&image[start..end])
-        & tail_zero(image, layout::body_place(f, n, c, k, 0), e.original, c)
+    if !entry_sound(e, c) {
+        return false;
+    }
+    if !field_zero(f, image, k) {
+        return false;
+    }
+    if !blank_zero(f, image, k) {
+        return false;
+    }
+    if !tail_zero(image, layout::body_place(f, n, c, k, 0), e.original, c) {
+        return false;
+    }
+    translations_sound(f, image, k, e.edition)
 }

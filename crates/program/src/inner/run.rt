@@ -4,13 +4,19 @@ ghost use lib.ListN.{length};
 ghost use Rattle.program.specs.Text.{Put};
 ghost use Rattle.program.specs.Program.{printed, mostPrinted};
 use crate::inner::lines;
-use formats::Format;
+use formats::inner::FIRST;
 use store::inner::run::PER_LINE;
 use store::inner::run::one;
 
 // Judges the stream's commands in one walk, with the image checked once, and writes a line for each and the last line into `out` from `at` on. Hands back the place behind
 // them.
-pub fn run(image: &mut [u8], stream: &[u8], reply: &mut [u8], out: &mut [u8], at: usize) -> usize
+pub fn put_printed(
+    image: &mut [u8],
+    stream: &[u8],
+    reply: &mut [u8],
+    out: &mut [u8],
+    at: usize,
+) -> usize
     requires { ⌜ at + mostPrinted (now stream) ≤ length (now out) ⌝ }
     ensures { λ r. ⌜ Put at (mostPrinted (now (stream .entry))) (printed (now (image .entry)) (now (reply .entry)) (now (stream .entry))) (now (out .entry)) (now (out .exit)) r ⌝ }
 {
@@ -24,14 +30,7 @@ pub fn run(image: &mut [u8], stream: &[u8], reply: &mut [u8], out: &mut [u8], at
         if end == from {
             break from;
         }
-        one(
-            Format::V1,
-            image,
-            &stream[from..end],
-            reply,
-            checked,
-            &mut line,
-        );
+        one(FIRST, image, &stream[from..end], reply, checked, &mut line);
         to = lines::put_line(out, to, place, &line);
         place += 1;
         from = end;

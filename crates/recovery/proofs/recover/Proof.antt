@@ -8,12 +8,6 @@ use Prim.Native.Nat.{_-_}
 use borrow.Author.Needs.{needs}
 use Rattle.recovery.proofs.recover.Statement.{statement}
 use Rattle.recovery.proofs.recover.Tie as tie
-use Rattle.recovery.proofs.recover.Reads as reads
-use Rattle.recovery.proofs.recover.Lts as lts
-use Rattle.image.proofs.sound.Reads as sound-reads
-use Rattle.recovery.proofs.inner.last_at.Reads as last-at-reads
-use Rattle.recovery.proofs.inner.step.Reads as step-reads
-use Rattle.redo_log.proofs.check.Reads as check-reads
 
 abbrev Inv-loop : tie.InvT-loop
 Inv-loop log image₀ s x ok count last₀ i₀ image last i = Going (pairsOf s x) log image₀ image ok last i

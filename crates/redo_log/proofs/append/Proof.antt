@@ -5,11 +5,6 @@ use Rattle.redo_log.proofs.Steps.{step-bad, step-misfit, step-full, ste
 use borrow.Author.Needs.{needs}
 use Rattle.redo_log.proofs.append.Statement.{statement}
 use Rattle.redo_log.proofs.append.Tie as tie
-use Rattle.redo_log.proofs.append.Reads as reads
-use Rattle.redo_log.proofs.append.Lts as lts
-use Rattle.redo_log.proofs.inner.storing.store.Reads as store-reads
-use Rattle.redo_log.proofs.inner.reading.may_join.Reads as may-join-reads
-use Rattle.redo_log.proofs.inner.reading.scan_of.Reads as scan-of-reads
 
 scan-of-requires : tie.Need-scan-of-requires
 scan-of-requires c κs = search needs

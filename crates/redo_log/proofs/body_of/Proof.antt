@@ -6,11 +6,6 @@ use Rattle.redo_log.proofs.Records.{checked-good, checked-bad, sizes, p
 use borrow.Author.Needs.{needs}
 use Rattle.redo_log.proofs.body_of.Statement.{statement}
 use Rattle.redo_log.proofs.body_of.Tie as tie
-use Rattle.redo_log.proofs.body_of.Reads as reads
-use Rattle.redo_log.proofs.body_of.Lts as lts
-use Rattle.slices.proofs.inner.fixed_width.read_u16.Reads as read-u16-reads
-use Rattle.slices.proofs.inner.fixed_width.read_u32.Reads as read-u32-reads
-use Rattle.redo_log.proofs.check.Reads as check-reads
 
 check-requires : tie.Need-check-requires
 check-requires c κs = search needs

@@ -4,9 +4,6 @@ use borrow.Author.Tests.{not-true, not-false}
 use borrow.Author.Needs.{needs}
 use Rattle.redo_log.proofs.check.Statement.{statement}
 use Rattle.redo_log.proofs.check.Tie as tie
-use Rattle.redo_log.proofs.check.Reads as reads
-use Rattle.redo_log.proofs.check.Lts as lts
-use Rattle.redo_log.proofs.inner.reading.scan_of.Reads as scan-of-reads
 
 scan-of-requires : tie.Need-scan-of-requires
 scan-of-requires c κs = search needs

@@ -6,9 +6,6 @@ use Rattle.redo_log.proofs.Records.{checked-good, checked-bad, sizes}
 use borrow.Author.Needs.{needs}
 use Rattle.redo_log.proofs.kind_of.Statement.{statement}
 use Rattle.redo_log.proofs.kind_of.Tie as tie
-use Rattle.redo_log.proofs.kind_of.Reads as reads
-use Rattle.redo_log.proofs.kind_of.Lts as lts
-use Rattle.redo_log.proofs.check.Reads as check-reads
 
 check-requires : tie.Need-check-requires
 check-requires c κs = search needs

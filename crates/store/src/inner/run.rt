@@ -3,6 +3,8 @@ ghost use mathlib.Core.Path.{_≡_};
 ghost use Prim.Native.Nat.{_+_, _≤_};
 ghost use lib.ListN.{length};
 ghost use Rattle.lists.specs.Parts.{splice};
+ghost use Rattle.formats.specs.Format.{formatOf};
+ghost use Rattle.guard.specs.Replies.{replyFields};
 ghost use Rattle.image.specs.Image.{sound};
 ghost use Rattle.model.specs.Serve.{serve};
 ghost use Rattle.store.specs.Runs.{runs, numbersOf, perLine};
@@ -11,8 +13,10 @@ use crate::Ran;
 use crate::inner::step;
 use commands::LENGTH;
 use formats::Format;
+use formats::inner::format_of;
 use guard::Answer;
 use guard::UNSOUND;
+use image::inner::checks::sound_of;
 use slices::inner::fixed_width::read_u16;
 use stamps::MALFORMED;
 use stream::Next;
@@ -20,14 +24,13 @@ use stream::Next;
 // How many numbers an answer has: its number and seven fields.
 pub const PER_LINE: usize = 8;
 
-// The numbers of an answer: its number, then its seven fields.
-fn numbers_of(a: Answer) -> [u64; PER_LINE]
-    ensures { λ r. ⌜ r ≡ numbersOf a ⌝ }
+// The seven reply fields of an answer, as numbers.
+pub fn fields_of(a: Answer) -> [u64; 7]
+    ensures { λ r. ⌜ r ≡ replyFields a ⌝ }
 {
     let pair = a.pair;
     let mark = a.mark;
     [
-        a.number as u64,
         pair.s,
         pair.x,
         mark.desk as u64,
@@ -35,6 +38,23 @@ fn numbers_of(a: Answer) -> [u64; PER_LINE]
         a.edition as u64,
         a.from as u64,
         a.length as u64,
+    ]
+}
+
+// The numbers of an answer: its number, then its seven fields.
+fn numbers_of(a: Answer) -> [u64; PER_LINE]
+    ensures { λ r. ⌜ r ≡ numbersOf a ⌝ }
+{
+    let fields = fields_of(a);
+    [
+        a.number as u64,
+        fields[0],
+        fields[1],
+        fields[2],
+        fields[3],
+        fields[4],
+        fields[5],
+        fields[6],
     ]
 }
 
@@ -52,7 +72,7 @@ fn put_line(lines: &mut [u64], at: usize, a: Answer)
 }
 
 // Judges the whole commands of a stream in their order, on an image that has been checked, as long as there is room for the numbers of their answers.
-pub fn run_checked(
+pub fn many(
     f: Format,
     image: &mut [u8],
     stream: &[u8],
@@ -84,11 +104,49 @@ pub fn run_checked(
     }
 }
 
-// Whether lent bytes are as long as one whole command says that it is.
-fn is_one(f: Format, command: &[u8]) -> bool
-    ensures { λ r. ⌜ r ≡ isOne f (now (command .entry)) ⌝ }
+// The same, with the version as a plain value.
+fn many_of(
+    second: bool,
+    image: &mut [u8],
+    stream: &[u8],
+    reply: &mut [u8],
+    checked: bool,
+    lines: &mut [u64],
+) -> Ran
+    requires { ⌜ checked ≡ sound (formatOf second) (now image) ⌝ }
+    ensures ran { λ r. ⌜ r ≡ ranOf (formatOf second) (now (stream .entry)) (length (now (lines .entry))) ⌝ }
+    ensures image { λ _. ⌜ now (image .exit) ≡ runs (formatOf second) (now (image .entry)) (now (reply .entry)) (judgedOf (formatOf second) (now (stream .entry)) (length (now (lines .entry)))) .image ⌝ }
+    ensures reply { λ _. ⌜ now (reply .exit) ≡ runs (formatOf second) (now (image .entry)) (now (reply .entry)) (judgedOf (formatOf second) (now (stream .entry)) (length (now (lines .entry)))) .reply ⌝ }
+    ensures lines { λ _. ⌜ now (lines .exit) ≡ splice 0 (lined (runs (formatOf second) (now (image .entry)) (now (reply .entry)) (judgedOf (formatOf second) (now (stream .entry)) (length (now (lines .entry)))))) (now (lines .entry)) ⌝ }
+    ensures kept { λ _. ⌜ checked ≡ sound (formatOf second) (now (image .exit)) ⌝ }
 {
-    let fixed = formats::inner::fixed(f);
+    many(format_of(second), image, stream, reply, checked, lines)
+}
+
+// A run with the image checked first.
+pub fn run_of(
+    second: bool,
+    image: &mut [u8],
+    stream: &[u8],
+    reply: &mut [u8],
+    lines: &mut [u64],
+) -> Ran
+    ensures ran { λ r. ⌜ r ≡ ranOf (formatOf second) (now (stream .entry)) (length (now (lines .entry))) ⌝ }
+    ensures image { λ _. ⌜ now (image .exit) ≡ runs (formatOf second) (now (image .entry)) (now (reply .entry)) (judgedOf (formatOf second) (now (stream .entry)) (length (now (lines .entry)))) .image ⌝ }
+    ensures reply { λ _. ⌜ now (reply .exit) ≡ runs (formatOf second) (now (image .entry)) (now (reply .entry)) (judgedOf (formatOf second) (now (stream .entry)) (length (now (lines .entry)))) .reply ⌝ }
+    ensures lines { λ _. ⌜ now (lines .exit) ≡ splice 0 (lined (runs (formatOf second) (now (image .entry)) (now (reply .entry)) (judgedOf (formatOf second) (now (stream .entry)) (length (now (lines .entry)))))) (now (lines .entry)) ⌝ }
+{
+    let checked = sound_of(second, image);
+    many_of(second, image, stream, reply, checked, lines)
+}
+
+// ---- One request.
+
+// Whether lent bytes are as long as one whole command says that it is.
+fn is_one(second: bool, command: &[u8]) -> bool
+    ensures { λ r. ⌜ r ≡ isOne (formatOf second) (now (command .entry)) ⌝ }
+{
+    let fixed = formats::inner::fixed(format_of(second));
     if command.len() < fixed {
         return false;
     }
@@ -98,22 +156,22 @@ fn is_one(f: Format, command: &[u8]) -> bool
 // One request on an image that has been checked, as a run of one command; bytes of another length are malformed. The numbers of its answer are written
 // to `line`, and the first of them is handed back.
 pub fn one(
-    f: Format,
+    second: bool,
     image: &mut [u8],
     command: &[u8],
     reply: &mut [u8],
     checked: bool,
     line: &mut [u64],
 ) -> u8
-    requires { ⌜ (checked ≡ sound f (now image)) × (length (now line) ≡ perLine) ⌝ }
-    ensures number { λ r. ⌜ r ≡ serve f (now (image .entry)) (now (command .entry)) (now (reply .entry)) .answer .number ⌝ }
-    ensures image { λ _. ⌜ now (image .exit) ≡ serve f (now (image .entry)) (now (command .entry)) (now (reply .entry)) .image ⌝ }
-    ensures reply { λ _. ⌜ now (reply .exit) ≡ serve f (now (image .entry)) (now (command .entry)) (now (reply .entry)) .reply ⌝ }
-    ensures line { λ _. ⌜ now (line .exit) ≡ numbersOf (serve f (now (image .entry)) (now (command .entry)) (now (reply .entry)) .answer) ⌝ }
-    ensures kept { λ _. ⌜ checked ≡ sound f (now (image .exit)) ⌝ }
+    requires { ⌜ (checked ≡ sound (formatOf second) (now image)) × (length (now line) ≡ perLine) ⌝ }
+    ensures number { λ r. ⌜ r ≡ serve (formatOf second) (now (image .entry)) (now (command .entry)) (now (reply .entry)) .answer .number ⌝ }
+    ensures image { λ _. ⌜ now (image .exit) ≡ serve (formatOf second) (now (image .entry)) (now (command .entry)) (now (reply .entry)) .image ⌝ }
+    ensures reply { λ _. ⌜ now (reply .exit) ≡ serve (formatOf second) (now (image .entry)) (now (command .entry)) (now (reply .entry)) .reply ⌝ }
+    ensures line { λ _. ⌜ now (line .exit) ≡ numbersOf (serve (formatOf second) (now (image .entry)) (now (command .entry)) (now (reply .entry)) .answer) ⌝ }
+    ensures kept { λ _. ⌜ checked ≡ sound (formatOf second) (now (image .exit)) ⌝ }
 {
-    if is_one(f, command) {
-        run_checked(f, image, command, reply, checked, line);
+    if is_one(second, command) {
+        many_of(second, image, command, reply, checked, line);
         return line[0] as u8;
     }
     if checked {
@@ -122,4 +180,32 @@ pub fn one(
     }
     put_line(line, 0, guard::refusal(UNSOUND));
     UNSOUND
+}
+
+// One request on an image: the number, and the seven reply fields.
+pub fn answer_of(
+    second: bool,
+    image: &mut [u8],
+    command: &[u8],
+    reply: &mut [u8],
+    fields: &mut [u64; 7],
+) -> u8
+    ensures number { λ r. ⌜ r ≡ serve (formatOf second) (now (image .entry)) (now (command .entry)) (now (reply .entry)) .answer .number ⌝ }
+    ensures fields { λ _. ⌜ now (fields .exit) ≡ replyFields (serve (formatOf second) (now (image .entry)) (now (command .entry)) (now (reply .entry)) .answer) ⌝ }
+    ensures image { λ _. ⌜ now (image .exit) ≡ serve (formatOf second) (now (image .entry)) (now (command .entry)) (now (reply .entry)) .image ⌝ }
+    ensures reply { λ _. ⌜ now (reply .exit) ≡ serve (formatOf second) (now (image .entry)) (now (command .entry)) (now (reply .entry)) .reply ⌝ }
+{
+    let checked = sound_of(second, image);
+    let mut line = [0u64; PER_LINE];
+    let number = one(second, image, command, reply, checked, &mut line);
+    *fields = [
+        line[1],
+        line[2],
+        line[3],
+        line[4],
+        line[5],
+        line[6],
+        line[7],
+    ];
+    number
 }

@@ -18,7 +18,7 @@ use guard::NO_CARD;
 use guard::UNSOUND;
 use stamps::MALFORMED;
 
-// A well-formed command for a card that exists, on a sound image: its entry judges, and an accepted command is carried out.
+// A well-formed command for an existing card, on a sound image: its entry judges, and an accepted command is carried out.
 pub fn carry(f: Format, image: &mut [u8], c: Command, text: &[u8], reply: &mut [u8]) -> Answer
     requires { ⌜ (sound f (now image) ≡ true) × (c .card < countOf (now image)) × (c .language < translations f) × (length (now text) ≡ c .length) × (wellFormed c ≡ true) ⌝ }
     ensures answer { λ r. ⌜ r ≡ carried f (now (image .entry)) c (now (text .entry)) (now (reply .entry)) .answer ⌝ }
@@ -36,7 +36,7 @@ pub fn carry(f: Format, image: &mut [u8], c: Command, text: &[u8], reply: &mut [
 }
 
 // One request on a sound image of a version, which it keeps sound.
-pub fn step(f: Format, image: &mut [u8], command: &[u8], reply: &mut [u8]) -> Answer
+pub fn serve(f: Format, image: &mut [u8], command: &[u8], reply: &mut [u8]) -> Answer
     requires { ⌜ sound f (now image) ≡ true ⌝ }
     ensures answer { λ r. ⌜ r ≡ serve f (now (image .entry)) (now (command .entry)) (now (reply .entry)) .answer ⌝ }
     ensures image { λ _. ⌜ now (image .exit) ≡ serve f (now (image .entry)) (now (command .entry)) (now (reply .entry)) .image ⌝ }
@@ -64,5 +64,5 @@ pub fn judge(f: Format, image: &mut [u8], command: &[u8], reply: &mut [u8], chec
     if !checked {
         return guard::refusal(UNSOUND);
     }
-    step(f, image, command, reply)
+    serve(f, image, command, reply)
 }

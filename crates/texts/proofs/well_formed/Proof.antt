@@ -1,7 +1,5 @@
 -- The section at the front is the whole, or not. Assumes nothing.
-use Prim.Native.Nat.{ℕ}
-use mathlib.Core.Path.{_≡_, refl, subst}
-use mathlib.Core.Bool.{true, false}
+use mathlib.Core.Path.{refl, subst}
 use borrow.Author.Needs.{needs}
 use borrow.Author.Tests.{eqb-true, eq-eqb}
 use Rattle.lists.proofs.Tests.{never-both}

@@ -16,7 +16,7 @@ crate::named! {
         Late "9.2: 3 exactly when an earlier accepted command is larger",
         Future "9.7: 17 exactly when a stamp is more than 1,000,000 ahead",
         Behind "9.3: a translation's read gets 6 exactly when it is behind",
-        Shows "9.4: an accepted read shows the last accepted text",
+        Shows "9.4: an accepted read shows the text accepted last",
         Premise "9.5, 10.11: desks by the rules keep the premise",
         Isolated "9.6: under the premise sessions are isolated",
         Outright "10.12: desks by the rules are isolated outright",

@@ -3,11 +3,6 @@ use Rattle.capi.proofs.Proposed.{learnt-leaves}
 use borrow.Author.Needs.{needs}
 use Rattle.capi.proofs.desks.lupaniele_learn.Statement.{statement}
 use Rattle.capi.proofs.desks.lupaniele_learn.Tie as tie
-use Rattle.capi.proofs.desks.lupaniele_learn.Reads as reads
-use Rattle.capi.proofs.desks.lupaniele_learn.Lts as lts
-use Rattle.capi.proofs.desks.known_in.Reads as known-in-reads
-use Rattle.capi.proofs.desks.write_stamps.Reads as write-stamps-reads
-use Rattle.proposals.proofs.Known.learn.Reads as learn-reads
 
 -- src/desks.rt:36:9
 known-in-requires : tie.Need-known-in-requires

@@ -3,11 +3,6 @@ use Rattle.capi.proofs.Proposed.{refused-leaves, made-leaves}
 use borrow.Author.Needs.{needs}
 use Rattle.capi.proofs.desks.lupaniele_propose.Statement.{statement}
 use Rattle.capi.proofs.desks.lupaniele_propose.Tie as tie
-use Rattle.capi.proofs.desks.lupaniele_propose.Reads as reads
-use Rattle.capi.proofs.desks.lupaniele_propose.Lts as lts
-use Rattle.capi.proofs.desks.known_in.Reads as known-in-reads
-use Rattle.capi.proofs.desks.write_stamps.Reads as write-stamps-reads
-use Rattle.proposals.proofs.Known.propose.Reads as propose-reads
 
 -- src/desks.rt:59:9
 known-in-requires : tie.Need-known-in-requires

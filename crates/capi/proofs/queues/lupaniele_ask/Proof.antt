@@ -1,6 +1,6 @@
 -- Loaded, asked, written. Assumes nothing.
 use Rattle.lock_queue.specs.Requests.{asks}
-use Rattle.capi.specs.Arrays.{waiting}
+use Rattle.lent_queue.specs.Arrays.{waiting}
 use Rattle.capi.proofs.Exits.{exits}
 use borrow.Author.Needs.{needs}
 use Rattle.capi.proofs.queues.lupaniele_ask.Statement.{statement}

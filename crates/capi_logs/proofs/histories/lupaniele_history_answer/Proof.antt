@@ -9,19 +9,19 @@ use Rattle.capi_logs.proofs.histories.lupaniele_history_answer.Tie as t
 answer-requires : tie.Need-answer-requires
 answer-requires c κs = search needs
 
-write-fields-requires : tie.Need-write-fields-requires
-write-fields-requires c κs = search needs
+fields-of-requires : tie.Need-fields-of-requires
+fields-of-requires c κs = search needs
 
 same-length : tie.Need-same-length
 same-length c = search needs
 
 returns : tie.Need-returns
 returns c =
-    let served = c .before .before .before .before .before .answer .ensures in (
+    let served = c .before .before .before .before .answer .ensures in (
       ap (λ (a : Answer). a .number) (served .0),
-      (c .write-fields .ensures ∙ ap replyFields (served .0), served .1),
+      (c .fields-of .ensures ∙ ap replyFields (served .0), served .1),
     )
 
 pub lupaniele-history-answer-spec : {M : Type 1} → statement M
 lupaniele-history-answer-spec =
-    tie.close (tie.spec answer-requires write-fields-requires same-length returns)
+    tie.close (tie.spec answer-requires fields-of-requires same-length returns)

@@ -1,5 +1,4 @@
 -- By the number of the first row from 3 on that applies. Assumes nothing.
-use borrow.Author.Needs.{needs}
 use mathlib.Core.Path.{_≡_, sym, _∙_}
 use Rattle.lists.specs.Table.{first}
 use Rattle.lists.proofs.Table.{settled-new, settled-old}

@@ -2,9 +2,6 @@ use Rattle.proposals.specs.Propose.{learnt}
 use borrow.Author.Needs.{needs}
 use Rattle.proposals.proofs.Known.learn.Statement.{statement}
 use Rattle.proposals.proofs.Known.learn.Tie as tie
-use Rattle.proposals.proofs.Known.learn.Reads as reads
-use Rattle.proposals.proofs.Known.learn.Lts as lts
-use Rattle.stamps.proofs.larger_of_each.Reads as larger-of-each-reads
 
 -- src/lib.rt:61:19
 larger-of-each-requires : tie.Need-larger-of-each-requires

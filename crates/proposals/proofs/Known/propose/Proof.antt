@@ -5,11 +5,6 @@ use Rattle.proposals.proofs.Propose.{proposed-by, made-fits}
 use borrow.Author.Needs.{needs}
 use Rattle.proposals.proofs.Known.propose.Statement.{statement}
 use Rattle.proposals.proofs.Known.propose.Tie as tie
-use Rattle.proposals.proofs.Known.propose.Reads as reads
-use Rattle.proposals.proofs.Known.propose.Lts as lts
-use Rattle.proposals.proofs.Known.learn.Reads as learn-reads
-use Rattle.proposals.proofs.inner.proposal_number.Reads as proposal-number-reads
-use Rattle.proposals.proofs.inner.pair_for.Reads as pair-for-reads
 
 -- src/lib.rt:111:13
 proposal-number-requires : tie.Need-proposal-number-requires

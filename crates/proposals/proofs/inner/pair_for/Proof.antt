@@ -2,9 +2,6 @@ use borrow.Author.Tests.{eq-eqb, ne-eqb}
 use Rattle.proposals.specs.Propose.{pairFor}
 use Rattle.proposals.proofs.inner.pair_for.Statement.{statement}
 use Rattle.proposals.proofs.inner.pair_for.Tie as tie
-use Rattle.proposals.proofs.inner.pair_for.Reads as reads
-use Rattle.proposals.proofs.inner.pair_for.Lts as lts
-use Rattle.proposals.proofs.inner.above.own_above.Reads as own-above-reads
 
 -- src/lib.rt:98:20
 own-above-requires : tie.Need-own-above-requires

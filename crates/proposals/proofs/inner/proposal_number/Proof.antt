@@ -3,9 +3,6 @@ use borrow.Author.Tests.{lt-ltb, le-ltb}
 use borrow.Author.Needs.{needs}
 use Rattle.proposals.proofs.inner.proposal_number.Statement.{statement}
 use Rattle.proposals.proofs.inner.proposal_number.Tie as tie
-use Rattle.proposals.proofs.inner.proposal_number.Reads as reads
-use Rattle.proposals.proofs.inner.proposal_number.Lts as lts
-use Rattle.proposals.proofs.inner.t_for.Reads as t-for-reads
 
 -- src/lib.rt:81:13
 returns : tie.Need-returns

@@ -2,9 +2,6 @@ use borrow.Author.Tests.{eq-eqb, ne-eqb}
 use borrow.Author.Needs.{needs}
 use Rattle.proposals.proofs.inner.t_for.Statement.{statement}
 use Rattle.proposals.proofs.inner.t_for.Tie as tie
-use Rattle.proposals.proofs.inner.t_for.Reads as reads
-use Rattle.proposals.proofs.inner.t_for.Lts as lts
-use Rattle.proposals.proofs.inner.above.next_t.Reads as next-t-reads
 
 -- src/lib.rt:71:13
 next-t-requires : tie.Need-next-t-requires

@@ -6,13 +6,6 @@ use Rattle.recovery.proofs.Writing.{write-unsound, write-length, write-
 use borrow.Author.Needs.{needs}
 use Rattle.recovery.proofs.inner.apply.Statement.{statement}
 use Rattle.recovery.proofs.inner.apply.Tie as tie
-use Rattle.recovery.proofs.inner.apply.Reads as reads
-use Rattle.recovery.proofs.inner.apply.Lts as lts
-use Rattle.slices.proofs.inner.fixed_width.read_u16.Reads as read-u16-reads
-use Rattle.recovery.proofs.inner.at_or_zero.Reads as at-or-zero-reads
-use Rattle.recovery.proofs.inner.carry_out.Reads as carry-out-reads
-use Rattle.recovery.proofs.inner.entry_for.Reads as entry-for-reads
-use Rattle.recovery.proofs.inner.write_of.Reads as write-of-reads
 
 returns : tie.Need-returns
 returns c = write-unsound (c .before .before .before .before .before .args .image .now) (c .before .before .before .before .before .args .s .now) (c .before .before .before .before .before .args .x .now) (c .before .before .before .before .before .args .body .now) (c .before .before .before .before .before .args .ok) (c .before .before .before .before .before .pre .0) (not-true _ (c .if1 .taken))

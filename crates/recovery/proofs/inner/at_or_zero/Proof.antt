@@ -3,8 +3,6 @@ use lib.ListN.{List·getD-eq-default}
 use borrow.Author.Needs.{needs}
 use Rattle.recovery.proofs.inner.at_or_zero.Statement.{statement}
 use Rattle.recovery.proofs.inner.at_or_zero.Tie as tie
-use Rattle.recovery.proofs.inner.at_or_zero.Reads as reads
-use Rattle.recovery.proofs.inner.at_or_zero.Lts as lts
 
 returns : tie.Need-returns
 returns c = sym (List·getD-eq-default (c .before .args .l .now) 0 {n = (c .before .args .k)} (c .if1 .taken))

@@ -10,11 +10,6 @@ use Rattle.image.specs.Image.{sound}
 use borrow.Author.Needs.{needs}
 use Rattle.recovery.proofs.inner.carry_out.Statement.{statement}
 use Rattle.recovery.proofs.inner.carry_out.Tie as tie
-use Rattle.recovery.proofs.inner.carry_out.Reads as reads
-use Rattle.recovery.proofs.inner.carry_out.Lts as lts
-use Rattle.commands.proofs.Command.well_formed.Reads as well-formed-reads
-use Rattle.image.proofs.inner.read.count.Reads as count-reads
-use Rattle.store.proofs.inner.step.carry.Reads as carry-reads
 
 well-formed-requires : tie.Need-well-formed-requires
 well-formed-requires c κs = search needs

@@ -10,9 +10,6 @@ use Rattle.redo_log.specs.Log.{recordCount, recordAt}
 use Rattle.redo_log.proofs.Records.{good-out}
 use Rattle.recovery.proofs.inner.committed.Statement.{statement}
 use Rattle.recovery.proofs.inner.committed.Tie as tie
-use Rattle.recovery.proofs.inner.committed.Reads as reads
-use Rattle.recovery.proofs.inner.committed.Lts as lts
-use Rattle.recovery.proofs.inner.is_commit.Reads as is-commit-reads
 
 abbrev Inv-loop : tie.InvT-loop
 Inv-loop log t count j₀ j = (j ≤ count) × (any (commitsTo t) (table (recordAt log) j) ≡ false)

@@ -6,10 +6,6 @@ use Rattle.store.proofs.Kept.{header-in}
 use lib.Dec.{lit<}
 use Rattle.recovery.proofs.inner.entry_for.Statement.{statement}
 use Rattle.recovery.proofs.inner.entry_for.Tie as tie
-use Rattle.recovery.proofs.inner.entry_for.Reads as reads
-use Rattle.recovery.proofs.inner.entry_for.Lts as lts
-use Rattle.image.proofs.inner.read.count.Reads as count-reads
-use Rattle.image.proofs.inner.read.entry_at.Reads as read-entry-reads
 
 count-requires : tie.Need-count-requires
 count-requires c κs = header-in V1 _ (c .before .pre)

@@ -4,10 +4,6 @@ use Rattle.recovery.proofs.Laws.{not-commit, commit-is}
 use Rattle.redo_log.proofs.Records.{sizes, here, commit-length}
 use Rattle.recovery.proofs.inner.is_commit.Statement.{statement}
 use Rattle.recovery.proofs.inner.is_commit.Tie as tie
-use Rattle.recovery.proofs.inner.is_commit.Reads as reads
-use Rattle.recovery.proofs.inner.is_commit.Lts as lts
-use Rattle.slices.proofs.inner.fixed_width.read_u32.Reads as read-u32-reads
-use Rattle.recovery.proofs.inner.place_of.Reads as place-of-reads
 
 mul-if1 : tie.Need-mul-if1
 mul-if1 c = omega (arith, sizes (c .before .args .log .now) (c .before .pre .0))

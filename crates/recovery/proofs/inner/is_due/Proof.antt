@@ -4,12 +4,6 @@ use Rattle.recovery.proofs.Laws.{not-due, due-is}
 use Rattle.redo_log.proofs.Records.{sizes, here, update-length}
 use Rattle.recovery.proofs.inner.is_due.Statement.{statement}
 use Rattle.recovery.proofs.inner.is_due.Tie as tie
-use Rattle.recovery.proofs.inner.is_due.Reads as reads
-use Rattle.recovery.proofs.inner.is_due.Lts as lts
-use Rattle.slices.proofs.inner.fixed_width.read_u16.Reads as read-u16-reads
-use Rattle.recovery.proofs.inner.committed.Reads as committed-reads
-use Rattle.recovery.proofs.inner.place_of.Reads as place-of-reads
-use Rattle.recovery.proofs.inner.synced.Reads as synced-reads
 
 mul-if1 : tie.Need-mul-if1
 mul-if1 c = omega (arith, sizes (c .before .args .log .now) (c .before .pre .0))

@@ -4,11 +4,6 @@ use Rattle.recovery.proofs.Laws.{not-synced, synced-is}
 use Rattle.redo_log.proofs.Records.{sizes, here, synced-length}
 use Rattle.recovery.proofs.inner.is_synced.Statement.{statement}
 use Rattle.recovery.proofs.inner.is_synced.Tie as tie
-use Rattle.recovery.proofs.inner.is_synced.Reads as reads
-use Rattle.recovery.proofs.inner.is_synced.Lts as lts
-use Rattle.slices.proofs.inner.fixed_width.read_u16.Reads as read-u16-reads
-use Rattle.slices.proofs.inner.fixed_width.read_u32.Reads as read-u32-reads
-use Rattle.recovery.proofs.inner.place_of.Reads as place-of-reads
 
 mul-if1 : tie.Need-mul-if1
 mul-if1 c = omega (arith, sizes (c .before .args .log .now) (c .before .pre .0))

@@ -3,10 +3,6 @@ use Rattle.redo_log.proofs.Records.{sizes, here}
 use borrow.Author.Needs.{needs}
 use Rattle.recovery.proofs.inner.last_at.Statement.{statement}
 use Rattle.recovery.proofs.inner.last_at.Tie as tie
-use Rattle.recovery.proofs.inner.last_at.Reads as reads
-use Rattle.recovery.proofs.inner.last_at.Lts as lts
-use Rattle.recovery.proofs.inner.place_of.Reads as place-of-reads
-use Rattle.redo_log.proofs.inner.reading.last_after.Reads as last-after-reads
 
 place-of-requires : tie.Need-place-of-requires
 place-of-requires c κs = ((c .before .pre .0), (c .before .pre .1))

@@ -4,9 +4,6 @@ use Rattle.redo_log.proofs.Records.{sizes, place-is, inside}
 use borrow.Author.Needs.{needs}
 use Rattle.recovery.proofs.inner.place_of.Statement.{statement}
 use Rattle.recovery.proofs.inner.place_of.Tie as tie
-use Rattle.recovery.proofs.inner.place_of.Reads as reads
-use Rattle.recovery.proofs.inner.place_of.Lts as lts
-use Rattle.slices.proofs.inner.fixed_width.read_u32.Reads as read-u32-reads
 
 mul-read-u32 : tie.Need-mul-read-u32
 mul-read-u32 c = omega (arith, sizes (c .before .args .log .now) (c .before .pre .0))

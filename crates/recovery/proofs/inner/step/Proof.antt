@@ -8,12 +8,6 @@ use Rattle.recovery.specs.Step.{pairsOf}
 use borrow.Author.Needs.{needs}
 use Rattle.recovery.proofs.inner.step.Statement.{statement}
 use Rattle.recovery.proofs.inner.step.Tie as tie
-use Rattle.recovery.proofs.inner.step.Reads as reads
-use Rattle.recovery.proofs.inner.step.Lts as lts
-use Rattle.slices.proofs.inner.fixed_width.read_u16.Reads as read-u16-reads
-use Rattle.recovery.proofs.inner.apply.Reads as apply-reads
-use Rattle.recovery.proofs.inner.is_due.Reads as is-due-reads
-use Rattle.recovery.proofs.inner.place_of.Reads as place-of-reads
 
 is-due-requires : tie.Need-is-due-requires
 is-due-requires c κs = ((c .before .before .before .before .pre .1), (c .before .before .before .before .pre .2), (c .before .before .before .before .pre .3))

@@ -10,9 +10,6 @@ use Rattle.redo_log.specs.Log.{recordCount, recordAt}
 use Rattle.redo_log.proofs.Records.{good-out}
 use Rattle.recovery.proofs.inner.synced.Statement.{statement}
 use Rattle.recovery.proofs.inner.synced.Tie as tie
-use Rattle.recovery.proofs.inner.synced.Reads as reads
-use Rattle.recovery.proofs.inner.synced.Lts as lts
-use Rattle.recovery.proofs.inner.is_synced.Reads as is-synced-reads
 
 abbrev Inv-loop : tie.InvT-loop
 Inv-loop log card t count j₀ j = (j ≤ count) × (any (syncsFrom card t) (table (recordAt log) j) ≡ false)

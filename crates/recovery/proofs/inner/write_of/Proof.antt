@@ -2,11 +2,6 @@ use lib.ListN.{length-drop}
 use borrow.Author.Needs.{needs}
 use Rattle.recovery.proofs.inner.write_of.Statement.{statement}
 use Rattle.recovery.proofs.inner.write_of.Tie as tie
-use Rattle.recovery.proofs.inner.write_of.Reads as reads
-use Rattle.recovery.proofs.inner.write_of.Lts as lts
-use Rattle.slices.proofs.inner.fixed_width.read_u16.Reads as read-u16-reads
-use Rattle.recovery.proofs.inner.act_of.Reads as act-of-reads
-use Rattle.recovery.proofs.inner.edition_of.Reads as edition-of-reads
 
 sub-size : tie.Need-sub-size
 sub-size c = search needs

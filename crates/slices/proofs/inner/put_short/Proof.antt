@@ -6,7 +6,8 @@ use mathlib.Core.List.{List}
 use lib.ListN.{length, take}
 use lib.Seq.{length-take-le}
 use Rattle.lists.specs.Parts.{splice}
-use Rattle.slices.proofs.Loops.{none-written, front-written}
+use Rattle.lists.proofs.Parts.{splice-front}
+use Rattle.slices.proofs.Loops.{none-written}
 use borrow.Author.Needs.{needs}
 use Rattle.slices.proofs.inner.put_short.Statement.{statement}
 use Rattle.slices.proofs.inner.put_short.Tie as tie
@@ -28,7 +29,7 @@ slice-aggregate-put-2 c = sym (length-take-le _ _ (omega (arith, c .before .befo
 
 put-requires-2 : tie.Need-put-requires-2
 put-requires-2 c κs =
-    let whole = ap length (ap (take (length (c .before .before .before .before .before .before .before .before .args .v .now))) (c .before .before .before .put .ensures) ∙ front-written (c .before .before .before .before .before .before .before .before .args .v .now) _) in
+    let whole = ap length (ap (take (length (c .before .before .before .before .before .before .before .before .args .v .now))) (c .before .before .before .put .ensures) ∙ splice-front (c .before .before .before .before .before .before .before .before .args .v .now) _) in
     omega (arith, whole, c .before .before .before .before .before .before .before .before .pre .1)
 
 same-length : tie.Need-same-length
@@ -38,7 +39,7 @@ returns-2 : tie.Need-returns-2
 returns-2 c =
     let start = c .before .before .before .before .before .before .before .before .before .before .before in
     c .before .before .put2 .ensures
-    ∙ ap (λ (v : List ℕ). splice (start .args .at) v (start .args .s .now)) (ap (take (length (start .args .v .now))) (c .before .before .before .before .before .before .put .ensures) ∙ front-written (start .args .v .now) _)
+    ∙ ap (λ (v : List ℕ). splice (start .args .at) v (start .args .s .now)) (ap (take (length (start .args .v .now))) (c .before .before .before .before .before .before .put .ensures) ∙ splice-front (start .args .v .now) _)
 
 pub put-short-spec : {M : Type 1} → statement M
 put-short-spec =

@@ -1,5 +1,4 @@
 -- By the test on the card. Assumes nothing.
-use mathlib.Core.Path.{sym, _∙_}
 use borrow.Author.Tests.{eq-eqb, ne-eqb}
 use Rattle.history.proofs.Walk.{never-spent}
 use Rattle.history.proofs.inner.kept.taken.Statement.{statement}

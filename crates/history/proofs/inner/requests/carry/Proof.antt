@@ -1,9 +1,8 @@
 -- Weighed, shown, kept. Assumes nothing.
-use Prim.Native.Nat.{_+_}
-use mathlib.Core.Path.{refl, sym, ap, _∙_}
+use mathlib.Core.Path.{refl, sym, ap}
 use native.Mathlib.Omega.{arith}
 use borrow.Author.Needs.{needs}
-use lib.ListN.{length, take}
+use lib.ListN.{length}
 use lib.Seq.{length-take-le}
 use Rattle.formats.specs.declared.Format.the-variants.{V1}
 use Rattle.commands.proofs.CommandBytes.{formedness}

@@ -1,10 +1,6 @@
 -- By the language that is read. Assumes nothing.
-use Prim.Native.Nat.{_+_}
-use mathlib.Core.Path.{refl, sym, ap, _∙_}
-use native.Mathlib.Omega.{arith}
+use mathlib.Core.Path.{sym, _∙_}
 use borrow.Author.Needs.{needs}
-use lib.ListN.{length, take}
-use lib.Seq.{length-take-le}
 use Rattle.lists.proofs.Parts.{splice-nil}
 use Rattle.history.proofs.Requests.{shows-original, shows-translation, shows-none}
 use Rattle.history.proofs.inner.requests.show.Statement.{statement}

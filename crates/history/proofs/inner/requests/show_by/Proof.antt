@@ -1,10 +1,6 @@
 -- The part that was found, put at the front. Assumes nothing.
-use Prim.Native.Nat.{_+_}
-use mathlib.Core.Path.{refl, sym, ap, _∙_}
-use native.Mathlib.Omega.{arith}
+use mathlib.Core.Path.{_∙_}
 use borrow.Author.Needs.{needs}
-use lib.ListN.{length, take}
-use lib.Seq.{length-take-le}
 use Rattle.history.proofs.Requests.{put-fits, put-is}
 use Rattle.history.proofs.inner.requests.show_by.Statement.{statement}
 use Rattle.history.proofs.inner.requests.show_by.Tie as tie

@@ -1,10 +1,5 @@
 -- By the number, then by the limits. Assumes nothing.
-use Prim.Native.Nat.{_+_}
-use mathlib.Core.Path.{refl, sym, ap, _∙_}
-use native.Mathlib.Omega.{arith}
 use borrow.Author.Needs.{needs}
-use lib.ListN.{length, take}
-use lib.Seq.{length-take-le}
 use Rattle.history.proofs.Requests.{weigh-refused, weigh-full, weigh-accepted}
 use Rattle.history.proofs.inner.requests.weigh.Statement.{statement}
 use Rattle.history.proofs.inner.requests.weigh.Tie as tie

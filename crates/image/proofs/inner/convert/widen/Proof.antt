@@ -1,6 +1,6 @@
 -- The bodies side by side, then the entry. Assumes nothing.
 use native.Mathlib.Omega.{arith}
-use mathlib.Core.Path.{_≡_, ap}
+use mathlib.Core.Path.{ap}
 use lib.ListN.{length}
 use Rattle.formats.specs.declared.Format.the-variants.{V1}
 use Rattle.image.proofs.Decode.{places}

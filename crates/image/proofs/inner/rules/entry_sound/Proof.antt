@@ -1,6 +1,7 @@
--- The tests in their order, by what each call ensures. Assumes nothing.
-use Rattle.lists.specs.Table.{all, allFrom}
-use Rattle.guard.specs.Entry.{entrySound}
+-- The stamps, the mark, and the two texts. Assumes nothing.
+use mathlib.Core.Path.{sym, _∙_}
+use borrow.Author.Tests.{not-true, not-false}
+use Rattle.image.proofs.Seen.{entry-in-two}
 use borrow.Author.Needs.{needs}
 use Rattle.image.proofs.inner.rules.entry_sound.Statement.{statement}
 use Rattle.image.proofs.inner.rules.entry_sound.Tie as tie
@@ -8,20 +9,54 @@ use Rattle.image.proofs.inner.rules.entry_sound.Tie as tie
 stamp-valid-requires : tie.Need-stamp-valid-requires
 stamp-valid-requires c κs = search needs
 
+returns : tie.Need-returns
+returns c = rw (entry-in-two (c .before .before .args .room) (c .before .before .args .e), sym (c .before .stamp-valid .ensures) ∙ not-true _ (c .if1 .taken))
+
 stamp-valid-requires-2 : tie.Need-stamp-valid-requires-2
 stamp-valid-requires-2 c κs = search needs
+
+returns-2 : tie.Need-returns-2
+returns-2 c = rw (
+  entry-in-two (c .before .before .before .before .args .room) (c .before .before .before .before .args .e),
+  sym (c .before .before .before .stamp-valid .ensures) ∙ not-false _ (c .before .before .if1 .left),
+  sym (c .before .stamp-valid2 .ensures) ∙ not-true _ (c .if2 .taken),
+)
 
 mark-whole-requires : tie.Need-mark-whole-requires
 mark-whole-requires c κs = search needs
 
-returns : tie.Need-returns
-unfolding entrySound all allFrom
-returns c = rw (
-  c .before .before .before .before .before .before .before .mark-whole .ensures,
-  c .before .before .before .before .before .before .before .before .stamp-valid2 .ensures,
-  c .before .before .before .before .before .before .before .before .before .stamp-valid .ensures,
+returns-3 : tie.Need-returns-3
+returns-3 c = rw (
+  entry-in-two (c .before .before .before .before .before .before .args .room) (c .before .before .before .before .before .before .args .e),
+  sym (c .before .before .before .before .before .stamp-valid .ensures) ∙ not-false _ (c .before .before .before .before .if1 .left),
+  sym (c .before .before .before .stamp-valid2 .ensures) ∙ not-false _ (c .before .before .if2 .left),
+  sym (c .before .mark-whole .ensures) ∙ not-true _ (c .if3 .taken),
 )
 
+text-sound-requires : tie.Need-text-sound-requires
+text-sound-requires c κs = search needs
+
+returns-4 : tie.Need-returns-4
+returns-4 c = rw (
+  entry-in-two (c .before .before .before .before .before .before .before .before .args .room) (c .before .before .before .before .before .before .before .before .args .e),
+  sym (c .before .before .before .before .before .before .before .stamp-valid .ensures) ∙ not-false _ (c .before .before .before .before .before .before .if1 .left),
+  sym (c .before .before .before .before .before .stamp-valid2 .ensures) ∙ not-false _ (c .before .before .before .before .if2 .left),
+  sym (c .before .before .before .mark-whole .ensures) ∙ not-false _ (c .before .before .if3 .left),
+  sym (c .before .text-sound .ensures) ∙ not-true _ (c .if4 .taken),
+)
+
+text-sound-requires-2 : tie.Need-text-sound-requires-2
+text-sound-requires-2 c κs = search needs
+
+returns-5 : tie.Need-returns-5
+returns-5 c = rw (
+  entry-in-two (c .before .before .before .before .before .before .before .before .before .args .room) (c .before .before .before .before .before .before .before .before .before .args .e),
+  sym (c .before .before .before .before .before .before .before .before .stamp-valid .ensures) ∙ not-false _ (c .before .before .before .before .before .before .before .if1 .left),
+  sym (c .before .before .before .before .before .before .stamp-valid2 .ensures) ∙ not-false _ (c .before .before .before .before .before .if2 .left),
+  sym (c .before .before .before .before .mark-whole .ensures) ∙ not-false _ (c .before .before .before .if3 .left),
+  sym (c .before .before .text-sound .ensures) ∙ not-false _ (c .before .if4 .left),
+)
+    (c .text-sound2 .ensures)
+
 pub entry-sound-spec : {M : Type 1} → statement M
-entry-sound-spec =
-    tie.close (tie.spec stamp-valid-requires stamp-valid-requires-2 mark-whole-requires returns)
+entry-sound-spec = tie.close (tie.spec stamp-valid-requires returns stamp-valid-requires-2 returns-2 mark-whole-requires returns-3 text-sound-requires returns-4 text-sound-requires-2 returns-5)

@@ -1,11 +1,14 @@
+-- The rules of the text, and its tail. Assumes nothing.
 use native.Mathlib.Numerals.{add-one}
 use native.Mathlib.Omega.{arith}
 use mathlib.Core.Path.{sym, _∙_}
 use borrow.Author.Tests.{not-true, not-false}
+use Rattle.lists.proofs.Tests.{from-T}
 use Rattle.formats.proofs.Numbers.{numbers}
-use Rattle.image.proofs.Bytes.{lengths}
+use Rattle.image.specs.Bytes.{roomOf, entryAt}
 use Rattle.image.specs.Image.{tailZero}
-use Rattle.image.proofs.Bytes.{translation-fails, translation-holds, body-lies, entry-lies}
+use Rattle.image.proofs.Bytes.{lengths, translation-fails, translation-holds, body-lies, entry-lies}
+use Rattle.image.proofs.Seen.{seen-read}
 use borrow.Author.Needs.{needs}
 use Rattle.image.proofs.inner.rules.translation_sound.Statement.{statement}
 use Rattle.image.proofs.inner.rules.translation_sound.Tie as tie
@@ -16,51 +19,46 @@ count-requires c κs = search needs
 room-requires : tie.Need-room-requires
 room-requires c κs = search needs
 
-entry-at-requires : tie.Need-entry-at-requires
-entry-at-requires c κs = let given = c .before .before .before .pre in (entry-lies (c .before .before .before .args .f) (c .before .before .before .args .image .now) (given .0) (given .1), given .2)
+from-at-requires : tie.Need-from-at-requires
+from-at-requires c κs = let given = c .before .before .before .pre in (entry-lies (c .before .before .before .args .f) (c .before .before .before .args .image .now) (given .0) (given .1), given .2)
 
-entry-sound-requires : tie.Need-entry-sound-requires
-entry-sound-requires c κs = search needs
+length-at-requires : tie.Need-length-at-requires
+length-at-requires c κs = let given = c .before .before .before .before .pre in (entry-lies (c .before .before .before .before .args .f) (c .before .before .before .before .args .image .now) (given .0) (given .1), given .2)
+
+text-sound-requires : tie.Need-text-sound-requires
+text-sound-requires c κs = search needs
 
 returns : tie.Need-returns
-returns c = let fails = sym (c .before .entry-sound .ensures) ∙ not-true _ (c .if1 .taken) in
-    sym (translation-fails _ (c .before .before .before .before .before .before .args .image .now) (c .before .before .before .before .before .before .args .k) (c .before .before .before .before .before .before .args .t) (rw (c .before .before .entry-at .ensures, c .before .before .before .room .ensures) at fails))
+returns c = let a = c .before .before .before .before .before .before .before .args in
+    let same = seen-read (a .f) (a .image .now) (a .k) (a .t) (from-T _ (c .before .before .before .before .before .before .before .pre .4)) (c .before .before .before .before .before .before .before .pre .3) (c .before .before .before .from-at .ensures) (c .before .before .length-at .ensures) (c .before .before .before .before .room .ensures) (c .before .text-sound .ensures) in
+    sym (translation-fails (a .f) (a .image .now) (a .k) (a .t) (sym same ∙ not-true _ (c .if1 .taken)))
 
 add-body-place : tie.Need-add-body-place
-add-body-place c = let n = numbers (c .before .before .before .before .before .before .args .f) in omega (arith, n, c .before .before .before .before .before .before .pre)
+add-body-place c = let n = numbers (c .before .before .before .before .before .before .before .args .f) in omega (arith, n, c .before .before .before .before .before .before .before .pre .2)
 
 body-place-requires : tie.Need-body-place-requires
 body-place-requires c κs = search needs
 
 tail-zero-requires : tie.Need-tail-zero-requires
-tail-zero-requires c κs = let l = lengths _ (c .before .before .before .entry-at .result) (sym (c .before .before .entry-sound .ensures) ∙ not-false _ (c .before .if1 .left)) in
-    let given = c .before .before .before .before .before .before .before .pre in
-    (omega arith, body-lies (c .before .before .before .before .before .before .before .args .f) (c .before .before .before .before .before .before .before .args .image .now) (c .body-place .ensures) (c .before .before .before .before .before .count .ensures) (c .before .before .before .before .room .ensures) (given .0) (given .1) (omega (arith, given .2)))
+tail-zero-requires c κs = let a = c .before .before .before .before .before .before .before .before .args in
+    let given = c .before .before .before .before .before .before .before .before .pre in
+    let same = seen-read (a .f) (a .image .now) (a .k) (a .t) (from-T _ (given .4)) (given .3) (c .before .before .before .before .from-at .ensures) (c .before .before .before .length-at .ensures) (c .before .before .before .before .before .room .ensures) (c .before .before .text-sound .ensures) in
+    let l = lengths (roomOf (a .image .now)) (entryAt (a .f) (a .image .now) (a .k) (a .t)) (sym same ∙ not-false _ (c .before .if1 .left)) in
+    (rw (c .before .before .before .length-at .ensures, c .before .before .before .before .before .room .ensures) (l .translation), body-lies (a .f) (a .image .now) (c .body-place .ensures) (c .before .before .before .before .before .before .count .ensures) (c .before .before .before .before .before .room .ensures) (given .0) (given .1) (omega (arith, given .2)))
 
 returns-2 : tie.Need-returns-2
 unfolding tailZero
-returns-2 c = let holds = sym (c .before .before .before .entry-sound .ensures) ∙ not-false _ (c .before .before .if1 .left) in
-    let a = c .before .before .before .before .before .before .before .before .args in
+returns-2 c = let a = c .before .before .before .before .before .before .before .before .before .args in
+    let same = seen-read (a .f) (a .image .now) (a .k) (a .t) (from-T _ (c .before .before .before .before .before .before .before .before .before .pre .4)) (c .before .before .before .before .before .before .before .before .before .pre .3) (c .before .before .before .before .before .from-at .ensures) (c .before .before .before .before .length-at .ensures) (c .before .before .before .before .before .before .room .ensures) (c .before .before .before .text-sound .ensures) in
     rw (
       c .tail-zero .ensures,
       c .before .body-place .ensures,
       add-one (a .t),
-      c .before .before .before .before .entry-at .ensures,
-      c .before .before .before .before .before .room .ensures,
-      c .before .before .before .before .before .before .count .ensures,
+      c .before .before .before .before .length-at .ensures,
+      c .before .before .before .before .before .before .room .ensures,
+      c .before .before .before .before .before .before .before .count .ensures,
     )
-    (translation-holds (a .f) (a .image .now) (a .k) (a .t) (rw (c .before .before .before .before .entry-at .ensures, c .before .before .before .before .before .room .ensures) at holds))
+    (translation-holds (a .f) (a .image .now) (a .k) (a .t) (sym same ∙ not-false _ (c .before .before .if1 .left)))
 
 pub translation-sound-spec : {M : Type 1} → statement M
-translation-sound-spec =
-    tie.close
-    (tie.spec
-    count-requires
-    room-requires
-    entry-at-requires
-    entry-sound-requires
-    returns
-    add-body-place
-    body-place-requires
-    tail-zero-requires
-    returns-2)
+translation-sound-spec = tie.close (tie.spec count-requires room-requires from-at-requires length-at-requires text-sound-requires returns add-body-place body-place-requires tail-zero-requires returns-2)

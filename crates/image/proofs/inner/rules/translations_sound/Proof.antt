@@ -11,10 +11,10 @@ use Rattle.image.proofs.inner.rules.translations_sound.Statement.{state
 use Rattle.image.proofs.inner.rules.translations_sound.Tie as tie
 
 abbrev Inv-loop : tie.InvT-loop
-Inv-loop f image k count t₀ t = (t ≤ count) × (every (translationSound f image k) t ≡ true)
+Inv-loop f image k edition count t₀ t = (t ≤ count) × (every (translationSound f image k) t ≡ true)
 
 abbrev μ-loop : tie.MeasureT-loop
-μ-loop f image k count t₀ t = count - t
+μ-loop f image k edition count t₀ t = count - t
 
 translations-requires : tie.Need-translations-requires Inv-loop μ-loop
 translations-requires c κs = tt
@@ -23,7 +23,7 @@ loop-holds : tie.Need-loop-holds Inv-loop μ-loop
 loop-holds c = (omega arith, every-none (translationSound (c .before .before .args .f) (c .before .before .args .image .now) (c .before .before .args .k)))
 
 translation-sound-requires : tie.Need-translation-sound-requires Inv-loop μ-loop
-translation-sound-requires c κs = (c .before .before .before .before .pre .0, c .before .before .before .before .pre .1, omega (arith, c .before .before .translations .ensures))
+translation-sound-requires c κs = let given = c .before .before .before .before .pre in (given .0, given .1, omega (arith, c .before .before .translations .ensures), given .2, given .3)
 
 returns : tie.Need-returns Inv-loop μ-loop
 returns c = sym (every-fail (translationSound (c .before .before .before .before .before .before .args .f) (c .before .before .before .before .before .before .args .image .now) (c .before .before .before .before .before .before .args .k)) (translations (c .before .before .before .before .before .before .args .f)) (c .before .before .before .loop .t) (omega (arith, c .before .before .before .before .translations .ensures))

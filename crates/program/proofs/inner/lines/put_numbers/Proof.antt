@@ -1,10 +1,8 @@
 -- The loop: after i numbers those from place i on are left to write. Assumes nothing.
 use Prim.Native.Nat.{_+_, _-_, _*_, _≤_, _<_}
 use native.Mathlib.Omega.{arith}
-use borrow.Author.Needs.{needs}
-use lib.ListN.{length, drop, drop-of-length-le}
+use lib.ListN.{length, drop}
 use Rattle.lists.specs.Parts.{spread}
-use Rattle.lists.proofs.Parts.{drop-left}
 use Rattle.program.specs.Text.{spaced, mostDigits}
 use Rattle.program.proofs.Puts.{Putting, putting-none, putting-more, putting-done}
 use Rattle.store.specs.Runs.{perLine}

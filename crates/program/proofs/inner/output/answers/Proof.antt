@@ -1,5 +1,5 @@
 -- The image's copy is the front of the input, and the reply buffer is zeros. Assumes nothing.
-use mathlib.Core.Path.{sym, _∙_}
+use mathlib.Core.Path.{sym}
 use native.Mathlib.Omega.{arith}
 use lib.Seq.{length-take-le}
 use Rattle.program.proofs.Answered.{back-of, answered-by}
@@ -19,32 +19,32 @@ put-requires c κs = let lent = length-take-le (c .before .before .before .befor
 array-borrow-prefix-image : tie.Need-array-borrow-prefix-image
 array-borrow-prefix-image c = search needs
 
-slice-aggregate-run : tie.Need-slice-aggregate-run
-slice-aggregate-run c = sym (length-take-le _ _ (omega (arith, c .before .before .before .before .before .before .before .pre .small)))
+slice-aggregate-put-printed : tie.Need-slice-aggregate-put-printed
+slice-aggregate-put-printed c = sym (length-take-le _ _ (omega (arith, c .before .before .before .before .before .before .before .pre .small)))
 
-sub-run : tie.Need-sub-run
-sub-run c = search needs
+sub-put-printed : tie.Need-sub-put-printed
+sub-put-printed c = search needs
 
-part-run-start : tie.Need-part-run-start
-part-run-start c = search needs
+part-put-printed-start : tie.Need-part-put-printed-start
+part-put-printed-start c = search needs
 
-part-run-end : tie.Need-part-run-end
-part-run-end c = search needs
+part-put-printed-end : tie.Need-part-put-printed-end
+part-put-printed-end c = search needs
 
 array-borrow-prefix-reply : tie.Need-array-borrow-prefix-reply
 array-borrow-prefix-reply c = search needs
 
-slice-aggregate-run-2 : tie.Need-slice-aggregate-run-2
-slice-aggregate-run-2 c = sym (length-take-le _ _ (omega (arith, c .before .before .before .before .before .before .before .before .before .pre .most)))
+slice-aggregate-put-printed-2 : tie.Need-slice-aggregate-put-printed-2
+slice-aggregate-put-printed-2 c = sym (length-take-le _ _ (omega (arith, c .before .before .before .before .before .before .before .before .before .pre .most)))
 
-run-requires : tie.Need-run-requires
-run-requires c κs = rw (back-of (c .before .before .before .before .before .before .before .before .before .before .args .size) (c .before .before .before .before .before .before .before .before .before .before .args .input .now)) (c .before .before .before .before .before .before .before .before .before .before .pre .lines)
+put-printed-requires : tie.Need-put-printed-requires
+put-printed-requires c κs = rw (back-of (c .before .before .before .before .before .before .before .before .before .before .args .size) (c .before .before .before .before .before .before .before .before .before .before .args .input .now)) (c .before .before .before .before .before .before .before .before .before .before .pre .lines)
 
 same-length : tie.Need-same-length
 same-length c = search needs
 
 returns : tie.Need-returns
-returns c = answered-by (c .before .before .before .before .before .before .before .before .before .before .before .before .before .before .before .args .size) (c .before .before .before .before .before .before .before .before .before .before .before .before .before .before .before .args .room) (c .before .before .before .before .before .before .before .before .before .before .before .before .before .before .before .args .input .now) _ _ (c .before .before .before .before .before .before .before .before .before .before .before .before .before .before .before .pre .within) (c .before .before .before .before .before .before .before .before .before .before .before .before .before .before .before .pre .most) (c .before .before .before .before .before .before .before .before .before .before .put .ensures) (c .before .before .before .before .run .ensures)
+returns c = answered-by (c .before .before .before .before .before .before .before .before .before .before .before .before .before .before .before .args .size) (c .before .before .before .before .before .before .before .before .before .before .before .before .before .before .before .args .room) (c .before .before .before .before .before .before .before .before .before .before .before .before .before .before .before .args .input .now) _ _ (c .before .before .before .before .before .before .before .before .before .before .before .before .before .before .before .pre .within) (c .before .before .before .before .before .before .before .before .before .before .before .before .before .before .before .pre .most) (c .before .before .before .before .before .before .before .before .before .before .put .ensures) (c .before .before .before .before .put-printed .ensures)
 
 pub answers-spec : {M : Type 1} → statement M
 answers-spec =
@@ -54,12 +54,12 @@ answers-spec =
     slice-aggregate-put-2
     put-requires
     array-borrow-prefix-image
-    slice-aggregate-run
-    sub-run
-    part-run-start
-    part-run-end
+    slice-aggregate-put-printed
+    sub-put-printed
+    part-put-printed-start
+    part-put-printed-end
     array-borrow-prefix-reply
-    slice-aggregate-run-2
-    run-requires
+    slice-aggregate-put-printed-2
+    put-printed-requires
     same-length
     returns)

@@ -3,8 +3,6 @@ use Rattle.proposals.specs.Propose.{nextT}
 use borrow.Author.Needs.{needs}
 use Rattle.proposals.proofs.inner.above.next_t.Statement.{statement}
 use Rattle.proposals.proofs.inner.above.next_t.Tie as tie
-use Rattle.proposals.proofs.inner.above.next_t.Reads as reads
-use Rattle.proposals.proofs.inner.above.next_t.Lts as lts
 
 -- src/lib.rt:38:12
 mul-if1 : tie.Need-mul-if1

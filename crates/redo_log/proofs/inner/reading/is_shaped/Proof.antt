@@ -2,9 +2,6 @@ use Rattle.redo_log.specs.Log.{shaped}
 use borrow.Author.Needs.{needs}
 use Rattle.redo_log.proofs.inner.reading.is_shaped.Statement.{statement}
 use Rattle.redo_log.proofs.inner.reading.is_shaped.Tie as tie
-use Rattle.redo_log.proofs.inner.reading.is_shaped.Reads as reads
-use Rattle.redo_log.proofs.inner.reading.is_shaped.Lts as lts
-use Rattle.redo_log.proofs.inner.reading.side.Reads as side-reads
 
 side-requires : tie.Need-side-requires
 side-requires c κs = search needs

@@ -5,9 +5,6 @@ use mathlib.Core.Path.{sym, _∙_}
 use borrow.Author.Needs.{needs}
 use Rattle.redo_log.proofs.inner.reading.last_after.Statement.{statement}
 use Rattle.redo_log.proofs.inner.reading.last_after.Tie as tie
-use Rattle.redo_log.proofs.inner.reading.last_after.Reads as reads
-use Rattle.redo_log.proofs.inner.reading.last_after.Lts as lts
-use Rattle.slices.proofs.inner.fixed_width.read_u32.Reads as read-u32-reads
 
 mul-if1 : tie.Need-mul-if1
 mul-if1 c = search needs

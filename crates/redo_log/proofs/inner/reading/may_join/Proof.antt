@@ -6,10 +6,6 @@ use borrow.Author.Tests.{not-true, not-false}
 use borrow.Author.Needs.{needs}
 use Rattle.redo_log.proofs.inner.reading.may_join.Statement.{statement}
 use Rattle.redo_log.proofs.inner.reading.may_join.Tie as tie
-use Rattle.redo_log.proofs.inner.reading.may_join.Reads as reads
-use Rattle.redo_log.proofs.inner.reading.may_join.Lts as lts
-use Rattle.slices.proofs.inner.fixed_width.read_u32.Reads as read-u32-reads
-use Rattle.redo_log.proofs.inner.reading.is_shaped.Reads as is-shaped-reads
 
 is-shaped-requires : tie.Need-is-shaped-requires
 is-shaped-requires c κs = search needs

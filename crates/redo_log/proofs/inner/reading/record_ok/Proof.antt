@@ -7,12 +7,6 @@ use Rattle.redo_log.proofs.Reading.{ok-beyond, ok-code}
 use borrow.Author.Needs.{needs}
 use Rattle.redo_log.proofs.inner.reading.record_ok.Statement.{statement}
 use Rattle.redo_log.proofs.inner.reading.record_ok.Tie as tie
-use Rattle.redo_log.proofs.inner.reading.record_ok.Reads as reads
-use Rattle.redo_log.proofs.inner.reading.record_ok.Lts as lts
-use Rattle.slices.proofs.inner.fixed_width.read_u16.Reads as read-u16-reads
-use Rattle.slices.proofs.inner.fixed_width.read_u32.Reads as read-u32-reads
-use Rattle.redo_log.proofs.inner.reading.may_join.Reads as may-join-reads
-use Rattle.redo_log.proofs.inner.reading.sum_of.Reads as sum-of-reads
 
 mul-at : tie.Need-mul-at
 mul-at c = search needs

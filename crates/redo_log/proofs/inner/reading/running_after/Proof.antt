@@ -3,8 +3,6 @@ use mathlib.Core.Path.{sym}
 use borrow.Author.Needs.{needs}
 use Rattle.redo_log.proofs.inner.reading.running_after.Statement.{statement}
 use Rattle.redo_log.proofs.inner.reading.running_after.Tie as tie
-use Rattle.redo_log.proofs.inner.reading.running_after.Reads as reads
-use Rattle.redo_log.proofs.inner.reading.running_after.Lts as lts
 
 mul-kind : tie.Need-mul-kind
 mul-kind c = search needs

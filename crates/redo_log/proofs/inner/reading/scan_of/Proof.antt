@@ -8,13 +8,6 @@ use Rattle.redo_log.specs.Log.{recordOk}
 use borrow.Author.Needs.{needs}
 use Rattle.redo_log.proofs.inner.reading.scan_of.Statement.{statement}
 use Rattle.redo_log.proofs.inner.reading.scan_of.Tie as tie
-use Rattle.redo_log.proofs.inner.reading.scan_of.Reads as reads
-use Rattle.redo_log.proofs.inner.reading.scan_of.Lts as lts
-use Rattle.redo_log.proofs.inner.reading.last_after.Reads as last-after-reads
-use Rattle.redo_log.proofs.inner.reading.no_scan.Reads as no-scan-reads
-use Rattle.redo_log.proofs.inner.reading.record_ok.Reads as record-ok-reads
-use Rattle.redo_log.proofs.inner.reading.running_after.Reads as running-after-reads
-use Rattle.redo_log.proofs.inner.reading.stop_after.Reads as stop-after-reads
 
 abbrev Inv-loop : tie.InvT-loop
 Inv-loop log count stop₀ last₀ running₀ i₀ stop last running i = Scanning log stop last running i

@@ -4,8 +4,6 @@ use mathlib.Core.Path.{sym}
 use borrow.Author.Needs.{needs}
 use Rattle.redo_log.proofs.inner.reading.side.Statement.{statement}
 use Rattle.redo_log.proofs.inner.reading.side.Tie as tie
-use Rattle.redo_log.proofs.inner.reading.side.Reads as reads
-use Rattle.redo_log.proofs.inner.reading.side.Lts as lts
 
 returns : tie.Need-returns
 returns c = sym (List·getD-eq-default (c .before .args .body .now) 0 {n = 2} (omega arith))

@@ -5,9 +5,6 @@ use mathlib.Core.Path.{sym}
 use borrow.Author.Needs.{needs}
 use Rattle.redo_log.proofs.inner.reading.stop_after.Statement.{statement}
 use Rattle.redo_log.proofs.inner.reading.stop_after.Tie as tie
-use Rattle.redo_log.proofs.inner.reading.stop_after.Reads as reads
-use Rattle.redo_log.proofs.inner.reading.stop_after.Lts as lts
-use Rattle.slices.proofs.inner.fixed_width.read_u16.Reads as read-u16-reads
 
 mul-read-u16 : tie.Need-mul-read-u16
 mul-read-u16 c = search needs

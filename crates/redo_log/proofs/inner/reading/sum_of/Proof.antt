@@ -4,8 +4,6 @@ use lib.ListN.{length}
 use Prim.Native.Nat.{_-_}
 use Rattle.redo_log.proofs.inner.reading.sum_of.Statement.{statement}
 use Rattle.redo_log.proofs.inner.reading.sum_of.Tie as tie
-use Rattle.redo_log.proofs.inner.reading.sum_of.Reads as reads
-use Rattle.redo_log.proofs.inner.reading.sum_of.Lts as lts
 
 abbrev Inv-loop : tie.InvT-loop
 Inv-loop body sum₀ i₀ sum i = Summing body sum i

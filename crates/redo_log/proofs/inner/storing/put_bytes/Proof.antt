@@ -6,10 +6,6 @@ use lib.Seq.{length-take-le}
 use borrow.Author.Needs.{needs}
 use Rattle.redo_log.proofs.inner.storing.put_bytes.Statement.{statement}
 use Rattle.redo_log.proofs.inner.storing.put_bytes.Tie as tie
-use Rattle.redo_log.proofs.inner.storing.put_bytes.Reads as reads
-use Rattle.redo_log.proofs.inner.storing.put_bytes.Lts as lts
-use Rattle.slices.proofs.inner.put.Reads as put-reads
-use Rattle.redo_log.proofs.inner.storing.least.Reads as least-reads
 
 least-requires : tie.Need-least-requires
 least-requires c κs = search needs

@@ -3,11 +3,6 @@ use Rattle.redo_log.proofs.Budget.{line-put}
 use borrow.Author.Needs.{needs}
 use Rattle.redo_log.proofs.inner.storing.put_line.Statement.{statement}
 use Rattle.redo_log.proofs.inner.storing.put_line.Tie as tie
-use Rattle.redo_log.proofs.inner.storing.put_line.Reads as reads
-use Rattle.redo_log.proofs.inner.storing.put_line.Lts as lts
-use Rattle.redo_log.proofs.inner.storing.left.Reads as left-reads
-use Rattle.redo_log.proofs.inner.storing.put_number.Reads as put-number-reads
-use Rattle.redo_log.proofs.inner.reading.sum_of.Reads as sum-of-reads
 
 put-number-requires : tie.Need-put-number-requires
 put-number-requires c κs = search needs

@@ -2,10 +2,6 @@ use Rattle.redo_log.proofs.Budget.{toLe-min}
 use borrow.Author.Needs.{needs}
 use Rattle.redo_log.proofs.inner.storing.put_number.Statement.{statement}
 use Rattle.redo_log.proofs.inner.storing.put_number.Tie as tie
-use Rattle.redo_log.proofs.inner.storing.put_number.Reads as reads
-use Rattle.redo_log.proofs.inner.storing.put_number.Lts as lts
-use Rattle.slices.proofs.inner.write.Reads as write-reads
-use Rattle.redo_log.proofs.inner.storing.least.Reads as least-reads
 
 least-requires : tie.Need-least-requires
 least-requires c κs = search needs

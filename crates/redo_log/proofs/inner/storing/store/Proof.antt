@@ -3,12 +3,6 @@ use mathlib.Core.Path.{refl}
 use borrow.Author.Needs.{needs}
 use Rattle.redo_log.proofs.inner.storing.store.Statement.{statement}
 use Rattle.redo_log.proofs.inner.storing.store.Tie as tie
-use Rattle.redo_log.proofs.inner.storing.store.Reads as reads
-use Rattle.redo_log.proofs.inner.storing.store.Lts as lts
-use Rattle.redo_log.proofs.inner.storing.left.Reads as left-reads
-use Rattle.redo_log.proofs.inner.storing.put_bytes.Reads as put-bytes-reads
-use Rattle.redo_log.proofs.inner.storing.put_line.Reads as put-line-reads
-use Rattle.redo_log.proofs.inner.storing.put_number.Reads as put-number-reads
 
 slice-read-count : tie.Need-slice-read-count
 slice-read-count c = search needs

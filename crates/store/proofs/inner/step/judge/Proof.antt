@@ -21,8 +21,8 @@ returns c =
     refl)
     (start .pre)
 
-step-requires : tie.Need-step-requires
-step-requires c κs =
+serve-requires : tie.Need-serve-requires
+serve-requires c κs =
     let start = c .before .before .before .before .before .before in
     sym (start .pre) ∙ not-false (start .args .checked) (c .before .before .if1 .left)
 
@@ -35,8 +35,8 @@ same-length-2 c = search needs
 returns-2 : tie.Need-returns-2
 returns-2 c =
     let start = c .before .before .before .before .before .before .before .before .before .before .before in
-    let e = c .before .before .before .before .step .ensures in
+    let e = c .before .before .before .before .serve .ensures in
     (e .0, (e .1 .0, (e .1 .1 .0, not-false (start .args .checked) (c .before .before .before .before .before .before .before .if1 .left) ∙ sym (e .1 .1 .1))))
 
 pub judge-spec : {M : Type 1} → statement M
-judge-spec = tie.close (tie.spec refusal-requires returns step-requires same-length same-length-2 returns-2)
+judge-spec = tie.close (tie.spec refusal-requires returns serve-requires same-length same-length-2 returns-2)

@@ -1,7 +1,6 @@
 -- A drop is read, or cut short, or of another unit. Assumes nothing.
 use native.Mathlib.Omega.{arith}
 use borrow.Author.Needs.{needs}
-use Prim.Native.Nat.{_+_, _≤_}
 use mathlib.Core.Logic.{⊎-elim}
 use Rattle.drops.specs.Drop.{celsius, fahrenheit}
 use Rattle.texts.proofs.Reading.{drop-read, drop-cut, drop-unit}

@@ -1,8 +1,7 @@
 -- Words are read, or cut short. Assumes nothing.
 use native.Mathlib.Omega.{arith}
 use borrow.Author.Needs.{needs}
-use Prim.Native.Nat.{_+_, _≤_}
-use lib.ListN.{length, getD}
+use Prim.Native.Nat.{_+_}
 use denote.Ref.{now}
 use Rattle.texts.proofs.Reading.{words-read, words-cut}
 use Rattle.texts.proofs.inner.read.words.Statement.{statement}

@@ -1,0 +1,122 @@
+use native.Mathlib.Omega.{arith}
+use mathlib.Core.Path.{_≡_, refl, sym, ap, _∙_}
+use mathlib.Core.Bool.{true}
+use borrow.Author.Tests.{le-ltb}
+use Rattle.commands.specs.Bytes.{fieldsOf, formed}
+use Rattle.commands.proofs.Parsing.{is-malformed, is-formed}
+use Rattle.commands.proofs.CommandBytes.{length-payload, language-within, formedness}
+use Rattle.image.specs.Image.{sound}
+use Rattle.model.proofs.Sound.{stays-sound}
+use Rattle.store.proofs.Kept.{header-in}
+use Rattle.store.proofs.Step.{exits, and-last, fixed-in, behind-place, serve-malformed, serve-no-card, serve-found}
+use borrow.Author.Needs.{needs}
+use Rattle.store.proofs.inner.step.serve.Statement.{statement}
+use Rattle.store.proofs.inner.step.serve.Tie as tie
+
+-- The command was found in the lent bytes.
+found : (c : tie.After-known-told) →
+    (formed (c .before .before .before .before .before .before .before .args .f) (c .before .before .before .before .before .before .before .args .command .now) ≡ true) × (c .before .c .given .0 .0 ≡ fieldsOf (c .before .before .before .before .before .before .before .args .f) (c .before .before .before .before .before .before .before .args .command .now))
+found c = is-formed (c .before .before .before .before .before .before .before .args .f) (c .before .before .before .before .before .before .before .args .command .now) (sym (c .before .c .given .1) ∙ c .before .before .before .parse-as .ensures)
+
+parse-as-requires : tie.Need-parse-as-requires
+parse-as-requires c κs = search needs
+
+enum-known-c : tie.Need-enum-known-c
+enum-known-c c = search needs
+
+enum-told : tie.Need-enum-told
+enum-told c = search needs
+
+refusal-requires : tie.Need-refusal-requires
+refusal-requires c κs = search needs
+
+returns : tie.Need-returns
+returns c = let start = c .before .before .before .before .before .before .before in
+    let command = start .args .command .now in
+    let none = is-malformed (start .args .f) command (sym (c .before .enum-told .given .1) ∙ c .before .before .before .parse-as .ensures) in
+    and-last (exits (serve-malformed (start .args .f) (start .args .image .now) command (start .args .reply .now) (start .pre) none) (c .refusal .ensures) refl refl)
+    (start .pre)
+
+count-requires : tie.Need-count-requires
+count-requires c κs = header-in _ _ (c .before .before .before .before .before .before .before .before .pre)
+
+refusal-requires-2 : tie.Need-refusal-requires-2
+refusal-requires-2 c κs = search needs
+
+same-length : tie.Need-same-length
+same-length c = search needs
+
+returns-2 : tie.Need-returns-2
+returns-2 c = let start = c .before .before .before .before .before .before .before .before .before .before .before .before in
+    let command = start .args .command .now in
+    let whole = found (c .before .before .before .before .before) in
+    and-last
+    (exits (serve-no-card (start .args .f) (start .args .image .now) command (start .args .reply .now) (start .pre) (whole .0) (rw (← whole .1, ← c .before .before .before .count .ensures) (le-ltb _ _ (c .before .if1 .taken)))) (c .refusal2 .ensures) refl refl)
+    (start .pre)
+
+fixed-requires : tie.Need-fixed-requires
+fixed-requires c κs = search needs
+
+sub-carry : tie.Need-sub-carry
+sub-carry c = let whole = fixed-in _ _ (found (c .before .before .before .before .before .before) .0) in omega (arith, whole, c .before .fixed .ensures)
+
+part-carry-start : tie.Need-part-carry-start
+part-carry-start c = let whole = fixed-in _ _ (found (c .before .before .before .before .before .before) .0) in omega (arith, whole, c .before .fixed .ensures)
+
+part-carry-end : tie.Need-part-carry-end
+part-carry-end c = search needs
+
+carry-requires : tie.Need-carry-requires
+carry-requires c κs = let start = c .before .before .before .before .before .before .before .before .before .before .before .before .before .before .before in
+    let command = start .args .command .now in
+    let whole = found (c .before .before .before .before .before .before .before .before) in (
+      start .pre,
+      rw (← c .before .before .before .before .before .before .count .ensures) (c .before .before .before .before .if1 .left),
+      rw (whole .1) (language-within (start .args .f) command (whole .0)),
+      rw (behind-place (start .args .f) command (c .before .before .before .fixed .ensures), whole .1) (length-payload (start .args .f) command (whole .0)),
+      rw (whole .1) (formedness (start .args .f) command (whole .0) .rules),
+    )
+
+same-length-2 : tie.Need-same-length-2
+same-length-2 c = search needs
+
+same-length-3 : tie.Need-same-length-3
+same-length-3 c = search needs
+
+returns-3 : tie.Need-returns-3
+returns-3 c = let start = c .before .before .before .before .before .before .before .before .before .before .before .before .before .before .before .before .before .before .before .before in
+    let image = start .args .image .now in
+    let command = start .args .command .now in
+    let reply = start .args .reply .now in
+    let whole = found (c .before .before .before .before .before .before .before .before .before .before .before .before .before) in
+    let done = c .before .before .before .before .carry .ensures in
+    let left = exits (serve-found (start .args .f) image command reply (start .pre) (whole .0) (whole .1) (behind-place (start .args .f) command (c .before .before .before .before .before .before .before .before .fixed .ensures)) (rw (← c .before .before .before .before .before .before .before .before .before .before .before .count .ensures) (c .before .before .before .before .before .before .before .before .before .if1 .left))) (done .0) (done .1 .0) (done .1 .1) in
+    and-last left
+    (ap (sound (start .args .f)) (left .1 .0)
+    ∙ stays-sound (start .args .f) image command reply
+    (λ j. c .before .before .before .before .before .before .before .before .before .before .before .before .before .before .before .before .before .before .before .slice-known .given j .fits)
+    (λ j. c .before .before .before .before .before .before .before .before .before .before .before .before .before .before .before .before .before .before .shared-slice-known .given j .fits)
+    (λ j. c .before .before .before .before .before .before .before .before .before .before .before .before .before .before .before .before .before .slice-known2 .given j .fits)
+    (start .pre))
+
+pub serve-spec : {M : Type 1} → statement M
+serve-spec =
+    tie.close
+    (tie.spec
+    parse-as-requires
+    enum-known-c
+    enum-told
+    refusal-requires
+    returns
+    count-requires
+    refusal-requires-2
+    same-length
+    returns-2
+    fixed-requires
+    sub-carry
+    part-carry-start
+    part-carry-end
+    carry-requires
+    same-length-2
+    same-length-3
+    returns-3)
