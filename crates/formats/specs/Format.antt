@@ -5,7 +5,7 @@ use mathlib.Core.Bool.{Bool, true, false}
 use Rattle.formats.specs.declared.Format.{Format}
 use Rattle.formats.specs.declared.Format.the-variants.{V1, V2}
 
--- The version that a plain value names: whether it is the second.
+-- The version that a plain value names: whether it is the second (rules 2.3 and 15.3).
 abbrev pub formatOf : Bool → Format
 formatOf false = V1
 formatOf true = V2

@@ -37,7 +37,7 @@ abbrev pub onward : ℕ → Next → ℕ
 onward at (Whole end) = end
 onward at Cut = at
 
--- A whole command stands there.
+-- Whether a whole command stands at the place that was looked at (rule 8.1).
 abbrev pub isWhole : Next → Bool
 isWhole (Whole end) = true
 isWhole Cut = false

@@ -63,7 +63,7 @@ pub fn entry_at(f: Format, image: &[u8], k: u16, t: u8) -> Entry
     entry_of(f, &image[at..end], t)
 }
 
-// Of card k alone the edition that translation t was made from, and alone that translation's length.
+// The edition that translation t of card k was made from, and that translation's length, each read by itself.
 pub fn from_at(f: Format, image: &[u8], k: u16, t: u8) -> u16
     requires { ⌜ (entryPlace f k + entrySize f ≤ length (now image)) × (t < translations f) ⌝ }
     ensures { λ r. ⌜ r ≡ entryAt f (now (image .entry)) k t .from ⌝ }
