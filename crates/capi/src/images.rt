@@ -1,14 +1,12 @@
 // Images, for Rust and C: made, looked at, one request on one, and one of version 2 made of one.
 ghost use mathlib.Core.Path.{_≡_};
+ghost use mathlib.Core.List.{_∷_};
 ghost use lib.ListN.{length};
-ghost use Rattle.formats.specs.declared.Format.the-variants.{V1};
+ghost use Rattle.formats.specs.Format.{V1};
 ghost use Rattle.lists.specs.Table.{settled};
 ghost use Rattle.image.specs.Image.{sound, makeNumber, fresh};
 ghost use Rattle.image.specs.Convert.{converted, convertNumber};
-ghost use Rattle.model.specs.Serve.{serve};
-ghost use Rattle.guard.specs.Replies.{replyFields};
-use formats::inner::FIRST;
-use store::inner::run::answer_of;
+ghost use Rattle.store.specs.Runs.{ServesTo};
 
 // Makes a fresh image of `cards` cards with room `room`: 0, or 14 and nothing written.
 #[no_mangle]
@@ -17,7 +15,7 @@ pub extern "C" fn lupaniele_make(image: &mut [u8], cards: u64, room: u64) -> u8
     ensures bytes { λ _. ⌜ now (image .exit)
         ≡ settled (makeNumber V1 cards room (length (now (image .entry)))) (fresh V1 cards room) (now (image .entry)) ⌝ }
 {
-    image::make(image, cards as usize, room as usize)
+    image::make(formats::V1, image, cards as usize, room as usize)
 }
 
 // Whether the lent bytes are a sound image.
@@ -25,7 +23,7 @@ pub extern "C" fn lupaniele_make(image: &mut [u8], cards: u64, room: u64) -> u8
 pub extern "C" fn lupaniele_sound(image: &[u8]) -> bool
     ensures { λ r. ⌜ r ≡ sound V1 (now (image .entry)) ⌝ }
 {
-    image::sound(image)
+    image::sound(formats::V1, image)
 }
 
 // One request on an image. The answer's number is returned and its seven reply fields are written to `fields`; the text of an accepted read
@@ -37,12 +35,9 @@ pub extern "C" fn lupaniele_answer(
     reply: &mut [u8],
     fields: &mut [u64; 7],
 ) -> u8
-    ensures number { λ r. ⌜ r ≡ serve V1 (now (image .entry)) (now (command .entry)) (now (reply .entry)) .answer .number ⌝ }
-    ensures fields { λ _. ⌜ now (fields .exit) ≡ replyFields (serve V1 (now (image .entry)) (now (command .entry)) (now (reply .entry)) .answer) ⌝ }
-    ensures image { λ _. ⌜ now (image .exit) ≡ serve V1 (now (image .entry)) (now (command .entry)) (now (reply .entry)) .image ⌝ }
-    ensures reply { λ _. ⌜ now (reply .exit) ≡ serve V1 (now (image .entry)) (now (command .entry)) (now (reply .entry)) .reply ⌝ }
+    ensures { λ r. ⌜ ServesTo V1 (now (image .entry)) (now (command .entry)) (now (reply .entry)) (r ∷ now (fields .exit)) (now (image .exit)) (now (reply .exit)) ⌝ }
 {
-    answer_of(FIRST, image, command, reply, fields)
+    store::answer(formats::V1, image, command, reply, fields)
 }
 
 // Converts an image of version 1 into one of version 2 in the whole of target: 0, or 9 or 14 and nothing written.

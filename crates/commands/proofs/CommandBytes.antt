@@ -17,9 +17,7 @@ use Rattle.lists.proofs.Parts.{length-part, drop-left}
 use Rattle.commands.specs.Command.{readsTranslation, writesTranslation, wellFormed, FitsCommand}
 use Rattle.commands.specs.Bytes.{markAt, pairAt, languageAt, markBytes, pairBytes, middleBytes, lastBytes, blanks, fieldsOf, payload, formed, parsed, commandBytes}
 use Rattle.stamps.specs.Stamp.{FitsPair, FitsMark}
-use Rattle.formats.specs.declared.Format.{Format}
-use Rattle.formats.specs.declared.Format.the-variants.{V1, V2}
-use Rattle.formats.specs.Format.{translations, fixed, updateAt}
+use Rattle.formats.specs.Format.{Format, V1, V2, translations, fixed, updateAt}
 use Rattle.commands.specs.declared.Command.{Command}
 use Rattle.stamps.specs.declared.Mark.{Mark}
 use Rattle.stamps.specs.declared.Pair.{Pair}

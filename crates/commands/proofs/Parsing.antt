@@ -6,7 +6,7 @@ use mathlib.Core.List.{List}
 use mathlib.Core.Logic.{_⊎_, inl, inr}
 use mathlib.Core.Bool.{true, false}
 use Rattle.lists.proofs.Tests.{cases}
-use Rattle.formats.specs.declared.Format.{Format}
+use Rattle.formats.specs.Format.{Format}
 use Rattle.commands.specs.Bytes.{fieldsOf, formed, parsed}
 use Rattle.commands.specs.declared.Command.{Command}
 use Rattle.commands.specs.declared.Parsed.the-variants.{Malformed, Formed}

@@ -10,9 +10,7 @@ use Rattle.lists.specs.Le.{toLe, field}
 use Rattle.stamps.specs.Stamp.{noPair, noMark, MALFORMED}
 use Rattle.stamps.specs.declared.Mark.{Mark}
 use Rattle.stamps.specs.declared.Pair.{Pair}
-use Rattle.formats.specs.declared.Format.{Format}
-use Rattle.formats.specs.declared.Format.the-variants.{V1, V2}
-use Rattle.formats.specs.Format.{fixed, updateAt, blankAt}
+use Rattle.formats.specs.Format.{Format, V1, V2, fixed, updateAt, blankAt}
 use Rattle.commands.specs.declared.Command.{Command}
 use Rattle.commands.specs.Command.{wellFormed}
 use Rattle.commands.specs.declared.Parsed.{Parsed}

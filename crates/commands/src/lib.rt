@@ -6,9 +6,9 @@ ghost use Rattle.lists.specs.Table.{all};
 ghost use Rattle.commands.specs.Command.{Language, readsTranslation, writesTranslation, reads, writes, opensNone, update, actChecks, verifierChecks, pairChecks, wellFormed};
 ghost use Prim.Native.Nat.{_+_, _≤_};
 ghost use lib.ListN.{length};
-ghost use Rattle.formats.specs.declared.Format.the-variants.{V1};
 ghost use Rattle.commands.specs.Bytes.{markAt, pairAt, languageAt, parsed};
-use formats::Format;
+ghost use Rattle.formats.specs.Format.{formatOf};
+use formats::Version;
 use stamps::EXCLUSIVE;
 use stamps::Mark;
 use stamps::Pair;
@@ -204,26 +204,26 @@ fn pair_at(bytes: &[u8], at: usize) -> Pair
 }
 
 // The language that a command names.
-fn language_at(f: Format, bytes: &[u8]) -> u8
+fn language_at(v: Version, bytes: &[u8]) -> u8
     requires { ⌜ 52 ≤ length (now bytes) ⌝ }
-    ensures { λ r. ⌜ r ≡ languageAt f (now (bytes .entry)) ⌝ }
+    ensures { λ r. ⌜ r ≡ languageAt (formatOf v) (now (bytes .entry)) ⌝ }
 {
-    match f {
-        Format::V1 => 0,
-        Format::V2 => bytes[LANGUAGE],
+    if v {
+        return bytes[LANGUAGE];
     }
+    0
 }
 
 // Lent bytes as a command of a version.
-pub fn parse_as(f: Format, bytes: &[u8]) -> Parsed
-    ensures { λ r. ⌜ r ≡ parsed f (now (bytes .entry)) ⌝ }
+pub fn parse(v: Version, bytes: &[u8]) -> Parsed
+    ensures { λ r. ⌜ r ≡ parsed (formatOf v) (now (bytes .entry)) ⌝ }
 {
-    let fixed = formats::inner::fixed(f);
+    let fixed = formats::inner::fixed(v);
     if bytes.len() < fixed {
         return Parsed::Malformed;
     }
-    let c = inner::fields(f, bytes);
-    let blank = formats::inner::blank_at(f);
+    let c = inner::fields(v, bytes);
+    let blank = formats::inner::blank_at(v);
     if bytes.len() != fixed + (c.length as usize) {
         return Parsed::Malformed;
     }
@@ -234,11 +234,4 @@ pub fn parse_as(f: Format, bytes: &[u8]) -> Parsed
         return Parsed::Malformed;
     }
     Parsed::Formed(c)
-}
-
-// Lent bytes as a command of version 1.
-pub fn parse(bytes: &[u8]) -> Parsed
-    ensures { λ r. ⌜ r ≡ parsed V1 (now (bytes .entry)) ⌝ }
-{
-    parse_as(Format::V1, bytes)
 }

@@ -6,7 +6,7 @@ use mathlib.Core.List.{List, [], _∷_, _++_, map, reverse, reverse-cons}
 use mathlib.Core.Bool.{Bool, true}
 use borrow.Author.Tests.{eqb-true}
 use lib.Dec.{T, eqb}
-use Rattle.formats.specs.declared.Format.{Format}
+use Rattle.formats.specs.Format.{Format}
 use Rattle.lists.specs.Table.{settled}
 use Rattle.lists.proofs.Tests.{and-left, and-right, never-both}
 use Rattle.stamps.specs.Stamp.{exclusive}

@@ -7,7 +7,7 @@ use mathlib.Core.List.{List, [], _∷_}
 use mathlib.Core.Bool.{Bool, true, false, cond, not, _&&_, _||_}
 use borrow.Author.Tests.{eqb-true, eq-eqb, ne-eqb, ltb-true, not-true, not-false}
 use lib.Dec.{T, eqb, ltb}
-use Rattle.formats.specs.declared.Format.{Format}
+use Rattle.formats.specs.Format.{Format}
 use Rattle.lists.proofs.Tests.{cases, and-left, and-right, or-cases, or-right, never-both}
 use Rattle.stamps.specs.Stamp.{stamp, deskStart, shared, exclusive, largerOfEach, noPair}
 use Rattle.stamps.specs.declared.Pair.{Pair}

@@ -6,7 +6,7 @@ use mathlib.Core.List.{List, _∷_, _++_, map, reverse}
 use mathlib.Core.Bool.{true}
 use lib.Dec.{T}
 use Rattle.stamps.specs.Stamp.{exclusive}
-use Rattle.formats.specs.declared.Format.{Format}
+use Rattle.formats.specs.Format.{Format}
 use Rattle.image.specs.Layout.{shapeOk}
 use Rattle.image.specs.Image.{fresh}
 use Rattle.lists.specs.Search.{none}

@@ -12,7 +12,7 @@ use Rattle.stamps.specs.Stamp.{noPair}
 use Rattle.stamps.specs.declared.Pair.{Pair}
 use Rattle.commands.specs.Command.{update}
 use Rattle.commands.specs.Bytes.{fieldsOf, formed}
-use Rattle.formats.specs.declared.Format.{Format}
+use Rattle.formats.specs.Format.{Format}
 use Rattle.image.specs.Image.{fresh}
 use Rattle.model.specs.Serve.{serve}
 use Rattle.lists.specs.Search.{any}

@@ -1,9 +1,7 @@
 -- Bounds of the numbers of every version. Assumes nothing.
 use Prim.Native.Nat.{_+_, _*_, _≤_, _<_}
 use lib.Dec.{lit≤, lit<}
-use Rattle.formats.specs.declared.Format.{Format}
-use Rattle.formats.specs.declared.Format.the-variants.{V1, V2}
-use Rattle.formats.specs.Format.{translations, entrySize, originalAt, fromsAt, lengthsAt, fixed, updateAt, blankAt}
+use Rattle.formats.specs.Format.{Format, V1, V2, translations, entrySize, originalAt, fromsAt, lengthsAt, fixed, updateAt, blankAt}
 
 pub record Numbers (f : Format) : Type 0 where
   pub some : 0 < translations f

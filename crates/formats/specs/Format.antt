@@ -2,10 +2,13 @@
 -- Assumes nothing.
 use Prim.Native.Nat.{ℕ}
 use mathlib.Core.Bool.{Bool, true, false}
-use Rattle.formats.specs.declared.Format.{Format}
-use Rattle.formats.specs.declared.Format.the-variants.{V1, V2}
 
--- The version that a plain value names: whether it is the second (rules 2.3 and 15.3).
+-- The versions.
+pub data Format : Type 0 where
+  V1 : Format
+  V2 : Format
+
+-- The version that a value of the code names: whether it is the second (rules 2.3 and 15.3).
 abbrev pub formatOf : Bool → Format
 formatOf false = V1
 formatOf true = V2

@@ -1,101 +1,86 @@
-// What differs between the versions, and nothing else.
+// What differs between the versions, and nothing else. Each takes the version: V1 or V2.
 ghost use mathlib.Core.Path.{_≡_};
 ghost use Rattle.formats.specs.Format.{formatOf, version, translations, entrySize, originalAt, fromsAt, lengthsAt, fixed, updateAt, blankAt};
 use crate::FIXED_V1;
-use crate::Format;
+use crate::Version;
 
-// A version as a plain value: whether it is the second. The compiler lends a `Format` to a call, and sees only plain values through calls; so what takes
-// the version in this way is compiled for one version where no other is asked for.
-pub const FIRST: bool = false;
-
-pub const SECOND: bool = true;
-
-pub fn format_of(second: bool) -> Format
-    ensures { λ r. ⌜ r ≡ formatOf second ⌝ }
+pub fn version(v: Version) -> u16
+    ensures { λ r. ⌜ r ≡ version (formatOf v) ⌝ }
 {
-    if second {
-        return Format::V2;
+    if v {
+        return 2;
     }
-    Format::V1
+    1
 }
 
-pub fn version(f: Format) -> u16
-    ensures { λ r. ⌜ r ≡ version f ⌝ }
+pub fn translations(v: Version) -> u8
+    ensures { λ r. ⌜ r ≡ translations (formatOf v) ⌝ }
 {
-    match f {
-        Format::V1 => 1,
-        Format::V2 => 2,
+    if v {
+        return 4;
     }
+    1
 }
 
-pub fn translations(f: Format) -> u8
-    ensures { λ r. ⌜ r ≡ translations f ⌝ }
+pub fn entry_size(v: Version) -> usize
+    ensures { λ r. ⌜ r ≡ entrySize (formatOf v) ⌝ }
 {
-    match f {
-        Format::V1 => 1,
-        Format::V2 => 4,
+    if v {
+        return 48;
     }
+    32
 }
 
-pub fn entry_size(f: Format) -> usize
-    ensures { λ r. ⌜ r ≡ entrySize f ⌝ }
+pub fn original_at(v: Version) -> usize
+    ensures { λ r. ⌜ r ≡ originalAt (formatOf v) ⌝ }
 {
-    match f {
-        Format::V1 => 32,
-        Format::V2 => 48,
+    if v {
+        return 26;
     }
+    28
 }
 
-pub fn original_at(f: Format) -> usize
-    ensures { λ r. ⌜ r ≡ originalAt f ⌝ }
+pub fn froms_at(v: Version) -> usize
+    ensures { λ r. ⌜ r ≡ fromsAt (formatOf v) ⌝ }
 {
-    match f {
-        Format::V1 => 28,
-        Format::V2 => 26,
+    if v {
+        return 28;
     }
+    26
 }
 
-pub fn froms_at(f: Format) -> usize
-    ensures { λ r. ⌜ r ≡ fromsAt f ⌝ }
+pub fn lengths_at(v: Version) -> usize
+    ensures { λ r. ⌜ r ≡ lengthsAt (formatOf v) ⌝ }
 {
-    match f {
-        Format::V1 => 26,
-        Format::V2 => 28,
+    if v {
+        return 36;
     }
+    30
 }
 
-pub fn lengths_at(f: Format) -> usize
-    ensures { λ r. ⌜ r ≡ lengthsAt f ⌝ }
+pub fn fixed(v: Version) -> usize
+    ensures { λ r. ⌜ r ≡ fixed (formatOf v) ⌝ }
 {
-    match f {
-        Format::V1 => 30,
-        Format::V2 => 36,
+    if v {
+        return 68;
     }
+    FIXED_V1
 }
 
-pub fn fixed(f: Format) -> usize
-    ensures { λ r. ⌜ r ≡ fixed f ⌝ }
+pub fn update_at(v: Version) -> usize
+    ensures { λ r. ⌜ r ≡ updateAt (formatOf v) ⌝ }
 {
-    match f {
-        Format::V1 => FIXED_V1,
-        Format::V2 => 68,
+    if v {
+        return 52;
     }
+    20
 }
 
-pub fn update_at(f: Format) -> usize
-    ensures { λ r. ⌜ r ≡ updateAt f ⌝ }
+pub fn blank_at(v: Version) -> usize
+    ensures { λ r. ⌜ r ≡ blankAt (formatOf v) ⌝ }
 {
-    match f {
-        Format::V1 => 20,
-        Format::V2 => 52,
+    if v {
+        return 21;
     }
-}
-
-pub fn blank_at(f: Format) -> usize
-    ensures { λ r. ⌜ r ≡ blankAt f ⌝ }
-{
-    match f {
-        Format::V1 => 36,
-        Format::V2 => 21,
-    }
+    36
 }

@@ -12,7 +12,7 @@ use Rattle.lists.proofs.Tests.{to-T, from-T, from-false, cases}
 use Rattle.stamps.specs.Stamp.{stampT, mostAhead}
 use Rattle.commands.specs.Command.{wellFormed}
 use Rattle.commands.specs.Bytes.{formed, fieldsOf}
-use Rattle.formats.specs.declared.Format.the-variants.{V2}
+use Rattle.formats.specs.Format.{V2}
 use Rattle.guard.specs.Entry.{entrySound, FitsEntry}
 use Rattle.guard.specs.Judge.{raise, judged}
 use Rattle.guard_claims.specs.Claims.{Judges, StaleStays, Parsing, Parses, CommandComesBack, BytesComeBack, OneCommandVersion}

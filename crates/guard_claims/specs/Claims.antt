@@ -9,9 +9,7 @@ use lib.Dec.{T}
 use lib.ListN.{length}
 use Rattle.lists.specs.Parts.{Bytes}
 use Rattle.stamps.specs.Stamp.{shared, exclusive, stale, stampT, mostAhead, tooFar}
-use Rattle.formats.specs.declared.Format.{Format}
-use Rattle.formats.specs.declared.Format.the-variants.{V1, V2}
-use Rattle.formats.specs.Format.{translations}
+use Rattle.formats.specs.Format.{Format, V1, V2, translations}
 use Rattle.commands.specs.Command.{verifier, update, wellFormed, FitsCommand}
 use Rattle.commands.specs.Bytes.{fieldsOf, payload, formed, parsed, parsedNumber, parsedCommand, commandBytes}
 use Rattle.lists.specs.Table.{row, first, applies, noRow, earlier}

@@ -8,11 +8,10 @@ use borrow.Author.Tests.{ltb-false}
 use lib.Dec.{ltb}
 use lib.ListN.{length, take, length-append, length-drop, length-reverse}
 use lib.Seq.{length-take-le}
-use Rattle.formats.specs.declared.Format.the-variants.{V1}
+use Rattle.formats.specs.Format.{V1, fixed}
 use Rattle.lists.specs.Parts.{spread}
 use Rattle.lists.specs.Search.{last}
 use Rattle.lists.proofs.Tests.{or-fails}
-use Rattle.formats.specs.Format.{fixed}
 use Rattle.commands.specs.Bytes.{fieldsOf, payload, formed}
 use Rattle.commands.proofs.CommandBytes.{length-payload}
 use Rattle.stream.specs.Stream.{extent, whole, commands, endOf}

@@ -4,7 +4,7 @@ use Prim.Native.Nat.{ℕ}
 use mathlib.Core.Path.{_≡_, refl}
 use mathlib.Core.List.{List, _∷_}
 use mathlib.Core.Bool.{true, false, cond}
-use Rattle.formats.specs.declared.Format.the-variants.{V1}
+use Rattle.formats.specs.Format.{V1}
 use Rattle.commands.specs.Command.{Language, translation, writesTranslation, writes}
 use Rattle.commands.proofs.Languages.{writes-own}
 use Rattle.commands.specs.Bytes.{fieldsOf, payload}

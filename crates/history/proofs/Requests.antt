@@ -9,7 +9,7 @@ use borrow.Author.Tests.{ltb-true, ltb-false, eqb-true, eqb-false, eq-eqb}
 use lib.Dec.{ltb, eqb}
 use lib.ListN.{length, take, drop}
 use lib.Seq.{take-all}
-use Rattle.formats.specs.declared.Format.the-variants.{V1}
+use Rattle.formats.specs.Format.{V1, fixed}
 use Rattle.lists.specs.Parts.{part, splice}
 use Rattle.lists.specs.Table.{row, first, settled}
 use Rattle.lists.proofs.Table.{first-then, settled-new, settled-old}
@@ -17,7 +17,6 @@ use Rattle.lists.specs.Search.{last}
 use Rattle.lists.proofs.Tests.{cases}
 use Rattle.commands.specs.Command.{original, readsTranslation, reads}
 use Rattle.commands.specs.declared.Command.{Command}
-use Rattle.formats.specs.Format.{fixed}
 use Rattle.commands.specs.Bytes.{fieldsOf, payload, formed}
 use Rattle.commands.proofs.CommandBytes.{formedness}
 use Rattle.guard.specs.Judge.{judgeRows, raise, judged}

@@ -9,13 +9,12 @@ use mathlib.Core.Bool.{Bool, true, false, cond, _&&_}
 use lib.Dec.{eqb}
 use borrow.Author.Tests.{ne-eqb}
 use lib.ListN.{length, drop, length-append}
-use Rattle.formats.specs.declared.Format.the-variants.{V1}
+use Rattle.formats.specs.Format.{V1, fixed}
 use Rattle.lists.specs.Parts.{part, spread}
 use Rattle.lists.proofs.Parts.{drop-part, length-part}
 use Rattle.lists.proofs.Tests.{cases}
 use Rattle.commands.specs.Command.{original, writes}
 use Rattle.commands.specs.declared.Command.{Command}
-use Rattle.formats.specs.Format.{fixed}
 use Rattle.commands.specs.Bytes.{fieldsOf, payload}
 use Rattle.guard.specs.Judge.{raise, lastEdition, editionsSpent}
 use Rattle.guard.specs.Entry.{noEntry}

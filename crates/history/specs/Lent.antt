@@ -3,10 +3,9 @@
 use Prim.Native.Nat.{ℕ, _+_, _*_}
 use mathlib.Core.List.{List, reverse}
 use lib.ListN.{length, take}
-use Rattle.formats.specs.declared.Format.the-variants.{V1}
+use Rattle.formats.specs.Format.{V1, fixed}
 use Rattle.lists.specs.Parts.{splice}
 use Rattle.lists.specs.Table.{settled}
-use Rattle.formats.specs.Format.{fixed}
 use Rattle.guard.specs.declared.Answer.{Answer}
 use Rattle.stream.specs.Stream.{commands, endOf}
 use Rattle.history.specs.Engine.{mostKept, mostPayload, deduced}

@@ -7,12 +7,11 @@ use mathlib.Core.List.{List, [], reverse}
 use mathlib.Core.Bool.{Bool, cond, _&&_, _||_}
 use lib.Dec.{ltb, eqb}
 use lib.ListN.{length}
-use Rattle.formats.specs.declared.Format.the-variants.{V1}
+use Rattle.formats.specs.Format.{V1, fixed}
 use Rattle.lists.specs.Parts.{spread, splice}
 use Rattle.lists.specs.Search.{last}
 use Rattle.lists.specs.Table.{settled}
 use Rattle.commands.specs.declared.Command.{Command}
-use Rattle.formats.specs.Format.{fixed}
 use Rattle.commands.specs.Bytes.{fieldsOf, payload}
 use Rattle.guard.specs.Judge.{judged}
 use Rattle.guard.specs.declared.Judged.{Judged}

@@ -5,7 +5,7 @@ use Prim.Native.Nat.{ℕ, _+_, max}
 use mathlib.Core.List.{List, [], _∷_}
 use mathlib.Core.Bool.{Bool, cond, _&&_}
 use lib.Dec.{eqb}
-use Rattle.formats.specs.declared.Format.the-variants.{V1}
+use Rattle.formats.specs.Format.{V1}
 use Rattle.lists.specs.Search.{last}
 use Rattle.stamps.specs.Stamp.{noMark}
 use Rattle.stamps.specs.declared.Pair.{Pair}

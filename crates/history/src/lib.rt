@@ -60,7 +60,7 @@ pub fn answer(
     ensures kept { λ _. ⌜ now (kept .exit) ≡ historyServe cards room (now (kept .entry)) used (now (command .entry)) (now (reply .entry)) .bytes ⌝ }
     ensures reply { λ _. ⌜ now (reply .exit) ≡ historyServe cards room (now (kept .entry)) used (now (command .entry)) (now (reply .entry)) .reply ⌝ }
 {
-    let Parsed::Formed(c) = commands::parse(command) else {
+    let Parsed::Formed(c) = commands::parse(formats::V1, command) else {
         return HistoryAnswer {
             answer: guard::refusal(MALFORMED),
             used,

@@ -9,7 +9,7 @@ use borrow.Author.Tests.{ltb-true, ltb-false, not-false}
 use lib.Dec.{ltb}
 use lib.ListN.{length, take, drop, getD, length-append, length-take, List·getD-append}
 use lib.Seq.{length-take-le, take-append-seam, getD-append-seam}
-use Rattle.formats.specs.declared.Format.the-variants.{V1}
+use Rattle.formats.specs.Format.{V1}
 use Rattle.lists.specs.Parts.{spread, splice}
 use Rattle.lists.specs.Table.{Row}
 use Rattle.lists.proofs.Parts.{length-splice}

@@ -3,7 +3,7 @@ use Prim.Native.Nat.{ℕ}
 use mathlib.Core.Path.{_≡_, refl}
 use mathlib.Core.List.{List, [], _∷_}
 use mathlib.Core.Bool.{Bool, true, false}
-use Rattle.formats.specs.declared.Format.the-variants.{V1}
+use Rattle.formats.specs.Format.{V1}
 use Rattle.commands.specs.Command.{original, translation, writes}
 use Rattle.commands.specs.Bytes.{fieldsOf, payload}
 use Rattle.guard.specs.Judge.{raise}

@@ -8,7 +8,7 @@ use mathlib.Core.Bool.{Bool, false}
 use borrow.Author.Tests.{eqb-true, ne-eqb}
 use lib.Dec.{T}
 use lib.ListN.{length}
-use Rattle.formats.specs.declared.Format.the-variants.{V1}
+use Rattle.formats.specs.Format.{V1}
 use Rattle.lists.specs.Parts.{spread}
 use Rattle.lists.specs.Table.{Row, first, listed}
 use Rattle.lists.proofs.Spread.{table-is}

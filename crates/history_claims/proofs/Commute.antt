@@ -6,7 +6,7 @@ use mathlib.Core.List.{List, [], _∷_}
 use mathlib.Core.Bool.{true, false}
 use lib.ListN.{length, set, length-set}
 use lib.Seq.{getD-set-other}
-use Rattle.formats.specs.declared.Format.the-variants.{V1}
+use Rattle.formats.specs.Format.{V1}
 use Rattle.lists.proofs.Tests.{cases}
 use Rattle.commands.specs.Bytes.{fieldsOf, payload, formed}
 use Rattle.guard.specs.Replies.{replied}

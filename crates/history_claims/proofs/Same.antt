@@ -8,7 +8,7 @@ use borrow.Author.Tests.{eqb-true, eqb-false, eq-eqb, ltb-true, not-true}
 use lib.Dec.{eqb, ltb, lit<}
 use lib.ListN.{length, getD, set, length-replicate, getD-replicate}
 use lib.Seq.{getD-set-same, getD-set-other}
-use Rattle.formats.specs.declared.Format.the-variants.{V1}
+use Rattle.formats.specs.Format.{V1}
 use Rattle.lists.specs.Parts.{splice}
 use Rattle.lists.specs.Table.{first, settled}
 use Rattle.lists.proofs.Table.{last-given, last-idle}

@@ -4,7 +4,7 @@ use mathlib.Core.Path.{_≡_, refl, sym, ap, subst, _∙_}
 use mathlib.Core.Logic.{_⊎_, inl, inr}
 use mathlib.Core.List.{List, [], _∷_}
 use mathlib.Core.Bool.{true, false}
-use Rattle.formats.specs.declared.Format.the-variants.{V1}
+use Rattle.formats.specs.Format.{V1}
 use Rattle.lists.specs.Parts.{Bytes}
 use Rattle.lists.proofs.Tests.{cases, to-T}
 use Rattle.image.specs.Image.{Cards, encode, decode, sound}

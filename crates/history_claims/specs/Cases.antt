@@ -5,12 +5,11 @@ use mathlib.Core.Path.{_≡_}
 use mathlib.Core.List.{List, [], _∷_, _++_, reverse}
 use mathlib.Core.Bool.{true, false}
 use lib.ListN.{replicate}
-use Rattle.formats.specs.declared.Format.the-variants.{V1}
+use Rattle.formats.specs.Format.{V1, fixed}
 use Rattle.lists.specs.Parts.{splice}
 use Rattle.lists.specs.Le.{toLe}
 use Rattle.lists.specs.Search.{none}
 use Rattle.stamps.specs.Stamp.{shared, exclusive}
-use Rattle.formats.specs.Format.{fixed}
 use Rattle.image.specs.Image.{fresh}
 use Rattle.model.specs.Words.{Sent}
 use Rattle.model.specs.Cases.{pair, request, got, stamp1, stamp2, verify, verifyOpening, writeOriginal, writeTranslation, readOriginal, text205, text401, long}

@@ -7,7 +7,7 @@ use mathlib.Core.List.{List, [], _∷_, map, reverse}
 use mathlib.Core.Bool.{Bool, true, false}
 use lib.ListN.{length}
 use lib.Dec.{T, eqb}
-use Rattle.formats.specs.declared.Format.the-variants.{V1}
+use Rattle.formats.specs.Format.{V1}
 use Rattle.lists.specs.Parts.{table}
 use Rattle.lists.specs.Search.{none, those}
 use Rattle.lists.specs.Table.{applies, earlier, noRow, listed}

@@ -14,8 +14,7 @@ use Rattle.lists.proofs.Every.{every-fail}
 use Rattle.lists.proofs.Tests.{all-out, all-fails-at}
 use Rattle.guard.specs.Entry.{entrySound}
 use Rattle.guard.specs.declared.Entry.{Entry}
-use Rattle.formats.specs.declared.Format.{Format}
-use Rattle.formats.specs.Format.{translations, entrySize}
+use Rattle.formats.specs.Format.{Format, translations, entrySize}
 use Rattle.image.specs.Layout.{sides, sizeOf, headerSize, bodyPlace, entryPlace, entryEnd}
 use Rattle.image.specs.Bytes.{countOf, roomOf, entryAt}
 use Rattle.image.specs.Image.{headerSound, tailZero, translationSound, cardSound, sound}

@@ -20,9 +20,7 @@ use Rattle.lists.proofs.Spread.{Bytes-spread, table-is, length-table, getD-tabl
 use Rattle.lists.proofs.Tests.{cases, from-T, and-in}
 use Rattle.guard.specs.Entry.{entrySound}
 use Rattle.guard.specs.declared.Entry.{Entry}
-use Rattle.formats.specs.declared.Format.{Format}
-use Rattle.formats.specs.declared.Format.the-variants.{V1, V2}
-use Rattle.formats.specs.Format.{version, translations, entrySize}
+use Rattle.formats.specs.Format.{Format, V1, V2, version, translations, entrySize}
 use Rattle.commands.specs.Bytes.{pairBytes}
 use Rattle.image.specs.Layout.{sides, shapeOk, sizeOf, entryPlace, entryEnd, bodyPlace}
 use Rattle.image.specs.Bytes.{magic, headerNumbers, header, entryMark, entryCounts, entryBytes, pad, countOf, roomOf, readEntry, entryAt}

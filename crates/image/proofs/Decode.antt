@@ -19,8 +19,7 @@ use Rattle.lists.proofs.Spread.{spread-parts, length-table, getD-table}
 use Rattle.lists.proofs.Tests.{and-left, and-right, all-out, cases, from-T, to-T}
 use Rattle.guard.specs.Entry.{entrySound, FitsEntry}
 use Rattle.guard.specs.declared.Entry.{Entry}
-use Rattle.formats.specs.declared.Format.{Format}
-use Rattle.formats.specs.Format.{version, translations, entrySize, fromsAt, originalAt, lengthsAt}
+use Rattle.formats.specs.Format.{Format, version, translations, entrySize, fromsAt, originalAt, lengthsAt}
 use Rattle.image.specs.Layout.{sides, shapeOk, sizeOf, mostBytes, headerSize, entryPlace, entryEnd, bodyPlace}
 use Rattle.image.specs.Bytes.{magic, header, pad, countOf, roomOf, readEntry, entryAt}
 use Rattle.image.specs.Image.{Translation, view, translationOf, noTranslation, noCard, sideText, cardEntry, bodies, encode, bodyAt, translationAt, cardAt, decode, tailZero, translationSound, cardSound, headerSound, sound, GoodCard, GoodCards}

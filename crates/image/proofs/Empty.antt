@@ -7,9 +7,7 @@ use lib.ListN.{getD, replicate, length-replicate, getD-replicate, replicate-appe
 use Rattle.lists.specs.Parts.{spread, table}
 use Rattle.lists.specs.Le.{toLe}
 use Rattle.lists.proofs.Spread.{table-is, spread-replicate}
-use Rattle.formats.specs.declared.Format.{Format}
-use Rattle.formats.specs.declared.Format.the-variants.{V1, V2}
-use Rattle.formats.specs.Format.{entrySize, translations}
+use Rattle.formats.specs.Format.{Format, V1, V2, entrySize, translations}
 use Rattle.image.specs.Layout.{sides, sizeOf, headerSize}
 use Rattle.image.specs.Bytes.{header, entryBytes, pad}
 use Rattle.image.specs.Image.{Translation, translationOf, noTranslation, sideText, noCard, cardEntry, bodies, encode, fresh, freshCards}

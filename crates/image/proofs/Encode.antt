@@ -12,9 +12,7 @@ use Rattle.lists.proofs.Le.{le-toLe}
 use Rattle.lists.proofs.Parts.{part-part, part-append-left, part-append-right, part-all}
 use Rattle.lists.proofs.Spread.{length-spread, part-spread, length-table, part-spread-table}
 use Rattle.guard.specs.declared.Entry.{Entry}
-use Rattle.formats.specs.declared.Format.{Format}
-use Rattle.formats.specs.declared.Format.the-variants.{V1, V2}
-use Rattle.formats.specs.Format.{entrySize}
+use Rattle.formats.specs.Format.{Format, V1, V2, entrySize}
 use Rattle.image.specs.Layout.{sizeOf, headerSize, sides, entryPlace, bodyPlace}
 use Rattle.image.specs.Bytes.{header, entryBytes, pad, countOf, roomOf}
 use Rattle.image.specs.Image.{Card, Cards, view, sideText, noCard, bodies, encode, cardEntry}

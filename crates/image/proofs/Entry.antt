@@ -15,9 +15,7 @@ use Rattle.lists.proofs.Parts.{length-part, part-join, take-part, drop-part}
 use Rattle.lists.proofs.Spread.{spread-parts}
 use Rattle.guard.specs.Entry.{FitsEntry}
 use Rattle.guard.specs.declared.Entry.{Entry}
-use Rattle.formats.specs.declared.Format.{Format}
-use Rattle.formats.specs.declared.Format.the-variants.{V1, V2}
-use Rattle.formats.specs.Format.{entrySize, translations, fromsAt, lengthsAt}
+use Rattle.formats.specs.Format.{Format, V1, V2, entrySize, translations, fromsAt, lengthsAt}
 use Rattle.image.specs.Layout.{entryEnd}
 use Rattle.image.specs.Bytes.{entryBytes, readEntry, pad}
 use Rattle.image.specs.Image.{Card, view, cardEntry}

@@ -11,9 +11,7 @@ use Rattle.lists.specs.Parts.{part, splice, spread, table}
 use Rattle.lists.specs.Le.{toLe}
 use Rattle.lists.proofs.Parts.{splice-within, splice-part, length-splice}
 use Rattle.guard.specs.declared.Entry.{Entry}
-use Rattle.formats.specs.declared.Format.{Format}
-use Rattle.formats.specs.declared.Format.the-variants.{V1, V2}
-use Rattle.formats.specs.Format.{translations, entrySize, originalAt, fromsAt, lengthsAt}
+use Rattle.formats.specs.Format.{Format, V1, V2, translations, entrySize, originalAt, fromsAt, lengthsAt}
 use Rattle.formats.proofs.Numbers.{numbers}
 use Rattle.commands.specs.Bytes.{pairBytes}
 use Rattle.image.specs.Bytes.{entryMark, entryBytes}

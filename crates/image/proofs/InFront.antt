@@ -10,7 +10,7 @@ use native.Mathlib.Omega.{arith}
 use Rattle.lists.specs.Le.{le}
 use Rattle.lists.proofs.Parts.{part-take}
 use Rattle.lists.proofs.Tests.{to-T, and-left, and-right}
-use Rattle.formats.specs.declared.Format.the-variants.{V1}
+use Rattle.formats.specs.Format.{V1}
 use Rattle.image.specs.Layout.{headerSize, mostBytes, mostRoom}
 use Rattle.image.specs.Bytes.{countOf, roomOf}
 use Rattle.image.specs.Image.{sound, claimed, goodFront, frontSize, frontOf}

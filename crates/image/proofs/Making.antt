@@ -9,7 +9,7 @@ use lib.ListN.{length, replicate, length-append, length-replicate, replicate-app
 use Rattle.lists.specs.Parts.{splice}
 use Rattle.lists.specs.Le.{toLe}
 use Rattle.lists.proofs.Parts.{splice-adjacent, splice-whole}
-use Rattle.formats.specs.declared.Format.{Format}
+use Rattle.formats.specs.Format.{Format}
 use Rattle.image.specs.Layout.{sizeOf, shapeOk, headerSize}
 use Rattle.image.specs.Bytes.{header, headerNumbers}
 use Rattle.image.specs.Image.{fresh, makes}

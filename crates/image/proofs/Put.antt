@@ -14,8 +14,7 @@ use Rattle.lists.specs.Parts.{splice, spread, table}
 use Rattle.lists.proofs.Parts.{splice-append-left, splice-append-right, splice-within, splice-part}
 use Rattle.lists.proofs.Spread.{length-spread, part-spread, splice-spread, length-table, getD-table}
 use Rattle.lists.proofs.Tests.{cases}
-use Rattle.formats.specs.declared.Format.{Format}
-use Rattle.formats.specs.Format.{entrySize}
+use Rattle.formats.specs.Format.{Format, entrySize}
 use Rattle.image.specs.Layout.{headerSize, sides, entryPlace, bodyPlace}
 use Rattle.image.specs.Bytes.{header, pad}
 use Rattle.image.specs.Image.{Card, Cards, sideText, withCard, noCard, bodies, encode, cardEntry}

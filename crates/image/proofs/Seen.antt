@@ -11,7 +11,7 @@ use Rattle.lists.proofs.Tests.{and-left}
 use Rattle.stamps.specs.Stamp.{stampValid, markWhole}
 use Rattle.guard.specs.Entry.{entrySound}
 use Rattle.guard.specs.declared.Entry.{Entry}
-use Rattle.formats.specs.declared.Format.{Format}
+use Rattle.formats.specs.Format.{Format}
 use Rattle.image.specs.Bytes.{roomOf, readEntry, entryAt}
 
 -- The tests of a text; the original is made from its own edition.

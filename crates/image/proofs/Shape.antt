@@ -9,8 +9,7 @@ use borrow.Author.Tests.{le-leb, lt-leb, leb-true, eqb-true}
 use lib.Dec.{leb, eqb}
 use Rattle.lists.specs.Table.{all, allFrom}
 use Rattle.lists.proofs.Tests.{all-out, all-fails-at}
-use Rattle.formats.specs.declared.Format.{Format}
-use Rattle.formats.specs.Format.{translations, entrySize}
+use Rattle.formats.specs.Format.{Format, translations, entrySize}
 use Rattle.formats.proofs.Numbers.{numbers}
 use Rattle.image.specs.Layout.{sides, sizeOf, shapeOk, entryPlace, bodyPlace, mostCards, mostRoom, leastRoom, roomStep, mostBytes}
 

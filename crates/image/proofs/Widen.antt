@@ -16,8 +16,7 @@ use Rattle.lists.proofs.Spread.{length-table, getD-table, table-ext, table-is, 
 use Rattle.lists.proofs.Tests.{cases, to-T}
 use Rattle.guard.specs.Judge.{UNSOUND}
 use Rattle.guard.specs.declared.Entry.{Entry}
-use Rattle.formats.specs.declared.Format.the-variants.{V1, V2}
-use Rattle.formats.specs.Format.{entrySize}
+use Rattle.formats.specs.Format.{V1, V2, entrySize}
 use Rattle.image.specs.Layout.{sides, sizeOf, headerSize, entryPlace, bodyPlace}
 use Rattle.image.specs.Bytes.{countOf, roomOf, entryAt, entryBytes, pad}
 use Rattle.image.specs.Image.{Card, Cards, noCard, translationOf, view, withCard, cardEntry, bodies, encode, decode, cardAt, sound, fresh, freshCards, makes, makeNumber, NOT-MADE}

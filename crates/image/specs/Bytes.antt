@@ -8,9 +8,7 @@ use Rattle.commands.specs.Bytes.{pairAt, pairBytes}
 use Rattle.guard.specs.declared.Entry.{Entry}
 use Rattle.stamps.specs.declared.Mark.{Mark}
 use Rattle.lists.specs.Parts.{part, spread, table}
-use Rattle.formats.specs.declared.Format.{Format}
-use Rattle.formats.specs.declared.Format.the-variants.{V1, V2}
-use Rattle.formats.specs.Format.{version, translations, entrySize, originalAt, fromsAt, lengthsAt}
+use Rattle.formats.specs.Format.{Format, V1, V2, version, translations, entrySize, originalAt, fromsAt, lengthsAt}
 use Rattle.image.specs.Layout.{entryPlace}
 
 -- The header's first numbers, and the whole header (rule 2.3).

@@ -8,7 +8,7 @@ use lib.ListN.{replicate}
 use Rattle.lists.specs.Parts.{table}
 use Rattle.lists.specs.Table.{Row, row, first}
 use Rattle.guard.specs.Judge.{UNSOUND}
-use Rattle.formats.specs.declared.Format.the-variants.{V1, V2}
+use Rattle.formats.specs.Format.{V1, V2}
 use Rattle.image.specs.Bytes.{countOf, roomOf}
 use Rattle.image.specs.Image.{Card, Cards, translationOf, noTranslation, noCard, encode, decode, cardAt, sound, makes, NOT-MADE}
 

@@ -16,9 +16,7 @@ use Rattle.stamps.specs.declared.Pair.{Pair}
 use Rattle.guard.specs.Entry.{entrySound, FitsEntry}
 use Rattle.guard.specs.declared.Entry.{Entry}
 use Rattle.image.specs.declared.Dimensions.{Dimensions}
-use Rattle.formats.specs.declared.Format.{Format}
-use Rattle.formats.specs.declared.Format.the-variants.{V1}
-use Rattle.formats.specs.Format.{version, translations, entrySize}
+use Rattle.formats.specs.Format.{Format, V1, version, translations, entrySize}
 use Rattle.image.specs.Layout.{sides, sizeOf, shapeOk, entryPlace, entryEnd, bodyPlace, headerSize}
 use Rattle.image.specs.Bytes.{countOf, roomOf, entryAt, magic, header, entryBytes, pad}
 

@@ -5,8 +5,7 @@ use mathlib.Core.List.{[], _∷_}
 use mathlib.Core.Bool.{Bool}
 use lib.Dec.{leb, eqb}
 use Rattle.lists.specs.Table.{all}
-use Rattle.formats.specs.declared.Format.{Format}
-use Rattle.formats.specs.Format.{translations, entrySize, lengthsAt}
+use Rattle.formats.specs.Format.{Format, translations, entrySize, lengthsAt}
 
 -- The limits of N, C and the whole (rule 2.2).
 abbrev pub mostCards : ℕ

@@ -6,8 +6,7 @@ use lib.ListN.{length, replicate}
 use Rattle.lists.specs.Parts.{splice}
 use Rattle.lists.specs.Le.{toLe}
 use Rattle.guard.specs.declared.Entry.{Entry}
-use Rattle.formats.specs.declared.Format.{Format}
-use Rattle.formats.specs.Format.{originalAt, fromsAt, lengthsAt}
+use Rattle.formats.specs.Format.{Format, originalAt, fromsAt, lengthsAt}
 use Rattle.commands.specs.Bytes.{pairBytes}
 use Rattle.image.specs.Bytes.{entryMark}
 

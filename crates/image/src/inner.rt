@@ -1,5 +1,4 @@
 // What other crates need, and what asks something of its caller.
-pub mod checks;
 pub mod convert;
 pub mod fresh;
 pub mod layout;

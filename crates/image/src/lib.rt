@@ -6,8 +6,8 @@ ghost use Rattle.image.specs.Image.{sound, frontOf, makeNumber, fresh};
 ghost use Rattle.image.specs.Convert.{converted, convertNumber};
 ghost use lib.ListN.{length};
 ghost use Rattle.lists.specs.Table.{settled};
-ghost use Rattle.formats.specs.declared.Format.the-variants.{V1};
-use formats::Format;
+ghost use Rattle.formats.specs.Format.{formatOf};
+use formats::Version;
 use guard::UNSOUND;
 
 // ---- The image: the bytes of a store's cards.
@@ -24,31 +24,24 @@ pub const ROOM_STEP: usize = 16;
 pub const MOST_BYTES: usize = 65536;
 
 // Whether any bytes are a sound image of a version.
-pub fn sound_as(f: Format, image: &[u8]) -> bool
-    ensures { λ r. ⌜ r ≡ sound f (now (image .entry)) ⌝ }
+pub fn sound(v: Version, image: &[u8]) -> bool
+    ensures { λ r. ⌜ r ≡ sound (formatOf v) (now (image .entry)) ⌝ }
 {
     if image.len() < inner::layout::HEADER {
         return false;
     }
-    if !inner::rules::header_sound(f, image) {
+    if !inner::rules::header_sound(v, image) {
         return false;
     }
     let n = inner::read::count(image);
     let mut k: u16 = 0;
     while k < n {
-        if !inner::rules::card_sound(f, image, k) {
+        if !inner::rules::card_sound(v, image, k) {
             return false;
         }
         k += 1;
     }
     true
-}
-
-// Whether any bytes are a sound image of version 1.
-pub fn sound(image: &[u8]) -> bool
-    ensures { λ r. ⌜ r ≡ sound V1 (now (image .entry)) ⌝ }
-{
-    inner::checks::sound_of(formats::inner::FIRST, image)
 }
 
 // ---- The image in front of some bytes, of version 1.
@@ -80,11 +73,11 @@ pub fn front(bytes: &[u8]) -> Dimensions
     }
     let cards = inner::read::count(bytes);
     let room = inner::read::room(bytes);
-    let size = inner::layout::size_of(Format::V1, cards, room);
+    let size = inner::layout::size_of(formats::V1, cards, room);
     if bytes.len() < size {
         return nothing();
     }
-    if !sound(&bytes[..size]) {
+    if !sound(formats::V1, &bytes[..size]) {
         return nothing();
     }
     Dimensions { size, cards, room }
@@ -98,30 +91,21 @@ pub const MADE: u8 = 0;
 pub const NOT_MADE: u8 = 14;
 
 // Makes a fresh image of a version, and answers MADE; or answers NOT_MADE, for N, C or a lent length that is against the rules, and writes nothing.
-pub fn make_as(f: Format, image: &mut [u8], cards: usize, room: usize) -> u8
-    ensures number { λ r. ⌜ r ≡ makeNumber f cards room (length (now (image .entry))) ⌝ }
+pub fn make(v: Version, image: &mut [u8], cards: usize, room: usize) -> u8
+    ensures number { λ r. ⌜ r ≡ makeNumber (formatOf v) cards room (length (now (image .entry))) ⌝ }
     ensures bytes { λ r. ⌜ now (image .exit)
-        ≡ settled (makeNumber f cards room (length (now (image .entry)))) (fresh f cards room) (now (image .entry)) ⌝ }
+        ≡ settled (makeNumber (formatOf v) cards room (length (now (image .entry)))) (fresh (formatOf v) cards room) (now (image .entry)) ⌝ }
 {
-    if !inner::layout::shape_ok(f, cards, room) {
+    if !inner::layout::shape_ok(v, cards, room) {
         return NOT_MADE;
     }
     let n = cards as u16;
     let c = room as u16;
-    if image.len() != inner::layout::size_of(f, n, c) {
+    if image.len() != inner::layout::size_of(v, n, c) {
         return NOT_MADE;
     }
-    inner::fresh::fill(f, image, n, c);
+    inner::fresh::fill(v, image, n, c);
     MADE
-}
-
-// Makes a fresh image of version 1, as `make_as` does.
-pub fn make(image: &mut [u8], cards: usize, room: usize) -> u8
-    ensures number { λ r. ⌜ r ≡ makeNumber V1 cards room (length (now (image .entry))) ⌝ }
-    ensures bytes { λ r. ⌜ now (image .exit)
-        ≡ settled (makeNumber V1 cards room (length (now (image .entry)))) (fresh V1 cards room) (now (image .entry)) ⌝ }
-{
-    make_as(Format::V1, image, cards, room)
 }
 
 // ---- From version 1 to version 2.
@@ -132,12 +116,12 @@ pub fn convert(image: &[u8], target: &mut [u8]) -> u8
     ensures bytes { λ r. ⌜ now (target .exit)
         ≡ settled (convertNumber (now (image .entry)) (length (now (target .entry)))) (converted (now (image .entry))) (now (target .entry)) ⌝ }
 {
-    if !sound(image) {
+    if !sound(formats::V1, image) {
         return UNSOUND;
     }
     let n = inner::read::count(image);
     let c = inner::read::room(image);
-    if make_as(Format::V2, target, n as usize, c as usize) == NOT_MADE {
+    if make(formats::V2, target, n as usize, c as usize) == NOT_MADE {
         return NOT_MADE;
     }
     let mut k: u16 = 0;

@@ -18,9 +18,7 @@ use Rattle.lists.specs.Table.{all, allFrom, listed}
 use Rattle.lists.proofs.Bytes.{Bytes-nil, zeros-at, zeros-replicate}
 use Rattle.guard.specs.Entry.{entrySound, noEntry, FitsEntry}
 use Rattle.guard.specs.declared.Entry.{Entry}
-use Rattle.formats.specs.declared.Format.{Format}
-use Rattle.formats.specs.declared.Format.the-variants.{V1, V2}
-use Rattle.formats.specs.Format.{version, translations}
+use Rattle.formats.specs.Format.{Format, V1, V2, version, translations}
 use Rattle.image.specs.Layout.{shapeOk, sizeOf, headerSize}
 use Rattle.image.specs.Bytes.{header, countOf}
 use Rattle.image.specs.Image.{noTranslation, view, noCard, encode, cardAt, decode, headerSound, sound, fresh, GoodCard, GoodCards, freshCards, makes, makeNumber, claimed, goodFront}

@@ -15,7 +15,7 @@ use Rattle.lists.proofs.Table.{unapplied, none-applies}
 use Rattle.lists.proofs.Tests.{to-T, and-left, and-right}
 use Rattle.guard.specs.Entry.{entrySound, noEntry, FitsEntry}
 use Rattle.guard.specs.declared.Entry.{Entry}
-use Rattle.formats.specs.declared.Format.the-variants.{V1, V2}
+use Rattle.formats.specs.Format.{V1, V2}
 use Rattle.image.specs.Layout.{shapeOk, sizeOf}
 use Rattle.image.specs.Bytes.{header, entryBytes, pad, readEntry, entryAt, countOf, roomOf}
 use Rattle.image.specs.Image.{Card, Cards, translationOf, noTranslation, noCard, view, sideText, bodies, encode, decode, cardAt, tailZero, translationSound, cardSound, headerSound, sound, makes, GoodCard, GoodCards}

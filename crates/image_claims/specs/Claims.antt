@@ -8,8 +8,7 @@ use mathlib.Core.Bool.{false}
 use lib.Dec.{T}
 use Rattle.lists.specs.Parts.{Bytes}
 use Rattle.lists.specs.Table.{listed}
-use Rattle.formats.specs.declared.Format.{Format}
-use Rattle.formats.specs.declared.Format.the-variants.{V1, V2}
+use Rattle.formats.specs.Format.{Format, V1, V2}
 use Rattle.image.specs.Image.{Cards, GoodCards, encode, decode, sound, cardAt, fresh, freshCards, makeNumber, goodFront}
 use Rattle.image.specs.Layout.{shapeOk, sizeOf, headerSize}
 use Rattle.image.specs.Bytes.{countOf, roomOf}

@@ -6,7 +6,7 @@ use mathlib.Core.List.{List, [], _∷_, _++_, map}
 use lib.Dec.{T}
 use lib.ListN.{length, set, replicate}
 use Rattle.lists.specs.Parts.{Bytes}
-use Rattle.formats.specs.declared.Format.the-variants.{V1, V2}
+use Rattle.formats.specs.Format.{V1, V2}
 use Rattle.image.specs.Bytes.{countOf, roomOf}
 use Rattle.image.specs.Image.{Card, translationOf, noTranslation, cardAt, encode, decode, sound}
 use Rattle.image.specs.Convert.{widenedCards, converted, convertNumber}

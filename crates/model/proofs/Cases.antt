@@ -10,7 +10,7 @@ use Rattle.commands.specs.Bytes.{fieldsOf, payload, formed, commandBytes}
 use Rattle.guard.specs.Entry.{entrySound}
 use Rattle.guard.specs.Judge.{raise}
 use Rattle.guard.specs.Replies.{replied}
-use Rattle.formats.specs.declared.Format.{Format}
+use Rattle.formats.specs.Format.{Format}
 use Rattle.image.specs.Layout.{shapeOk}
 use Rattle.image.specs.Bytes.{header, entryBytes, pad, readEntry, entryAt}
 use Rattle.image.specs.Image.{bodies, encode, cardAt, decode, tailZero, translationSound, cardSound, headerSound, sound, fresh}

@@ -16,7 +16,7 @@ use Rattle.commands.specs.Bytes.{fieldsOf, payload, formed, commandBytes}
 use Rattle.guard.specs.Entry.{entrySound}
 use Rattle.guard.specs.Judge.{behind, raise}
 use Rattle.guard.specs.Replies.{replied}
-use Rattle.formats.specs.declared.Format.the-variants.{V1, V2}
+use Rattle.formats.specs.Format.{V1, V2}
 use Rattle.image.specs.Layout.{shapeOk, sizeOf, mostCards, leastRoom, mostRoom, roomStep, mostBytes}
 use Rattle.image.specs.Bytes.{header, entryBytes, pad, readEntry, entryAt}
 use Rattle.image.specs.Image.{Translation, Card, Cards, translationOf, noTranslation, noCard, text, bodies, encode, cardAt, decode, tailZero, translationSound, cardSound, headerSound, sound, fresh, freshCards, makes, GoodCards}

@@ -8,7 +8,7 @@ use mathlib.Core.Bool.{true, false}
 use lib.Dec.{T}
 use lib.ListN.{length, length-replicate, getD-replicate}
 use Rattle.lists.proofs.Tests.{cases}
-use Rattle.formats.specs.declared.Format.{Format}
+use Rattle.formats.specs.Format.{Format}
 use Rattle.image.specs.Image.{Cards, noCard, fresh}
 use Rattle.image.specs.Image.{freshCards}
 use Rattle.image.specs.Layout.{shapeOk}

@@ -7,7 +7,7 @@ use mathlib.Core.List.{List}
 use mathlib.Core.Bool.{_||_}
 use lib.Dec.{T, leb, eqb, leb→le, eqb→eq}
 use lib.ListN.{length}
-use Rattle.formats.specs.declared.Format.{Format}
+use Rattle.formats.specs.Format.{Format}
 use Rattle.guard.specs.Replies.{replied}
 use Rattle.lists.specs.Table.{first, applies, earlier, noRow}
 use Rattle.lists.proofs.Table.{given, unapplied, first-all}

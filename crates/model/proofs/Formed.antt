@@ -5,7 +5,7 @@ use mathlib.Core.Bool.{Bool, true, false, _||_, or-false}
 use Prim.Native.Nat.{ℕ}
 use borrow.Author.Tests.{eqb-true}
 use lib.Dec.{eqb}
-use Rattle.formats.specs.declared.Format.{Format}
+use Rattle.formats.specs.Format.{Format}
 use Rattle.commands.specs.Command.{isWrite, wellFormed}
 use Rattle.commands.specs.Bytes.{fieldsOf, formed}
 use Rattle.commands.specs.declared.Command.{Command}

@@ -22,8 +22,7 @@ use Rattle.guard.proofs.Judge.{Accepted, accepted as passes}
 use Rattle.commands.proofs.Rules.{CommandRules}
 use Rattle.commands.proofs.Languages.{writes-act, one-write}
 use Rattle.lists.proofs.Table.{unapplied, none-applies}
-use Rattle.formats.specs.declared.Format.{Format}
-use Rattle.formats.specs.Format.{translations}
+use Rattle.formats.specs.Format.{Format, translations}
 use Rattle.commands.proofs.CommandBytes.{language-within}
 use Rattle.image.specs.Image.{Translation, Card, Cards, noTranslation, translationOf, text, noCard}
 use Rattle.image.proofs.Empty.{no-translation}

@@ -15,7 +15,7 @@ use Rattle.stamps.specs.Stamp.{noPair}
 use Rattle.commands.specs.Bytes.{fieldsOf, payload, formed}
 use Rattle.guard.specs.Judge.{raise}
 use Rattle.guard.specs.Replies.{replied, blankReply}
-use Rattle.formats.specs.declared.Format.{Format}
+use Rattle.formats.specs.Format.{Format}
 use Rattle.image.specs.Layout.{shapeOk}
 use Rattle.image.specs.Image.{Card, Cards, noCard, fresh}
 use Rattle.image.specs.Image.{freshCards}

@@ -22,7 +22,7 @@ use Rattle.lists.specs.Table.{Row, applies}
 use Rattle.commands.specs.declared.Command.{Command}
 use Rattle.commands.proofs.Languages.{reads-named, reads-act}
 use Rattle.lists.proofs.Table.{given}
-use Rattle.formats.specs.declared.Format.{Format}
+use Rattle.formats.specs.Format.{Format}
 use Rattle.commands.proofs.Rules.{CommandRules}
 use Rattle.image.specs.Image.{Card, Cards, translationOf, view, text}
 use Rattle.model.specs.Serve.{cardOf, entryOf, requestRows, textRead}

@@ -19,8 +19,7 @@ use Rattle.guard.specs.Entry.{entrySound, FitsEntry}
 use Rattle.guard.specs.Judge.{raise}
 use Rattle.guard.specs.declared.Entry.{Entry}
 use Rattle.guard.proofs.Raise.{raise-sound, raise-fits}
-use Rattle.formats.specs.declared.Format.{Format}
-use Rattle.formats.specs.Format.{translations}
+use Rattle.formats.specs.Format.{Format, translations}
 use Rattle.image.specs.Image.{Card, Cards, view, sideText, text, encode, decode, sound}
 use Rattle.image.specs.Image.{GoodCard, GoodCards}
 use Rattle.image.proofs.Cards.{good-with}

@@ -8,7 +8,7 @@ use Rattle.commands.specs.Command.{Language, original, translation, writes}
 use Rattle.commands.specs.declared.Command.{Command}
 use Rattle.commands.proofs.Languages.{writes-named, writes-other, one-write, no-original}
 use Rattle.guard.specs.Replies.{replied}
-use Rattle.formats.specs.declared.Format.{Format}
+use Rattle.formats.specs.Format.{Format}
 use Rattle.image.specs.Image.{sound}
 use Rattle.image_claims.proofs.Claims.{oneVersion}
 use Rattle.lists.specs.Table.{first}

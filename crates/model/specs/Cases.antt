@@ -11,8 +11,7 @@ use Rattle.guard.specs.declared.Answer.{Answer}
 use Rattle.stamps.specs.declared.Pair.{Pair}
 use Rattle.stamps.specs.declared.Mark.{Mark}
 use Rattle.commands.specs.declared.Command.{Command}
-use Rattle.formats.specs.declared.Format.{Format}
-use Rattle.formats.specs.declared.Format.the-variants.{V1, V2}
+use Rattle.formats.specs.Format.{Format, V1, V2}
 use Rattle.image.specs.Image.{noTranslation, encode, fresh}
 use Rattle.model.specs.Serve.{serve}
 use Rattle.model.specs.Words.{Sent, Event, history}

@@ -10,8 +10,7 @@ use lib.Dec.{T}
 use Rattle.lists.specs.Parts.{Bytes}
 use Rattle.commands.specs.Command.{Language, translation, reads, writes}
 use Rattle.lists.specs.Table.{applies, earlier, noRow}
-use Rattle.formats.specs.declared.Format.{Format}
-use Rattle.formats.specs.declared.Format.the-variants.{V1}
+use Rattle.formats.specs.Format.{Format, V1}
 use Rattle.image.specs.Layout.{shapeOk}
 use Rattle.image.specs.Image.{sound}
 use Rattle.model.specs.Serve.{serve, storeRows}

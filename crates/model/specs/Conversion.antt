@@ -5,7 +5,7 @@ use mathlib.Core.Path.{_≡_}
 use mathlib.Core.List.{List, [], _∷_, _++_, reverse}
 use lib.Dec.{T}
 use lib.ListN.{replicate}
-use Rattle.formats.specs.declared.Format.the-variants.{V1, V2}
+use Rattle.formats.specs.Format.{V1, V2}
 use Rattle.image.specs.Layout.{shapeOk, sizeOf}
 use Rattle.image.specs.Image.{fresh}
 use Rattle.image.specs.Convert.{converted, convertNumber}

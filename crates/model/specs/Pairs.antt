@@ -9,7 +9,7 @@ use Rattle.stamps.specs.Stamp.{largerOfEach, noPair}
 use Rattle.stamps.specs.declared.Pair.{Pair}
 use Rattle.commands.specs.Command.{update}
 use Rattle.guard.specs.Replies.{blankReply}
-use Rattle.formats.specs.declared.Format.{Format}
+use Rattle.formats.specs.Format.{Format}
 use Rattle.image.specs.Layout.{shapeOk}
 use Rattle.model.specs.Words.{Sent, Event, commandOf, accepted, logOf}
 use Rattle.model.specs.Claims.{AllBytes}

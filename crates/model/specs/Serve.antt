@@ -15,7 +15,7 @@ use Rattle.guard.specs.Replies.{replied}
 use Rattle.guard.specs.declared.Answer.{Answer}
 use Rattle.guard.specs.declared.Entry.{Entry}
 use Rattle.commands.specs.declared.Command.{Command}
-use Rattle.formats.specs.declared.Format.{Format}
+use Rattle.formats.specs.Format.{Format}
 use Rattle.image.specs.Image.{Card, Cards, view, text, withCard, noCard, encode, decode, sound}
 
 -- The card that a command names; an empty one where there is none.

@@ -12,7 +12,7 @@ use Rattle.commands.specs.Bytes.{fieldsOf, payload, formed}
 use Rattle.guard.specs.declared.Answer.{Answer}
 use Rattle.commands.specs.declared.Command.{Command}
 use Rattle.stamps.specs.declared.Pair.{Pair}
-use Rattle.formats.specs.declared.Format.{Format}
+use Rattle.formats.specs.Format.{Format}
 use Rattle.image.specs.Image.{fresh}
 use Rattle.model.specs.Serve.{Outcome, serve}
 

@@ -14,7 +14,8 @@ use Rattle.image.specs.Layout.{mostRoom}
 use Rattle.image.specs.Bytes.{countOf, roomOf}
 use Rattle.program.specs.Text.{quoted, Put}
 use Rattle.program.proofs.Puts.{put-put, put-wide}
-use Rattle.image.specs.Image.{goodFront, frontSize, frontOf}
+use Rattle.formats.specs.Format.{V1}
+use Rattle.image.specs.Image.{goodFront, frontSize, frontOf, sound}
 use Rattle.image.specs.declared.Dimensions.{Dimensions}
 use Rattle.program.specs.Program.{firstLine, mostLine, mostInput, imageOf, streamOf, blankOf, printed, mostPrinted, outputOf, mostOutput, outputWithin, Lent}
 use Rattle.image.proofs.InFront.{Fronting, front, good-front}
@@ -30,6 +31,10 @@ front-of n v l e = take-at v (drop (0 + length v) l) n e
 front-of-repeat : (n m : ℕ) → n ≤ m → take n (replicate m zero) ≡ replicate n zero
 unfolding part
 front-of-repeat n m h = part-replicate 0 n m 0 (omega arith)
+
+-- The front of a copy is sound where the front of the input is.
+pub copied-sound : (size : ℕ) (input blank copy : List ℕ) → size ≤ length input → copy ≡ splice 0 (take size input) blank → sound V1 (take size input) ≡ true → sound V1 (take size copy) ≡ true
+copied-sound size input blank copy within put good = rw (put, front-of size (take size input) blank (length-take-le size input within)) good
 
 -- A run over a copy of the image in front, with the front of a buffer of zeros, is the run that the input asks for.
 pub answered-by : (size room : ℕ) (input blank copy : List ℕ) {at : ℕ} {out₀ out : List ℕ} {r : ℕ} → size ≤ length input → room ≤ mostRoom → copy ≡ splice 0 (take size input) blank →
@@ -60,6 +65,7 @@ module _ (input : List ℕ) (d : Dimensions) (is : d ≡ frontOf input) (some : 
         within = omega (arith, size-is, there .size, there .within);
         small = omega (arith, size-is, there .size, there .small);
         most = omega (arith, room-is, there .room);
+        good = rw (size-is ∙ there .size) (there .sounds);
         lines = omega (arith, length-drop (d .size) input);
       }
 

@@ -4,12 +4,11 @@ use mathlib.Core.Path.{_≡_, refl, subst, _∙_}
 use mathlib.Core.List.{List}
 use lib.ListN.{length, take, drop}
 use native.Mathlib.Omega.{arith}
-use Rattle.formats.specs.declared.Format.the-variants.{V1}
+use Rattle.formats.specs.Format.{V1, fixed}
 use Rattle.lists.specs.Parts.{part}
 use Rattle.program.specs.Text.{Put}
 use Rattle.program.proofs.Puts.{put-put, put-wide, Putting, putting-none, putting-more, putting-done}
 use Rattle.guard.specs.declared.Answer.{Answer}
-use Rattle.formats.specs.Format.{fixed}
 use Rattle.program.specs.Program.{lineBy, lineOf, linesFrom, lastLine, mostLine, printed, mostPrinted}
 use Rattle.store.specs.Runs.{runs, numbersOf}
 use Rattle.model.specs.Serve.{serve}

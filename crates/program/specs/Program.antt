@@ -1,18 +1,18 @@
 -- What the program prints for its input, byte for byte (rules 8.3 to 8.6).
 -- Assumes nothing.
 use Prim.Native.Nat.{ℕ, _+_, _*_, _-_, _/_, _≤_}
+use mathlib.Core.Path.{_≡_}
 use mathlib.Core.List.{List, [], _∷_, _++_}
-use mathlib.Core.Bool.{cond}
+use mathlib.Core.Bool.{cond, true}
 use lib.Dec.{ltb, eqb}
 use lib.ListN.{length, take, drop, replicate}
-use Rattle.formats.specs.declared.Format.the-variants.{V1}
+use Rattle.formats.specs.Format.{V1, fixed}
 use Rattle.image.specs.Layout.{mostBytes, mostRoom}
 use Rattle.image.specs.Bytes.{countOf, roomOf}
-use Rattle.image.specs.Image.{goodFront, frontSize}
+use Rattle.image.specs.Image.{goodFront, frontSize, sound}
 use Rattle.guard.specs.declared.Answer.{Answer}
 use Rattle.lists.specs.Parts.{spread}
 use Rattle.store.specs.Runs.{Run, runs, numbersOf, perLine}
-use Rattle.formats.specs.Format.{fixed}
 use Rattle.stream.specs.Stream.{commands, endOf}
 use Rattle.program.specs.Text.{quoted, decimal, spaced, mostDigits}
 
@@ -96,4 +96,5 @@ pub record Lent (input : List ℕ) (size room : ℕ) (out : List ℕ) (at : ℕ)
   pub within : size ≤ length input
   pub small : size ≤ mostBytes
   pub most : room ≤ mostRoom
+  pub good : sound V1 (take size input) ≡ true
   pub lines : at + mostPrinted (drop size input) ≤ length out

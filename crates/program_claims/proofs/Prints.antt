@@ -9,7 +9,7 @@ use lib.Seq.{take-at, drop-append-seam}
 use Rattle.lists.specs.Le.{le}
 use Rattle.lists.proofs.Parts.{part-append-left}
 use Rattle.lists.proofs.Tests.{to-T}
-use Rattle.formats.specs.declared.Format.the-variants.{V1}
+use Rattle.formats.specs.Format.{V1}
 use Rattle.image.specs.Layout.{sizeOf}
 use Rattle.image.specs.Bytes.{countOf, roomOf}
 use Rattle.image.specs.Image.{sound, claimed, goodFront, frontSize}

@@ -6,7 +6,7 @@ use mathlib.Core.List.{List, [], _∷_, _++_, map, reverse}
 use mathlib.Core.Bool.{true}
 use lib.Dec.{T, eqb}
 use lib.ListN.{length, take, drop, getD, replicate}
-use Rattle.formats.specs.declared.Format.the-variants.{V1, V2}
+use Rattle.formats.specs.Format.{V1, V2}
 use Rattle.lists.specs.Parts.{Bytes}
 use Rattle.guard.specs.declared.Answer.{Answer}
 use Rattle.image.specs.Layout.{shapeOk}

@@ -8,7 +8,7 @@ use mathlib.Core.Bool.{Bool, true, false, not, _&&_, _||_, and-false}
 use borrow.Author.Tests.{eq-eqb, ne-eqb, le-ltb}
 use lib.ListN.{length, List·getD-eq-default}
 use lib.Dec.{leb, eqb, lit<}
-use Rattle.formats.specs.declared.Format.the-variants.{V1}
+use Rattle.formats.specs.Format.{V1, translations, entrySize, fixed}
 use Rattle.lists.specs.Parts.{Bytes, part, table, zeros}
 use Rattle.lists.specs.Le.{le, field}
 use Rattle.lists.proofs.Tests.{to-T, or-left, or-right}
@@ -16,7 +16,6 @@ use Rattle.lists.proofs.Bytes.{Bytes-nil}
 use Rattle.commands.specs.Command.{wellFormed, FitsCommand}
 use Rattle.commands.specs.declared.Command.{Command}
 use Rattle.commands.specs.Bytes.{blanks, formed, commandBytes}
-use Rattle.formats.specs.Format.{translations, entrySize, fixed}
 use Rattle.commands.proofs.CommandBytes.{fields-command, payload-command, formed-command, Bytes-command}
 use Rattle.guard.specs.Replies.{refused}
 use Rattle.guard.specs.Entry.{noEntry}

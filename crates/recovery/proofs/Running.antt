@@ -6,7 +6,7 @@ use mathlib.Core.Logic.{_⊎_, inl, inr}
 use mathlib.Core.List.{List}
 use mathlib.Core.Bool.{Bool, true, false, cond}
 use lib.ListN.{length}
-use Rattle.formats.specs.declared.Format.the-variants.{V1}
+use Rattle.formats.specs.Format.{V1}
 use Rattle.lists.proofs.Table.{settled-old}
 use Rattle.image.specs.Image.{sound}
 use Rattle.redo_log.specs.Log.{LogRecord, goodLog, recordCount, lastBegun, recordAt, records}

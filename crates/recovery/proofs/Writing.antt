@@ -8,14 +8,13 @@ use borrow.Author.Tests.{eqb-true}
 use lib.ListN.{length, take, drop, getD, length-drop}
 use lib.Seq.{take-all}
 use lib.Dec.{eqb, lit<}
-use Rattle.formats.specs.declared.Format.the-variants.{V1}
+use Rattle.formats.specs.Format.{V1, translations}
 use Rattle.lists.specs.Parts.{Bytes}
 use Rattle.lists.specs.Le.{field}
 use Rattle.lists.proofs.Tests.{and-left, to-T}
 use Rattle.commands.specs.Command.{FitsCommand}
 use Rattle.commands.specs.declared.Command.{Command}
 use Rattle.commands.specs.Bytes.{commandBytes}
-use Rattle.formats.specs.Format.{translations}
 use Rattle.guard.specs.declared.Entry.{Entry}
 use Rattle.image.specs.Image.{sound, decode}
 use Rattle.image.proofs.Decode.{decode-good}

@@ -3,7 +3,7 @@
 use Prim.Native.Nat.{ℕ}
 use mathlib.Core.List.{List, []}
 use mathlib.Core.Bool.{cond}
-use Rattle.formats.specs.declared.Format.the-variants.{V1}
+use Rattle.formats.specs.Format.{V1}
 use Rattle.redo_log.specs.Log.{LogRecord}
 use Rattle.model.specs.Serve.{Outcome, serve}
 use Rattle.recovery_model.specs.Recovery.{Pairs, recordIn, due, recoverySent, recovered}

@@ -4,8 +4,7 @@ ghost use mathlib.Core.List.{[]};
 ghost use Prim.Native.Nat.{_+_, _≤_, _<_};
 ghost use lib.ListN.{length, getD};
 ghost use lib.Dec.{eqb};
-ghost use Rattle.formats.specs.declared.Format.the-variants.{V1};
-ghost use Rattle.formats.specs.Format.{translations};
+ghost use Rattle.formats.specs.Format.{V1, translations};
 ghost use Rattle.image.specs.Image.{sound};
 ghost use Rattle.commands.specs.Bytes.{commandBytes};
 ghost use Rattle.commands.specs.Command.{FitsCommand};
@@ -15,7 +14,6 @@ ghost use Rattle.lists.specs.Search.{any};
 ghost use Rattle.recovery_model.specs.Recovery.{commitsTo, syncsFrom, due, entryFor, writeBy};
 ghost use Rattle.recovery.specs.Step.{pairsOf, writeOutcome, stepNumber, stepImage};
 use commands::Command;
-use formats::Format;
 use guard::Entry;
 use slices::inner::fixed_width as le;
 use stamps::Mark;
@@ -125,7 +123,7 @@ fn entry_for(image: &[u8], k: u16) -> Entry
             translation: 0,
         };
     }
-    image::inner::read::entry_at(Format::V1, image, k, 0)
+    image::inner::read::entry_at(formats::V1, image, k, 0)
 }
 
 // Writing an original, or a translation.
@@ -184,7 +182,7 @@ fn carry_out(image: &mut [u8], c: Command, text: &[u8]) -> u8
         return guard::NO_CARD;
     }
     let mut none = [0u8; 0];
-    let a = store::inner::step::carry(Format::V1, image, c, text, &mut none);
+    let a = store::inner::step::carry(formats::V1, image, c, text, &mut none);
     a.number
 }
 

@@ -22,7 +22,7 @@ pub fn recover<'a>(log: &[u8], image: &mut [u8], s: &'a [u64], x: &'a [u64]) -> 
             line: 0,
         };
     }
-    let ok = image::sound(image);
+    let ok = image::sound(formats::V1, image);
     let count = log[0] as usize;
     let mut last: u32 = 0;
     let mut i: usize = 0;

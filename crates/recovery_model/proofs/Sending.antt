@@ -8,7 +8,7 @@ use mathlib.Core.Bool.{Bool, true, false, cond}
 use borrow.Author.Tests.{ltb-true, ltb-false}
 use lib.ListN.{length, getD, length-drop, List·getD-eq-default}
 use lib.Dec.{ltb, eqb, lit<}
-use Rattle.formats.specs.declared.Format.the-variants.{V1}
+use Rattle.formats.specs.Format.{V1, translations}
 use Rattle.lists.specs.Parts.{Bytes}
 use Rattle.lists.proofs.Bytes.{Bytes-nil, Bytes-drop, Bytes-part}
 use Rattle.lists.proofs.Le.{le-part-bound}
@@ -16,7 +16,6 @@ use Rattle.lists.proofs.Tests.{cases}
 use Rattle.guard.specs.Entry.{FitsEntry}
 use Rattle.commands.specs.Command.{FitsCommand}
 use Rattle.commands.proofs.CommandBytes.{Bytes-command}
-use Rattle.formats.specs.Format.{translations}
 use Rattle.image.specs.Image.{fresh, Card, Cards, view, noCard, encode, decode}
 use Rattle.image.specs.Image.{GoodCard, GoodCards, freshCards}
 use Rattle.image_claims.proofs.Claims.{goodEncodes, freshSound, fits-none}

@@ -8,7 +8,7 @@ use mathlib.Core.Bool.{Bool, true, false, cond}
 use borrow.Author.Tests.{ltb-true, ltb-false}
 use lib.ListN.{length, List·getD-eq-default}
 use lib.Dec.{ltb, eqb}
-use Rattle.formats.specs.declared.Format.the-variants.{V1}
+use Rattle.formats.specs.Format.{V1}
 use Rattle.lists.specs.Table.{settled}
 use Rattle.lists.proofs.Table.{settled-old}
 use Rattle.lists.proofs.Tests.{cases, never-both, and-right}

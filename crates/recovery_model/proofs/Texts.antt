@@ -9,7 +9,7 @@ use borrow.Author.Tests.{eqb-true, eqb-false, ne-eqb, ltb-true}
 use lib.ListN.{length, getD, set}
 use lib.Seq.{getD-set-same, getD-set-other}
 use lib.Dec.{eqb, lit<}
-use Rattle.formats.specs.declared.Format.the-variants.{V1}
+use Rattle.formats.specs.Format.{V1, translations}
 use Rattle.lists.specs.Parts.{Bytes}
 use Rattle.lists.proofs.Tests.{to-T}
 use Rattle.commands.specs.Command.{Language, original, translation, writes}
@@ -19,7 +19,6 @@ use Rattle.commands.proofs.CommandBytes.{fields-command, payload-command}
 use Rattle.guard.specs.Replies.{replied}
 use Rattle.stamps.specs.declared.Pair.{Pair}
 use Rattle.guard.specs.declared.Entry.{Entry}
-use Rattle.formats.specs.Format.{translations}
 use Rattle.image.specs.Image.{Card, Cards, text, noCard, encode, decode, sound}
 use Rattle.image.specs.Image.{GoodCards}
 use Rattle.image_claims.proofs.Claims.{soundReadsBack}

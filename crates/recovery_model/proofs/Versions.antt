@@ -7,8 +7,7 @@ use mathlib.Core.List.{List, []}
 use mathlib.Core.Bool.{Bool, true, false, cond}
 use lib.Dec.{T}
 use lib.ListN.{length}
-use Rattle.formats.specs.declared.Format.the-variants.{V1, V2}
-use Rattle.formats.specs.Format.{version}
+use Rattle.formats.specs.Format.{V1, V2, version}
 use Rattle.image.specs.Image.{sound}
 use Rattle.lists.specs.Table.{settled}
 use Rattle.model.specs.Serve.{serve}

@@ -7,7 +7,7 @@ use mathlib.Core.List.{List, [], _∷_, _++_, reverse}
 use mathlib.Core.Bool.{Bool, true, false, cond, not, _&&_}
 use lib.ListN.{length, getD}
 use lib.Dec.{T, eqb}
-use Rattle.formats.specs.declared.Format.the-variants.{V1, V2}
+use Rattle.formats.specs.Format.{V1, V2}
 use Rattle.lists.specs.Parts.{Bytes}
 use Rattle.lists.specs.Search.{none}
 use Rattle.image.specs.Layout.{shapeOk}

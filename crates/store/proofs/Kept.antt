@@ -18,8 +18,7 @@ use Rattle.commands.specs.Command.{translation, original, writesTranslation, wr
 use Rattle.commands.specs.declared.Command.{Command}
 use Rattle.guard.specs.Judge.{raise}
 use Rattle.guard.specs.declared.Entry.{Entry}
-use Rattle.formats.specs.declared.Format.{Format}
-use Rattle.formats.specs.Format.{translations, entrySize}
+use Rattle.formats.specs.Format.{Format, translations, entrySize}
 use Rattle.image.specs.Layout.{headerSize, mostRoom, sides, entryPlace, bodyPlace}
 use Rattle.image.specs.Bytes.{entryBytes, pad, countOf, roomOf, entryAt}
 use Rattle.image.specs.Image.{Card, view, sideText, withCard, cardEntry, bodies, translationAt, cardAt, encode, decode, tailZero, sound}

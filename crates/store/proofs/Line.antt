@@ -7,16 +7,16 @@ use Rattle.guard.specs.Replies.{replyFields}
 use Rattle.guard.specs.declared.Answer.{Answer}
 use Rattle.store.specs.Runs.{numbersOf}
 
-behind-first : (a : Answer) →
-    (getD (numbersOf a) 1 0 ∷ getD (numbersOf a) 2 0 ∷ getD (numbersOf a) 3 0 ∷ getD (numbersOf a) 4 0 ∷ getD (numbersOf a) 5 0 ∷ getD (numbersOf a) 6 0 ∷ getD (numbersOf a) 7 0 ∷ [])
-    ≡ replyFields a
+all-numbers : (a : Answer) →
+    (getD (numbersOf a) 0 0 ∷ getD (numbersOf a) 1 0 ∷ getD (numbersOf a) 2 0 ∷ getD (numbersOf a) 3 0 ∷ getD (numbersOf a) 4 0 ∷ getD (numbersOf a) 5 0 ∷ getD (numbersOf a) 6 0 ∷ getD (numbersOf a) 7 0 ∷ [])
+    ≡ numbersOf a
 unfolding numbersOf
-behind-first a = refl
+all-numbers a = refl
 
--- The numbers of a line behind the first are the reply fields.
-pub line-fields : (a : Answer) {m : List ℕ} → m ≡ numbersOf a →
-    (getD m 1 0 ∷ getD m 2 0 ∷ getD m 3 0 ∷ getD m 4 0 ∷ getD m 5 0 ∷ getD m 6 0 ∷ getD m 7 0 ∷ []) ≡ replyFields a
-line-fields a p = rw p (behind-first a)
+-- A line is its numbers.
+pub line-numbers : (a : Answer) {m : List ℕ} → m ≡ numbersOf a →
+    (getD m 0 0 ∷ getD m 1 0 ∷ getD m 2 0 ∷ getD m 3 0 ∷ getD m 4 0 ∷ getD m 5 0 ∷ getD m 6 0 ∷ getD m 7 0 ∷ []) ≡ numbersOf a
+line-numbers a p = rw p (all-numbers a)
 
 each-field : (a : Answer) →
     (a .number ∷ getD (replyFields a) 0 0 ∷ getD (replyFields a) 1 0 ∷ getD (replyFields a) 2 0 ∷ getD (replyFields a) 3 0 ∷ getD (replyFields a) 4 0 ∷ getD (replyFields a) 5 0 ∷ getD (replyFields a) 6 0 ∷ [])

@@ -4,12 +4,16 @@ use native.Mathlib.Omega.{arith}
 use mathlib.Core.Path.{_≡_, refl, sym, ap, _∙_}
 use mathlib.Core.Logic.{_⊎_, inl, inr}
 use mathlib.Core.List.{List, [], _∷_, append-nil}
-use mathlib.Core.Bool.{true, false}
-use borrow.Author.Tests.{eqb-true}
+use mathlib.Core.Bool.{Bool, true, false, not, _&&_}
+use borrow.Author.Tests.{eqb-true, eq-eqb, ne-eqb}
+use lib.Dec.{eqb}
 use lib.ListN.{length, getD}
-use Rattle.formats.specs.declared.Format.{Format}
-use Rattle.formats.specs.Format.{fixed}
-use Rattle.lists.specs.Parts.{splice, spread}
+use lib.Seq.{take-length, drop-length}
+use native.Mathlib.Nat.{sub-zero, zero-add}
+use Rattle.formats.specs.Format.{Format, fixed}
+use Rattle.formats.proofs.Numbers.{numbers}
+use Rattle.lists.specs.Parts.{part, splice, spread}
+use Rattle.lists.proofs.Tests.{and-in, and-left, and-right, never-both}
 use Rattle.lists.specs.Le.{field}
 use Rattle.lists.proofs.Parts.{splice-whole}
 use Rattle.commands.specs.Bytes.{formed}
@@ -18,25 +22,37 @@ use Rattle.guard.specs.declared.Answer.{Answer}
 use Rattle.model.specs.Serve.{Outcome, serve}
 use Rattle.store.specs.Runs.{runs, numbersOf, perLine}
 use Rattle.model.proofs.Exact.{refusals}
-use Rattle.stream.specs.Stream.{commands, commandsWithin}
+use Rattle.stream.specs.Stream.{extent, commands, commandsWithin, nextAt, onward}
+use Rattle.stream.proofs.Place.{next-whole, whole-in, went}
 use Rattle.stream.proofs.Walks as walk
-use Rattle.store.specs.Ran.{judgedOf, lined, isOne}
+use Rattle.store.specs.Ran.{judgedOf, lined}
 use Rattle.store.proofs.Step.{refusal}
 use Rattle.store.proofs.Running.{per-line}
-
--- Bytes of another length are no command.
-pub not-one : (f : Format) (c : List ℕ) → isOne f c ≡ false → formed f c ≡ false
-unfolding formed
-not-one f c h = rw h
 
 no-commands : (f : Format) → commands f [] ≡ []
 unfolding commands commandsWithin
 no-commands f = refl
 
-one-command : (f : Format) (c : List ℕ) → isOne f c ≡ true → commands f c ≡ c ∷ []
-one-command f c h =
-    let size : length c ≡ fixed f + field 50 2 c = eqb-true (length c) (fixed f + field 50 2 c) h in
-    ap (commands f) (sym (append-nil c)) ∙ walk.first f c [] (omega (arith, size), size) ∙ ap (λ (cs : List (List ℕ)). c ∷ cs) (no-commands f)
+-- The step from the first byte of a command goes to its end; of bytes that are no whole command, or more, it does not, or there are none.
+module _ (f : Format) (c : List ℕ) {end : ℕ} (step : end ≡ onward 0 (nextAt f c 0)) where
+  one-command : (eqb end (length c) && not (eqb end 0)) ≡ true → commands f c ≡ c ∷ []
+  unfolding part
+  one-command h =
+      let long : end ≡ length c = eqb-true end (length c) (and-left (eqb end (length c)) (not (eqb end 0)) h) in
+      let some = and-right (eqb end (length c)) (not (eqb end 0)) h in
+      let e = went f c 0 step (λ none. never-both some (ap not (eq-eqb end 0 none))) in
+      walk.passes f c 0 end e .2 ∙ rw (long, sub-zero, take-length, drop-length, no-commands)
+
+  pub not-one : (eqb end (length c) && not (eqb end 0)) ≡ false → formed f c ≡ false
+  unfolding formed extent
+  not-one h = go (eqb (length c) (fixed f + field 50 2 c)) refl
+    where
+      go : (b : Bool) → eqb (length c) (fixed f + field 50 2 c) ≡ b → formed f c ≡ false
+      go false q = rw q
+      go true q =
+          let size : length c ≡ fixed f + field 50 2 c = eqb-true (length c) (fixed f + field 50 2 c) q in
+          let there : end ≡ length c = step ∙ ap (onward 0) (next-whole f c 0 (whole-in f c (omega (arith, size)))) ∙ zero-add _ ∙ sym size in
+          absurd (never-both (and-in (eq-eqb end (length c) there) (ap not (ne-eqb end 0 (λ none. omega (arith, numbers f, there, size, none))))) h)
 
 -- A line that is written over as many numbers is the whole of them.
 pub line-whole : (a : Answer) (line : List ℕ) → length line ≡ perLine → splice 0 (numbersOf a) line ≡ numbersOf a
@@ -49,9 +65,9 @@ small f image c reply = go (refusals f image c reply .listed)
     go (inl h) = omega arith
     go (inr h) = omega arith
 
-module _ (f : Format) (image reply c line : List ℕ) (one : isOne f c ≡ true) (whole : length line ≡ perLine) where
+module _ (f : Format) (image reply c line : List ℕ) {end : ℕ} (step : end ≡ onward 0 (nextAt f c 0)) (one : (eqb end (length c) && not (eqb end 0)) ≡ true) (whole : length line ≡ perLine) where
   judged : judgedOf f c (length line) ≡ c ∷ []
-  judged = rw (whole, one-command f c one)
+  judged = rw (whole, one-command f c step one)
 
   pub one-image : runs f image reply (judgedOf f c (length line)) .image ≡ serve f image c reply .image
   unfolding runs
@@ -73,5 +89,5 @@ first-number a = refl
 -- What a refusal leaves.
 pub refused-exits : {o : Outcome} {image reply line′ : List ℕ} (line : List ℕ) (n : ℕ) {a : Answer} {K : Type 0} → o ≡ refusal (refused n) image reply → a ≡ refused n →
     line′ ≡ splice 0 (numbersOf a) line → length line ≡ perLine → K →
-    (n ≡ o .answer .number) × ((image ≡ o .image) × ((reply ≡ o .reply) × ((line′ ≡ numbersOf (o .answer)) × K)))
-refused-exits line n {a} h p q whole kept = rw h (refl, (refl, (refl, (q ∙ line-whole a line whole ∙ ap numbersOf p, kept))))
+    ((line′ ≡ numbersOf (o .answer)) × ((image ≡ o .image) × (reply ≡ o .reply))) × K
+refused-exits line n {a} h p q whole kept = rw h ((q ∙ line-whole a line whole ∙ ap numbersOf p, (refl, refl)), kept)

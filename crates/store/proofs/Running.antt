@@ -4,9 +4,9 @@ use native.Mathlib.Omega.{arith}
 use native.Mathlib.Nat.{zero-add, sub-zero}
 use mathlib.Core.Path.{_≡_, refl, sym, ap, _∙_}
 use mathlib.Core.List.{List, [], _++_}
-use lib.ListN.{length, take, drop, length-append}
-use lib.Seq.{take-nil}
-use Rattle.formats.specs.declared.Format.{Format}
+use lib.ListN.{length, take, drop, length-append, length-drop}
+use lib.Seq.{take-nil, take-length}
+use Rattle.formats.specs.Format.{Format}
 use Rattle.formats.proofs.Numbers.{numbers}
 use Rattle.lists.specs.Parts.{part, splice, spread}
 use Rattle.lists.proofs.Parts.{length-part, length-splice, splice-nil, splice-adjacent}
@@ -15,10 +15,22 @@ use Rattle.model.specs.Serve.{serve}
 use Rattle.store.specs.Runs.{runs, numbersOf, perLine}
 use Rattle.stream.specs.Stream.{commands, nextAt, endToEnd}
 use Rattle.stream.specs.declared.Next.the-variants.{Whole, Cut}
+use Rattle.stream.proofs.Place.{next-whole, next-cut, says-whole, says-cut}
 use Rattle.stream.proofs.Commands.{Walked, walked-none, walked-more}
 use Rattle.stream.proofs.Walks as walk
-use Rattle.store.specs.Ran.{judgedOf, ranOf, lined}
-use Rattle.store.specs.declared.Ran.{Ran}
+use Rattle.store.specs.Ran.{lined, RunsTo}
+
+-- What stands first in what is left of a stream stands at its place.
+back-of : (at : ℕ) (s : List ℕ) → take (length s - at) (drop at s) ≡ drop at s
+back-of at s = rw (← length-drop at s) (take-length (drop at s))
+
+pub rest-whole : (f : Format) (stream : List ℕ) (at size : ℕ) → nextAt f (take (length stream - at) (drop at stream)) 0 ≡ Whole size → nextAt f stream at ≡ Whole (at + size)
+rest-whole f stream at size e =
+    let stands = says-whole f (drop at stream) 0 size (rw (back-of at stream) at e) in
+    next-whole f stream at (stands .begins) ∙ ap (λ (n : ℕ). Whole (at + n)) (sym (stands .ends ∙ zero-add _))
+
+pub rest-cut : (f : Format) (stream : List ℕ) (at : ℕ) → nextAt f (take (length stream - at) (drop at stream)) 0 ≡ Cut → nextAt f stream at ≡ Cut
+rest-cut f stream at e = next-cut f stream at (says-cut f (drop at stream) 0 (rw (back-of at stream) at e))
 
 pub per-line : (a : Answer) → length (numbersOf a) ≡ perLine
 unfolding numbersOf
@@ -73,7 +85,7 @@ module _ {f : Format} {m : ℕ} {image₀ reply₀ stream lines₀ image reply l
       (omega (arith, s .0), s .1, omega (arith, r .room, r .long), omega (arith, s .0, r .few))
 
   pub running-more : (end : ℕ) (a : Answer) (image′ reply′ lines′ : List ℕ) → nextAt f stream at ≡ Whole end → count < m →
-      a ≡ serve f image (take (end - at) (drop at stream)) reply .answer →
+      numbersOf a ≡ numbersOf (serve f image (take (end - at) (drop at stream)) reply .answer) →
       image′ ≡ serve f image (take (end - at) (drop at stream)) reply .image →
       reply′ ≡ serve f image (take (end - at) (drop at stream)) reply .reply →
       lines′ ≡ splice (count * perLine) (numbersOf a) lines →
@@ -130,13 +142,9 @@ module _ {f : Format} {m : ℕ} {image₀ reply₀ stream lines₀ image reply l
     unfolding runs spread
     done-lines = sym (splice-nil (count * perLine) lines) ∙ rw none at (r .left-lines)
 
-    pub ended : (lent : ℕ) {K : Type 0} → m ≡ lent / perLine → K →
-        (_≡_ {A = Ran} (record { count = count; end = at }) (ranOf f stream lent))
-        × ((image ≡ runs f image₀ reply₀ (judgedOf f stream lent) .image)
-        × ((reply ≡ runs f image₀ reply₀ (judgedOf f stream lent) .reply)
-        × ((lines ≡ splice 0 (lined (runs f image₀ reply₀ (judgedOf f stream lent))) lines₀) × K)))
-    ended lent same kept =
-        (rw (← same, ← done-count, ← done-end), (rw (← same) done-image, (rw (← same) done-reply, (rw (← same) done-lines, kept))))
+    pub ended : {K : Type 0} → m ≡ length lines₀ / perLine → K → RunsTo f image₀ stream reply₀ lines₀ (record { count = count; end = at }) image reply lines × K
+    ended same kept =
+        ((rw (← same, ← done-count, ← done-end), (rw (← same) done-image, (rw (← same) done-reply, rw (← same) done-lines))), kept)
 
   -- That is so where there is no room, and where no whole command stands.
   pub full-none : m ≤ count → leftAt f m stream at count ≡ []

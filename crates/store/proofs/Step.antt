@@ -25,10 +25,10 @@ use Rattle.guard.proofs.Judge.{Accepted, accepted, accepted-raises}
 use Rattle.lists.proofs.Table.{settled-old}
 use Rattle.image.proofs.Decode.{count-decode, card-decode, view-at}
 use Rattle.store.specs.Carried.{judgedAt, carried}
+use Rattle.store.specs.Runs.{numbersOf}
 use Rattle.model.specs.Serve.{Outcome, cardOf, entryOf, textRead, stepped, storeRows, serveBy, serve}
 use Rattle.model.proofs.Formed.{formed-well}
-use Rattle.formats.specs.declared.Format.{Format}
-use Rattle.formats.specs.Format.{fixed}
+use Rattle.formats.specs.Format.{Format, fixed}
 use Rattle.image.specs.Bytes.{entryAt, countOf, roomOf}
 use Rattle.image.specs.Image.{view, Card, withCard, cardAt, encode, decode, sound}
 
@@ -41,9 +41,10 @@ pub exits : {o : Outcome} {a a' : Answer} {i i' r r' : List ℕ} → o ≡ recor
     a' ≡ a → i' ≡ i → r' ≡ r → (a' ≡ o .answer) × ((i' ≡ o .image) × (r' ≡ o .reply))
 exits h p q t = rw h (p, (q, t))
 
--- The same with what else holds at exit.
-pub and-last : {A B C D : Type 0} → A × (B × C) → D → A × (B × (C × D))
-and-last t d = (t .0, (t .1 .0, (t .1 .1, d)))
+-- The same as a contract says it.
+pub serves : {o : Outcome} {a a' : Answer} {i i' r r' : List ℕ} → o ≡ record { answer = a; image = i; reply = r } →
+    a' ≡ a → i' ≡ i → r' ≡ r → (numbersOf a' ≡ numbersOf (o .answer)) × ((i' ≡ o .image) × (r' ≡ o .reply))
+serves h p q t = rw h (ap numbersOf p, (q, t))
 
 -- The text that an accepted command reads fits the lent buffer.
 read-fits : (e : Entry) (c : Command) (room lent : ℕ) → Accepted e c room lent → readLength e c ≤ lent

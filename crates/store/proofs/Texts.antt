@@ -13,8 +13,7 @@ use Rattle.commands.specs.Command.{original, reads, readsTranslation}
 use Rattle.commands.specs.declared.Command.{Command}
 use Rattle.guard.specs.declared.Entry.{Entry}
 use Rattle.guard.specs.Replies.{readLength}
-use Rattle.formats.specs.declared.Format.{Format}
-use Rattle.formats.specs.Format.{translations}
+use Rattle.formats.specs.Format.{Format, translations}
 use Rattle.image.specs.Layout.{mostRoom, bodyPlace}
 use Rattle.image.specs.Bytes.{countOf, roomOf, readEntry, entryAt}
 use Rattle.image.specs.Image.{Card, Translation, cardAt, sound}

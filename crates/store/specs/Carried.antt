@@ -6,7 +6,7 @@ use mathlib.Core.Bool.{cond}
 use Rattle.lists.specs.Parts.{splice}
 use Rattle.commands.specs.Command.{original, writesTranslation, writes}
 use Rattle.commands.specs.declared.Command.{Command}
-use Rattle.formats.specs.declared.Format.{Format}
+use Rattle.formats.specs.Format.{Format}
 use Rattle.image.specs.Layout.{bodyPlace}
 use Rattle.image.specs.Bytes.{countOf, roomOf, pad, entryAt}
 use lib.ListN.{length}

@@ -1,15 +1,12 @@
 -- A run of a stream where so many numbers can be written: which commands it judges, how many they are, and where it stops (rules 8.2 and 8.5).
 -- Assumes nothing.
-use Prim.Native.Nat.{ℕ, _+_, _/_}
+use Prim.Native.Nat.{ℕ, _/_}
+use mathlib.Core.Path.{_≡_}
 use mathlib.Core.List.{List}
-use mathlib.Core.Bool.{Bool}
-use lib.Dec.{eqb}
 use lib.ListN.{length, take}
-use Rattle.formats.specs.declared.Format.{Format}
-use Rattle.formats.specs.Format.{fixed}
-use Rattle.lists.specs.Le.{field}
-use Rattle.lists.specs.Parts.{spread}
-use Rattle.store.specs.Runs.{Run, perLine, numbersOf}
+use Rattle.formats.specs.Format.{Format}
+use Rattle.lists.specs.Parts.{splice, spread}
+use Rattle.store.specs.Runs.{Run, runs, perLine, numbersOf}
 use Rattle.stream.specs.Stream.{commands, endToEnd}
 use Rattle.store.specs.declared.Ran.{Ran}
 
@@ -25,6 +22,10 @@ ranOf f stream lent = record { count = length (judgedOf f stream lent); end = le
 abbrev pub lined : Run → List ℕ
 lined r = spread numbersOf (r .answers)
 
--- Lent bytes are as long as one whole command says that it is, malformed or not.
-abbrev pub isOne : Format → List ℕ → Bool
-isOne f bytes = eqb (length bytes) (fixed f + field 50 2 bytes)
+-- What a run comes to (rules 8.2 to 8.5): how far it goes, and the image, the reply buffer and the lines after it.
+abbrev pub RunsTo : Format → List ℕ → List ℕ → List ℕ → List ℕ → Ran → List ℕ → List ℕ → List ℕ → Type 0
+RunsTo f image stream reply lines ran image′ reply′ lines′ =
+    (ran ≡ ranOf f stream (length lines))
+    × ((image′ ≡ runs f image reply (judgedOf f stream (length lines)) .image)
+    × ((reply′ ≡ runs f image reply (judgedOf f stream (length lines)) .reply)
+    × (lines′ ≡ splice 0 (lined (runs f image reply (judgedOf f stream (length lines)))) lines)))

@@ -1,8 +1,9 @@
 -- A run of commands over one image, and the numbers of its answers (rules 8.4 and 8.5).
 -- Assumes nothing.
 use Prim.Native.Nat.{ℕ}
+use mathlib.Core.Path.{_≡_}
 use mathlib.Core.List.{List, [], _∷_}
-use Rattle.formats.specs.declared.Format.{Format}
+use Rattle.formats.specs.Format.{Format}
 use Rattle.guard.specs.Replies.{replyFields}
 use Rattle.guard.specs.declared.Answer.{Answer}
 use Rattle.model.specs.Serve.{serve}
@@ -29,3 +30,8 @@ numbersOf a = a .number ∷ replyFields a
 
 abbrev pub perLine : ℕ
 perLine = 8
+
+-- What one request comes to, wherever it is judged (rules 4.1 to 4.8): the numbers of its answer, and the image and the reply buffer after it.
+abbrev pub ServesTo : Format → List ℕ → List ℕ → List ℕ → List ℕ → List ℕ → List ℕ → Type 0
+ServesTo f image command reply numbers image′ reply′ =
+    (numbers ≡ numbersOf (serve f image command reply .answer)) × ((image′ ≡ serve f image command reply .image) × (reply′ ≡ serve f image command reply .reply))

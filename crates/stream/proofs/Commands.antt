@@ -8,7 +8,7 @@ use mathlib.Core.Bool.{Bool, true, false, cond}
 use lib.ListN.{length, take, drop, length-drop, length-append}
 use lib.Seq.{length-take-le, drop-drop}
 use Rattle.formats.proofs.Numbers.{numbers}
-use Rattle.formats.specs.declared.Format.{Format}
+use Rattle.formats.specs.Format.{Format}
 use Rattle.lists.specs.Parts.{spread}
 use Rattle.stream.specs.Stream.{extent, whole, nextAt, commandsWithin, commands, endWithin, endOf, endToEnd}
 use Rattle.stream.specs.declared.Next.the-variants.{Whole, Cut}

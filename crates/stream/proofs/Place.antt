@@ -4,18 +4,17 @@ use native.Mathlib.Omega.{arith}
 use native.Mathlib.Nat.{add-assoc}
 use mathlib.Core.Path.{_≡_, refl, sym, ap, _∙_}
 use mathlib.Core.List.{List, _++_}
-use mathlib.Core.Bool.{Bool, true, false}
-use borrow.Author.Tests.{leb-true, le-leb}
-use lib.Dec.{leb}
+use mathlib.Core.Bool.{Bool, true, false, not}
+use borrow.Author.Tests.{leb-true, le-leb, ne-eqb, eq-eqb}
+use lib.Dec.{leb, eqb}
 use lib.ListN.{length, take, drop, length-drop}
 use Rattle.formats.proofs.Numbers.{numbers}
-use Rattle.formats.specs.declared.Format.{Format}
+use Rattle.formats.specs.Format.{Format, fixed}
 use Rattle.lists.specs.Parts.{part}
 use Rattle.lists.specs.Le.{le}
 use Rattle.lists.proofs.Parts.{part-drop, part-take, part-append-left}
 use Rattle.lists.proofs.Tests.{and-in, and-right}
-use Rattle.formats.specs.Format.{fixed}
-use Rattle.stream.specs.Stream.{extent, whole, nextAt, onward}
+use Rattle.stream.specs.Stream.{extent, whole, nextAt, onward, isWhole}
 use Rattle.stream.specs.declared.Next.{Next}
 use Rattle.stream.specs.declared.Next.the-variants.{Whole, Cut}
 
@@ -117,3 +116,13 @@ module _ (v : Format) where
             let there : to ≡ at = sym (h ∙ ap (onward at) e) ∙ same in
             absurd (omega (arith, numbers v, there, says-whole to e .ends, extent-fixed (drop at stream)))
         go Cut e = e
+
+    -- Whether it went on is whether a whole command stands there.
+    pub moved : {end : ℕ} → end ≡ onward at (nextAt v stream at) → not (eqb end at) ≡ isWhole (nextAt v stream at)
+    moved {end} h = go (nextAt v stream at) refl
+      where
+        go : (n : Next) → nextAt v stream at ≡ n → not (eqb end at) ≡ isWhole n
+        go (Whole to) e =
+            let there : end ≡ to = h ∙ ap (onward at) e in
+            rw (ne-eqb end at (λ same. omega (arith, numbers v, there, same, says-whole to e .ends, extent-fixed (drop at stream))))
+        go Cut e = rw (eq-eqb end at (h ∙ ap (onward at) e))

@@ -8,11 +8,9 @@ use mathlib.Core.Bool.{Bool, true, false}
 use lib.ListN.{length, take, drop, getD, length-drop, length-append, take-append-drop}
 use lib.Seq.{length-take-le, drop-drop, take-at, drop-at, take-suc, take-length, drop-cons}
 use Rattle.formats.proofs.Numbers.{numbers}
-use Rattle.formats.specs.declared.Format.{Format}
-use Rattle.formats.specs.declared.Format.the-variants.{V1, V2}
+use Rattle.formats.specs.Format.{Format, V1, V2, fixed}
 use Rattle.lists.specs.Parts.{part, spread}
 use Rattle.lists.proofs.Spread.{spread-append}
-use Rattle.formats.specs.Format.{fixed}
 use Rattle.stream.specs.Stream.{extent, whole, OneCommand, nextAt, commands, endOf, endToEnd, placeOf}
 use Rattle.stream.specs.declared.Next.the-variants.{Whole, Cut}
 use Rattle.stream.proofs.Place.{extent-fixed, extent-take, extent-append, whole-in, whole-out, says-whole, says-cut}

@@ -6,8 +6,7 @@ use mathlib.Core.Path.{_≡_, refl, sym, ap, _∙_}
 use mathlib.Core.List.{List}
 use lib.ListN.{length}
 use denote.Ref.{RefT, now}
-use Rattle.formats.specs.declared.Format.{Format}
-use Rattle.formats.specs.declared.Format.the-variants.{V1}
+use Rattle.formats.specs.Format.{Format, V1}
 use Rattle.lists.specs.Parts.{spread}
 use Rattle.stream.specs.Stream.{onward, commands, endOf, placeOf, begun, movedTo, passed, steps}
 use Rattle.stream_claims.specs.Claims.{Parts, Stepping, Visits, Reads, StreamClaims}

@@ -6,10 +6,8 @@ use mathlib.Core.List.{List, [], _∷_, _++_}
 use mathlib.Core.Bool.{false}
 use lib.ListN.{length, drop, getD}
 use denote.Ref.{RefT, now}
-use Rattle.formats.specs.declared.Format.{Format}
-use Rattle.formats.specs.declared.Format.the-variants.{V1}
+use Rattle.formats.specs.Format.{Format, V1, fixed}
 use Rattle.lists.specs.Parts.{part}
-use Rattle.formats.specs.Format.{fixed}
 use Rattle.stream.specs.Stream.{whole, OneCommand, nextAt, commands, endOf, endToEnd, placeOf, begun, movedTo, steps}
 use Rattle.stream.specs.declared.Next.the-variants.{Whole, Cut}
 

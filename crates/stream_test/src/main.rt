@@ -2,8 +2,8 @@
 fn main() {
     let mut bytes = [0u8; 120];
     bytes[50] = 3;
-    check::expect(stream::next_from(&bytes, 0) == 55);
-    check::expect(stream::next_from(&bytes, 55) == 107);
-    check::expect(stream::next_from(&bytes, 107) == 107);
-    check::expect(stream::end_of(&bytes) == 107);
+    check::expect(stream::next_from(formats::V1, &bytes, 0) == 55);
+    check::expect(stream::next_from(formats::V1, &bytes, 55) == 107);
+    check::expect(stream::next_from(formats::V1, &bytes, 107) == 107);
+    check::expect(stream::end_of(formats::V1, &bytes) == 107);
 }

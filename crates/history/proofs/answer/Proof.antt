@@ -2,7 +2,7 @@
 use mathlib.Core.Path.{refl, sym, _∙_}
 use borrow.Author.Needs.{needs}
 use borrow.Author.Tests.{le-ltb, lt-ltb}
-use Rattle.formats.specs.declared.Format.the-variants.{V1}
+use Rattle.formats.specs.Format.{V1}
 use Rattle.history.proofs.Requests.{exits, serves-malformed, serves-no-card, serves-found}
 use Rattle.commands.proofs.Parsing.{is-malformed, is-formed}
 use Rattle.history.proofs.answer.Statement.{statement}

@@ -5,7 +5,7 @@ ghost use mathlib.Core.List.{reverse};
 ghost use Prim.Native.Nat.{_+_, _-_, _≤_, _<_};
 ghost use lib.Dec.{eqb};
 ghost use lib.ListN.{length};
-ghost use Rattle.formats.specs.declared.Format.the-variants.{V1};
+ghost use Rattle.formats.specs.Format.{V1};
 ghost use Rattle.lists.specs.Parts.{part};
 ghost use Rattle.guard.specs.Judge.{raise, lastEdition};
 ghost use Rattle.guard.specs.Entry.{noEntry};
@@ -17,7 +17,6 @@ use crate::Span;
 use crate::Totals;
 use commands::Command;
 use formats::FIXED_V1 as FIXED;
-use formats::Format;
 use guard::Entry;
 use stamps::Mark;
 use stamps::Pair;
@@ -31,7 +30,7 @@ pub fn totals_of(kept: &[u8]) -> Totals
     let mut count = 0;
     let mut payloads = 0;
     loop {
-        let Next::Whole(end) = stream::next_at(kept, at) else {
+        let Next::Whole(end) = stream::next_at(formats::V1, kept, at) else {
             break Totals {
                 count,
                 payloads,
@@ -80,10 +79,10 @@ pub fn entry_of(kept: &[u8], card: u16) -> Entry
     let mut at = 0;
     let mut e = no_entry();
     loop {
-        let Next::Whole(end) = stream::next_at(kept, at) else {
+        let Next::Whole(end) = stream::next_at(formats::V1, kept, at) else {
             break e;
         };
-        let c = commands::inner::fields(Format::V1, &kept[at..end]);
+        let c = commands::inner::fields(formats::V1, &kept[at..end]);
         e = taken(e, c, card);
         at = end;
     }
@@ -107,10 +106,10 @@ pub fn text_of(kept: &[u8], card: u16, act: u8) -> Span
     let mut at = 0;
     let mut found = Span { start: 0, end: 0 };
     loop {
-        let Next::Whole(end) = stream::next_at(kept, at) else {
+        let Next::Whole(end) = stream::next_at(formats::V1, kept, at) else {
             break found;
         };
-        let c = commands::inner::fields(Format::V1, &kept[at..end]);
+        let c = commands::inner::fields(formats::V1, &kept[at..end]);
         let here = Span {
             start: at + FIXED,
             end,

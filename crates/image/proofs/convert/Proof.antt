@@ -5,7 +5,7 @@ use mathlib.Core.Path.{_≡_, refl, sym, ap, _∙_}
 use borrow.Author.Tests.{not-true, not-false}
 use lib.ListN.{length}
 use Rattle.lists.proofs.Tests.{to-T}
-use Rattle.formats.specs.declared.Format.the-variants.{V2}
+use Rattle.formats.specs.Format.{V2}
 use Rattle.image.specs.Bytes.{countOf}
 use Rattle.image.specs.Image.{encode, sound}
 use Rattle.image.specs.Convert.{widenedUpTo}
@@ -33,24 +33,24 @@ count-requires c κs = sound-header (c .before .before .before .before .args .im
 room-requires : tie.Need-room-requires Inv-loop μ-loop
 room-requires c κs = sound-header (c .before .before .before .before .before .args .image .now) (sym (c .before .before .sound .ensures) ∙ not-false _ (c .before .if1 .left))
 
-cast-make-as : tie.Need-cast-make-as Inv-loop μ-loop
-cast-make-as c = search needs
+cast-make : tie.Need-cast-make Inv-loop μ-loop
+cast-make c = search needs
 
-cast-make-as-2 : tie.Need-cast-make-as-2 Inv-loop μ-loop
-cast-make-as-2 c = search needs
+cast-make-2 : tie.Need-cast-make-2 Inv-loop μ-loop
+cast-make-2 c = search needs
 
-make-as-requires : tie.Need-make-as-requires Inv-loop μ-loop
-make-as-requires c κs = search needs
+make-requires : tie.Need-make-requires Inv-loop μ-loop
+make-requires c κs = search needs
 
 same-length : tie.Need-same-length Inv-loop μ-loop
 same-length c = search needs
 
 returns-2 : tie.Need-returns-2 Inv-loop μ-loop
-returns-2 c = let refused = not-made (c .before .before .before .before .before .before .before .before .before .before .before .args .image .now) (c .before .before .before .before .before .before .before .before .before .before .before .args .target .now) (c .before .before .before .make-as .last .1 .0) (c .before .before .before .before .before .before .count .ensures) (c .before .before .before .before .before .room .ensures) (c .before .before .before .make-as .ensures .0) (c .before .before .before .make-as .ensures .1) (sym (c .before .before .before .before .before .before .before .before .sound .ensures) ∙ not-false _ (c .before .before .before .before .before .before .before .if1 .left)) (c .if2 .taken) in
-    (rw refused, rw refused (as-it-was (c .before .before .before .before .before .before .before .before .before .before .before .args .image .now) (c .before .before .before .before .before .before .before .before .before .before .before .args .target .now) (c .before .before .before .make-as .last .1 .0) (c .before .before .before .before .before .before .count .ensures) (c .before .before .before .before .before .room .ensures) (c .before .before .before .make-as .ensures .0) (c .before .before .before .make-as .ensures .1) (c .if2 .taken)))
+returns-2 c = let refused = not-made (c .before .before .before .before .before .before .before .before .before .before .before .args .image .now) (c .before .before .before .before .before .before .before .before .before .before .before .args .target .now) (c .before .before .before .make .last .1 .0) (c .before .before .before .before .before .before .count .ensures) (c .before .before .before .before .before .room .ensures) (c .before .before .before .make .ensures .0) (c .before .before .before .make .ensures .1) (sym (c .before .before .before .before .before .before .before .before .sound .ensures) ∙ not-false _ (c .before .before .before .before .before .before .before .if1 .left)) (c .if2 .taken) in
+    (rw refused, rw refused (as-it-was (c .before .before .before .before .before .before .before .before .before .before .before .args .image .now) (c .before .before .before .before .before .before .before .before .before .before .before .args .target .now) (c .before .before .before .make .last .1 .0) (c .before .before .before .before .before .before .count .ensures) (c .before .before .before .before .before .room .ensures) (c .before .before .before .make .ensures .0) (c .before .before .before .make .ensures .1) (c .if2 .taken)))
 
 loop-holds : tie.Need-loop-holds Inv-loop μ-loop
-loop-holds c = (omega arith, refl, begins (c .before .before .before .before .before .before .before .before .before .before .before .args .image .now) (c .before .before .before .before .before .before .before .before .before .before .before .args .target .now) (c .before .before .before .make-as .last .1 .0) (c .before .before .before .before .before .before .count .ensures) (c .before .before .before .before .before .room .ensures) (c .before .before .before .make-as .ensures .0) (c .before .before .before .make-as .ensures .1) (c .if2 .left))
+loop-holds c = (omega arith, refl, begins (c .before .before .before .before .before .before .before .before .before .before .before .args .image .now) (c .before .before .before .before .before .before .before .before .before .before .before .args .target .now) (c .before .before .before .make .last .1 .0) (c .before .before .before .before .before .before .count .ensures) (c .before .before .before .before .before .room .ensures) (c .before .before .before .make .ensures .0) (c .before .before .before .make .ensures .1) (c .if2 .left))
 
 widen-requires : tie.Need-widen-requires Inv-loop μ-loop
 widen-requires c κs = (to-T (sym (c .before .before .before .before .before .before .before .before .before .before .before .sound .ensures) ∙ not-false _ (c .before .before .before .before .before .before .before .before .before .before .if1 .left)), omega (arith, c .before .before .before .before .before .before .before .before .before .count .ensures), c .before .before .loop .inv .2)
@@ -68,7 +68,7 @@ same-length-2 : tie.Need-same-length-2 Inv-loop μ-loop
 same-length-2 c = omega arith
 
 returns-3 : tie.Need-returns-3 Inv-loop μ-loop
-returns-3 c = let accepted = converts (c .before .before .before .before .before .before .before .before .before .before .before .before .before .args .image .now) (c .before .before .before .before .before .before .before .before .before .before .before .before .before .args .target .now) (c .before .before .before .before .before .make-as .last .1 .0) (c .before .before .before .before .before .before .before .before .count .ensures) (c .before .before .before .before .before .before .before .room .ensures) (c .before .before .before .before .before .make-as .ensures .0) (c .before .before .before .before .before .make-as .ensures .1) (sym (c .before .before .before .before .before .before .before .before .before .before .sound .ensures) ∙ not-false _ (c .before .before .before .before .before .before .before .before .before .if1 .left)) (c .before .before .if2 .left) in
+returns-3 c = let accepted = converts (c .before .before .before .before .before .before .before .before .before .before .before .before .before .args .image .now) (c .before .before .before .before .before .before .before .before .before .before .before .before .before .args .target .now) (c .before .before .before .before .before .make .last .1 .0) (c .before .before .before .before .before .before .before .before .count .ensures) (c .before .before .before .before .before .before .before .room .ensures) (c .before .before .before .before .before .make .ensures .0) (c .before .before .before .before .before .make .ensures .1) (sym (c .before .before .before .before .before .before .before .before .before .before .sound .ensures) ∙ not-false _ (c .before .before .before .before .before .before .before .before .before .if1 .left)) (c .before .before .if2 .left) in
     let last : c .before .loop .k ≡ countOf (c .before .before .before .before .before .before .before .before .before .before .before .before .before .args .image .now) = omega (arith, c .before .before .before .before .before .before .before .before .count .ensures) in
     (rw accepted, rw accepted (c .before .loop .inv .2 ∙ ap (λ (k : ℕ). encode V2 (widenedUpTo k (c .before .before .before .before .before .before .before .before .before .before .before .before .before .args .image .now))) last ∙ all-widened (c .before .before .before .before .before .before .before .before .before .before .before .before .before .args .image .now)))
 
@@ -82,9 +82,9 @@ convert-spec =
     returns
     count-requires
     room-requires
-    cast-make-as
-    cast-make-as-2
-    make-as-requires
+    cast-make
+    cast-make-2
+    make-requires
     same-length
     returns-2
     loop-holds

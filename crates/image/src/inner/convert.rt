@@ -4,14 +4,13 @@ ghost use Prim.Native.Nat.{suc, _+_, _≤_, _<_};
 ghost use lib.Dec.{T};
 ghost use lib.ListN.{length};
 ghost use Rattle.lists.specs.Parts.{part, splice};
-ghost use Rattle.formats.specs.declared.Format.the-variants.{V1, V2};
+ghost use Rattle.formats.specs.Format.{V1, V2};
 ghost use Rattle.image.specs.Bytes.{countOf};
 ghost use Rattle.image.specs.Image.{sound, encode};
 ghost use Rattle.image.specs.Convert.{widenedUpTo};
 use crate::inner::layout;
 use crate::inner::read;
 use crate::inner::write;
-use formats::Format;
 
 // Copies the `count` bytes at `from` to `to` of another image.
 fn copy(image: &[u8], from: usize, count: usize, target: &mut [u8], to: usize)
@@ -28,10 +27,10 @@ pub fn widen(image: &[u8], target: &mut [u8], k: u16)
 {
     let n = read::count(image);
     let c = read::room(image);
-    let from = layout::body_place(Format::V1, n, c, k, 0);
-    let to = layout::body_place(Format::V2, n, c, k, 0);
-    let both = layout::sides(Format::V1) * (c as usize);
-    let e = read::entry_at(Format::V1, image, k, 0);
+    let from = layout::body_place(formats::V1, n, c, k, 0);
+    let to = layout::body_place(formats::V2, n, c, k, 0);
+    let both = layout::sides(formats::V1) * (c as usize);
+    let e = read::entry_at(formats::V1, image, k, 0);
     copy(image, from, both, target, to);
-    write::store_entry(Format::V2, target, k, 0, e);
+    write::store_entry(formats::V2, target, k, 0, e);
 }

@@ -3,13 +3,13 @@ ghost use mathlib.Core.Path.{_≡_};
 ghost use Prim.Native.Nat.{_+_, _*_, _≤_, _<_};
 ghost use lib.ListN.{length};
 ghost use Rattle.lists.specs.Parts.{part, splice};
-ghost use Rattle.formats.specs.Format.{translations, entrySize, originalAt, fromsAt, lengthsAt};
+ghost use Rattle.formats.specs.Format.{formatOf, translations, entrySize, originalAt, fromsAt, lengthsAt};
 ghost use Rattle.image.specs.Layout.{entryPlace, mostRoom};
 ghost use Rattle.image.specs.Bytes.{countOf, roomOf, readEntry, entryAt};
 use crate::inner::layout;
 use crate::inner::layout::CARDS_AT;
 use crate::inner::layout::ROOM_AT;
-use formats::Format;
+use formats::Version;
 use guard::Entry;
 use slices::inner::fixed_width as le;
 use stamps::Mark;
@@ -32,10 +32,10 @@ pub fn room(image: &[u8]) -> u16
 }
 
 // The entry that an entry's bytes stand for, as seen in translation t.
-fn entry_of(f: Format, bytes: &[u8], t: u8) -> Entry
-    requires { ⌜ (26 ≤ length (now bytes)) × (originalAt f + 2 ≤ length (now bytes))
-        × (fromsAt f + 2 * t + 2 ≤ length (now bytes)) × (lengthsAt f + 2 * t + 2 ≤ length (now bytes)) ⌝ }
-    ensures { λ r. ⌜ r ≡ readEntry f t (now (bytes .entry)) ⌝ }
+fn entry_of(v: Version, bytes: &[u8], t: u8) -> Entry
+    requires { ⌜ (26 ≤ length (now bytes)) × (originalAt (formatOf v) + 2 ≤ length (now bytes))
+        × (fromsAt (formatOf v) + 2 * t + 2 ≤ length (now bytes)) × (lengthsAt (formatOf v) + 2 * t + 2 ≤ length (now bytes)) ⌝ }
+    ensures { λ r. ⌜ r ≡ readEntry (formatOf v) t (now (bytes .entry)) ⌝ }
 {
     Entry {
         pair: Pair {
@@ -47,37 +47,37 @@ fn entry_of(f: Format, bytes: &[u8], t: u8) -> Entry
             transaction: le::read_u32(bytes, 20),
         },
         edition: le::read_u16(bytes, 24),
-        from: le::read_u16(bytes, layout::from_place(f, t)),
-        original: le::read_u16(bytes, formats::inner::original_at(f)),
-        translation: le::read_u16(bytes, layout::length_place(f, t)),
+        from: le::read_u16(bytes, layout::from_place(v, t)),
+        original: le::read_u16(bytes, formats::inner::original_at(v)),
+        translation: le::read_u16(bytes, layout::length_place(v, t)),
     }
 }
 
 // The entry of card k, as seen in translation t.
-pub fn entry_at(f: Format, image: &[u8], k: u16, t: u8) -> Entry
-    requires { ⌜ (entryPlace f k + entrySize f ≤ length (now image)) × (t < translations f) ⌝ }
-    ensures { λ r. ⌜ r ≡ entryAt f (now (image .entry)) k t ⌝ }
+pub fn entry_at(v: Version, image: &[u8], k: u16, t: u8) -> Entry
+    requires { ⌜ (entryPlace (formatOf v) k + entrySize (formatOf v) ≤ length (now image)) × (t < translations (formatOf v)) ⌝ }
+    ensures { λ r. ⌜ r ≡ entryAt (formatOf v) (now (image .entry)) k t ⌝ }
 {
-    let at = layout::entry_place(f, k);
-    let end = at + formats::inner::entry_size(f);
-    entry_of(f, &image[at..end], t)
+    let at = layout::entry_place(v, k);
+    let end = at + formats::inner::entry_size(v);
+    entry_of(v, &image[at..end], t)
 }
 
 // The edition that translation t of card k was made from, and that translation's length, each read by itself.
-pub fn from_at(f: Format, image: &[u8], k: u16, t: u8) -> u16
-    requires { ⌜ (entryPlace f k + entrySize f ≤ length (now image)) × (t < translations f) ⌝ }
-    ensures { λ r. ⌜ r ≡ entryAt f (now (image .entry)) k t .from ⌝ }
+pub fn from_at(v: Version, image: &[u8], k: u16, t: u8) -> u16
+    requires { ⌜ (entryPlace (formatOf v) k + entrySize (formatOf v) ≤ length (now image)) × (t < translations (formatOf v)) ⌝ }
+    ensures { λ r. ⌜ r ≡ entryAt (formatOf v) (now (image .entry)) k t .from ⌝ }
 {
-    let at = layout::entry_place(f, k);
-    le::read_u16(image, at + layout::from_place(f, t))
+    let at = layout::entry_place(v, k);
+    le::read_u16(image, at + layout::from_place(v, t))
 }
 
-pub fn length_at(f: Format, image: &[u8], k: u16, t: u8) -> u16
-    requires { ⌜ (entryPlace f k + entrySize f ≤ length (now image)) × (t < translations f) ⌝ }
-    ensures { λ r. ⌜ r ≡ entryAt f (now (image .entry)) k t .translation ⌝ }
+pub fn length_at(v: Version, image: &[u8], k: u16, t: u8) -> u16
+    requires { ⌜ (entryPlace (formatOf v) k + entrySize (formatOf v) ≤ length (now image)) × (t < translations (formatOf v)) ⌝ }
+    ensures { λ r. ⌜ r ≡ entryAt (formatOf v) (now (image .entry)) k t .translation ⌝ }
 {
-    let at = layout::entry_place(f, k);
-    le::read_u16(image, at + layout::length_place(f, t))
+    let at = layout::entry_place(v, k);
+    le::read_u16(image, at + layout::length_place(v, t))
 }
 
 // Reads the `count` bytes at `at` into the first bytes of a reply buffer.

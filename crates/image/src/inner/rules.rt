@@ -6,7 +6,7 @@ ghost use lib.ListN.{length};
 ghost use Rattle.lists.specs.Parts.{part, zeros, every};
 ghost use Rattle.lists.specs.Le.{field};
 ghost use Rattle.guard.specs.Entry.{entrySound};
-ghost use Rattle.formats.specs.Format.{translations, entrySize};
+ghost use Rattle.formats.specs.Format.{formatOf, translations, entrySize};
 ghost use Rattle.image.specs.Bytes.{countOf, roomOf, entryAt};
 ghost use Rattle.image.specs.Layout.{sizeOf, entryPlace, entryEnd};
 ghost use Rattle.image.specs.Image.{headerSound, translationSound, cardSound};
@@ -16,7 +16,7 @@ use crate::inner::layout::MAGIC;
 use crate::inner::layout::VERSION_AT;
 use crate::inner::layout::ZEROS_AT;
 use crate::inner::read;
-use formats::Format;
+use formats::Version;
 use guard::Entry;
 use slices::inner::fixed_width as le;
 
@@ -64,65 +64,65 @@ fn tail_zero(image: &[u8], at: usize, count: u16, room: u16) -> bool
 }
 
 // Whether the header keeps the rules of a version.
-pub fn header_sound(f: Format, image: &[u8]) -> bool
+pub fn header_sound(v: Version, image: &[u8]) -> bool
     requires { ⌜ 16 ≤ length (now image) ⌝ }
-    ensures { λ r. ⌜ r ≡ headerSound f (now (image .entry)) ⌝ }
+    ensures { λ r. ⌜ r ≡ headerSound (formatOf v) (now (image .entry)) ⌝ }
 {
     let n = read::count(image);
     let c = read::room(image);
     (le::read_u32(image, 0) == MAGIC)
-        & (le::read_u16(image, VERSION_AT) == formats::inner::version(f))
-        & layout::shape_ok(f, n as usize, c as usize)
+        & (le::read_u16(image, VERSION_AT) == formats::inner::version(v))
+        & layout::shape_ok(v, n as usize, c as usize)
         & slices::all_zero(&image[ZEROS_AT..HEADER])
-        & (image.len() == layout::size_of(f, n, c))
+        & (image.len() == layout::size_of(v, n, c))
 }
 
 // Whether the field between the numbers of card k's mark is zero.
-fn field_zero(f: Format, image: &[u8], k: u16) -> bool
-    requires { ⌜ entryPlace f k + entrySize f ≤ length (now image) ⌝ }
-    ensures { λ r. ⌜ r ≡ eqb (field (entryPlace f k + 18) 2 (now (image .entry))) 0 ⌝ }
+fn field_zero(v: Version, image: &[u8], k: u16) -> bool
+    requires { ⌜ entryPlace (formatOf v) k + entrySize (formatOf v) ≤ length (now image) ⌝ }
+    ensures { λ r. ⌜ r ≡ eqb (field (entryPlace (formatOf v) k + 18) 2 (now (image .entry))) 0 ⌝ }
 {
-    let at = layout::entry_place(f, k);
+    let at = layout::entry_place(v, k);
     le::read_u16(image, at + 18) == 0
 }
 
 // Whether what stands behind the numbers of card k's entry is zero.
-fn blank_zero(f: Format, image: &[u8], k: u16) -> bool
-    requires { ⌜ entryPlace f k + entrySize f ≤ length (now image) ⌝ }
-    ensures { λ r. ⌜ r ≡ zeros (part (entryPlace f k + entryEnd f) (entrySize f - entryEnd f) (now (image .entry))) ⌝ }
+fn blank_zero(v: Version, image: &[u8], k: u16) -> bool
+    requires { ⌜ entryPlace (formatOf v) k + entrySize (formatOf v) ≤ length (now image) ⌝ }
+    ensures { λ r. ⌜ r ≡ zeros (part (entryPlace (formatOf v) k + entryEnd (formatOf v)) (entrySize (formatOf v) - entryEnd (formatOf v)) (now (image .entry))) ⌝ }
 {
-    let at = layout::entry_place(f, k);
-    let start = at + layout::entry_end(f);
-    let end = at + formats::inner::entry_size(f);
+    let at = layout::entry_place(v, k);
+    let start = at + layout::entry_end(v);
+    let end = at + formats::inner::entry_size(v);
     slices::all_zero(&image[start..end])
 }
 
 // Whether the entry of card k keeps the rules as seen in translation t, and that translation's body too; seen in the first, the entry keeps them.
-fn translation_sound(f: Format, image: &[u8], k: u16, t: u8, edition: u16) -> bool
-    requires { ⌜ (length (now image) ≡ sizeOf f (countOf (now image)) (roomOf (now image))) × (k < countOf (now image)) × (t < translations f)
-        × (edition ≡ entryAt f (now image) k 0 .edition) × T (entrySound (roomOf (now image)) (entryAt f (now image) k 0)) ⌝ }
-    ensures { λ r. ⌜ r ≡ translationSound f (now (image .entry)) k t ⌝ }
+fn translation_sound(v: Version, image: &[u8], k: u16, t: u8, edition: u16) -> bool
+    requires { ⌜ (length (now image) ≡ sizeOf (formatOf v) (countOf (now image)) (roomOf (now image))) × (k < countOf (now image)) × (t < translations (formatOf v))
+        × (edition ≡ entryAt (formatOf v) (now image) k 0 .edition) × T (entrySound (roomOf (now image)) (entryAt (formatOf v) (now image) k 0)) ⌝ }
+    ensures { λ r. ⌜ r ≡ translationSound (formatOf v) (now (image .entry)) k t ⌝ }
 {
     let n = read::count(image);
     let c = read::room(image);
-    let from = read::from_at(f, image, k, t);
-    let count = read::length_at(f, image, k, t);
+    let from = read::from_at(v, image, k, t);
+    let count = read::length_at(v, image, k, t);
     if !text_sound(edition, from, count, c) {
         return false;
     }
-    tail_zero(image, layout::body_place(f, n, c, k, t + 1), count, c)
+    tail_zero(image, layout::body_place(v, n, c, k, t + 1), count, c)
 }
 
 // Whether card k keeps the rules in every translation; seen in the first, its entry keeps them.
-fn translations_sound(f: Format, image: &[u8], k: u16, edition: u16) -> bool
-    requires { ⌜ (length (now image) ≡ sizeOf f (countOf (now image)) (roomOf (now image))) × (k < countOf (now image))
-        × (edition ≡ entryAt f (now image) k 0 .edition) × T (entrySound (roomOf (now image)) (entryAt f (now image) k 0)) ⌝ }
-    ensures { λ r. ⌜ r ≡ every (translationSound f (now (image .entry)) k) (translations f) ⌝ }
+fn translations_sound(v: Version, image: &[u8], k: u16, edition: u16) -> bool
+    requires { ⌜ (length (now image) ≡ sizeOf (formatOf v) (countOf (now image)) (roomOf (now image))) × (k < countOf (now image))
+        × (edition ≡ entryAt (formatOf v) (now image) k 0 .edition) × T (entrySound (roomOf (now image)) (entryAt (formatOf v) (now image) k 0)) ⌝ }
+    ensures { λ r. ⌜ r ≡ every (translationSound (formatOf v) (now (image .entry)) k) (translations (formatOf v)) ⌝ }
 {
-    let count = formats::inner::translations(f);
+    let count = formats::inner::translations(v);
     let mut t: u8 = 0;
     while t < count {
-        if !translation_sound(f, image, k, t, edition) {
+        if !translation_sound(v, image, k, t, edition) {
             return false;
         }
         t += 1;
@@ -131,24 +131,24 @@ fn translations_sound(f: Format, image: &[u8], k: u16, edition: u16) -> bool
 }
 
 // Whether card k keeps the rules. What does not go by the translation is read and tested once.
-pub fn card_sound(f: Format, image: &[u8], k: u16) -> bool
-    requires { ⌜ (length (now image) ≡ sizeOf f (countOf (now image)) (roomOf (now image))) × (k < countOf (now image)) ⌝ }
-    ensures { λ r. ⌜ r ≡ cardSound f (now (image .entry)) k ⌝ }
+pub fn card_sound(v: Version, image: &[u8], k: u16) -> bool
+    requires { ⌜ (length (now image) ≡ sizeOf (formatOf v) (countOf (now image)) (roomOf (now image))) × (k < countOf (now image)) ⌝ }
+    ensures { λ r. ⌜ r ≡ cardSound (formatOf v) (now (image .entry)) k ⌝ }
 {
     let n = read::count(image);
     let c = read::room(image);
-    let e = read::entry_at(f, image, k, 0);
+    let e = read::entry_at(v, image, k, 0);
     if !entry_sound(e, c) {
         return false;
     }
-    if !field_zero(f, image, k) {
+    if !field_zero(v, image, k) {
         return false;
     }
-    if !blank_zero(f, image, k) {
+    if !blank_zero(v, image, k) {
         return false;
     }
-    if !tail_zero(image, layout::body_place(f, n, c, k, 0), e.original, c) {
+    if !tail_zero(image, layout::body_place(v, n, c, k, 0), e.original, c) {
         return false;
     }
-    translations_sound(f, image, k, e.edition)
+    translations_sound(v, image, k, e.edition)
 }

@@ -3,13 +3,13 @@ ghost use mathlib.Core.Path.{_≡_};
 ghost use Prim.Native.Nat.{_+_, _*_, _≤_, _<_};
 ghost use lib.ListN.{length};
 ghost use Rattle.lists.specs.Parts.{splice};
-ghost use Rattle.formats.specs.Format.{translations, entrySize, originalAt, fromsAt, lengthsAt};
+ghost use Rattle.formats.specs.Format.{formatOf, translations, entrySize, originalAt, fromsAt, lengthsAt};
 ghost use Rattle.image.specs.Layout.{entryPlace, mostRoom};
 ghost use Rattle.commands.specs.Bytes.{pairBytes};
 ghost use Rattle.image.specs.Bytes.{entryMark};
 ghost use Rattle.image.specs.Write.{countsWith, entryWith, overOld};
 use crate::inner::layout;
-use formats::Format;
+use formats::Version;
 use guard::Entry;
 use slices::inner::fixed_width as le;
 use stamps::Mark;
@@ -35,14 +35,14 @@ fn write_mark(image: &mut [u8], at: usize, mark: Mark)
 }
 
 // Writes the counts and lengths of the entry at `at`, as seen in translation t.
-fn write_counts(f: Format, image: &mut [u8], at: usize, t: u8, e: Entry)
-    requires { ⌜ (at + 26 ≤ length (now image)) × (at + originalAt f + 2 ≤ length (now image))
-        × (at + (fromsAt f + 2 * t) + 2 ≤ length (now image)) × (at + (lengthsAt f + 2 * t) + 2 ≤ length (now image)) ⌝ }
-    ensures { λ _. ⌜ now (image .exit) ≡ countsWith f t e at (now (image .entry)) ⌝ }
+fn write_counts(v: Version, image: &mut [u8], at: usize, t: u8, e: Entry)
+    requires { ⌜ (at + 26 ≤ length (now image)) × (at + originalAt (formatOf v) + 2 ≤ length (now image))
+        × (at + (fromsAt (formatOf v) + 2 * t) + 2 ≤ length (now image)) × (at + (lengthsAt (formatOf v) + 2 * t) + 2 ≤ length (now image)) ⌝ }
+    ensures { λ _. ⌜ now (image .exit) ≡ countsWith (formatOf v) t e at (now (image .entry)) ⌝ }
 {
-    let original = formats::inner::original_at(f);
-    let from = layout::from_place(f, t);
-    let length = layout::length_place(f, t);
+    let original = formats::inner::original_at(v);
+    let from = layout::from_place(v, t);
+    let length = layout::length_place(v, t);
     le::write_u16(image, at + 24, e.edition);
     le::write_u16(image, at + original, e.original);
     le::write_u16(image, at + from, e.from);
@@ -50,14 +50,14 @@ fn write_counts(f: Format, image: &mut [u8], at: usize, t: u8, e: Entry)
 }
 
 // Writes the entry of card k, as seen in translation t.
-pub fn store_entry(f: Format, image: &mut [u8], k: u16, t: u8, e: Entry)
-    requires { ⌜ (entryPlace f k + entrySize f ≤ length (now image)) × (t < translations f) ⌝ }
-    ensures { λ _. ⌜ now (image .exit) ≡ entryWith f t e (entryPlace f k) (now (image .entry)) ⌝ }
+pub fn store_entry(v: Version, image: &mut [u8], k: u16, t: u8, e: Entry)
+    requires { ⌜ (entryPlace (formatOf v) k + entrySize (formatOf v) ≤ length (now image)) × (t < translations (formatOf v)) ⌝ }
+    ensures { λ _. ⌜ now (image .exit) ≡ entryWith (formatOf v) t e (entryPlace (formatOf v) k) (now (image .entry)) ⌝ }
 {
-    let at = layout::entry_place(f, k);
+    let at = layout::entry_place(v, k);
     write_pair(image, at, e.pair);
     write_mark(image, at + 16, e.mark);
-    write_counts(f, image, at, t, e);
+    write_counts(v, image, at, t, e);
 }
 
 // Writes a text at `at`, and makes zero what is left there of an old text of this length.

@@ -6,18 +6,13 @@ ghost use Rattle.lists.specs.Parts.{splice};
 ghost use Rattle.formats.specs.Format.{formatOf};
 ghost use Rattle.guard.specs.Replies.{replyFields};
 ghost use Rattle.image.specs.Image.{sound};
-ghost use Rattle.model.specs.Serve.{serve};
-ghost use Rattle.store.specs.Runs.{runs, numbersOf, perLine};
-ghost use Rattle.store.specs.Ran.{judgedOf, ranOf, lined, isOne};
+ghost use Rattle.store.specs.Runs.{numbersOf, perLine, ServesTo};
+ghost use Rattle.store.specs.Ran.{RunsTo};
 use crate::Ran;
 use crate::inner::step;
-use commands::LENGTH;
-use formats::Format;
-use formats::inner::format_of;
+use formats::Version;
 use guard::Answer;
 use guard::UNSOUND;
-use image::inner::checks::sound_of;
-use slices::inner::fixed_width::read_u16;
 use stamps::MALFORMED;
 use stream::Next;
 
@@ -73,19 +68,16 @@ fn put_line(lines: &mut [u64], at: usize, a: Answer)
 
 // Judges the whole commands of a stream in their order, on an image that has been checked, as long as there is room for the numbers of their answers.
 pub fn many(
-    f: Format,
+    v: Version,
     image: &mut [u8],
     stream: &[u8],
     reply: &mut [u8],
     checked: bool,
     lines: &mut [u64],
 ) -> Ran
-    requires { ⌜ checked ≡ sound f (now image) ⌝ }
-    ensures ran { λ r. ⌜ r ≡ ranOf f (now (stream .entry)) (length (now (lines .entry))) ⌝ }
-    ensures image { λ _. ⌜ now (image .exit) ≡ runs f (now (image .entry)) (now (reply .entry)) (judgedOf f (now (stream .entry)) (length (now (lines .entry)))) .image ⌝ }
-    ensures reply { λ _. ⌜ now (reply .exit) ≡ runs f (now (image .entry)) (now (reply .entry)) (judgedOf f (now (stream .entry)) (length (now (lines .entry)))) .reply ⌝ }
-    ensures lines { λ _. ⌜ now (lines .exit) ≡ splice 0 (lined (runs f (now (image .entry)) (now (reply .entry)) (judgedOf f (now (stream .entry)) (length (now (lines .entry)))))) (now (lines .entry)) ⌝ }
-    ensures kept { λ _. ⌜ checked ≡ sound f (now (image .exit)) ⌝ }
+    requires { ⌜ checked ≡ sound (formatOf v) (now image) ⌝ }
+    ensures ran { λ r. ⌜ RunsTo (formatOf v) (now (image .entry)) (now (stream .entry)) (now (reply .entry)) (now (lines .entry)) r (now (image .exit)) (now (reply .exit)) (now (lines .exit)) ⌝ }
+    ensures kept { λ _. ⌜ checked ≡ sound (formatOf v) (now (image .exit)) ⌝ }
 {
     let room = lines.len() / PER_LINE;
     let mut at = 0;
@@ -94,118 +86,41 @@ pub fn many(
         if room <= count {
             break Ran { count, end: at };
         }
-        let Next::Whole(end) = stream::next_at_as(f, stream, at) else {
+        let Next::Whole(size) = stream::next_at(v, &stream[at..], 0) else {
             break Ran { count, end: at };
         };
-        let answer = step::judge(f, image, &stream[at..end], reply, checked);
+        let end = at + size;
+        let answer = step::judge(v, image, &stream[at..end], reply, checked);
         put_line(lines, count * PER_LINE, answer);
         count += 1;
         at = end;
     }
 }
 
-// The same, with the version as a plain value.
-fn many_of(
-    second: bool,
-    image: &mut [u8],
-    stream: &[u8],
-    reply: &mut [u8],
-    checked: bool,
-    lines: &mut [u64],
-) -> Ran
-    requires { ⌜ checked ≡ sound (formatOf second) (now image) ⌝ }
-    ensures ran { λ r. ⌜ r ≡ ranOf (formatOf second) (now (stream .entry)) (length (now (lines .entry))) ⌝ }
-    ensures image { λ _. ⌜ now (image .exit) ≡ runs (formatOf second) (now (image .entry)) (now (reply .entry)) (judgedOf (formatOf second) (now (stream .entry)) (length (now (lines .entry)))) .image ⌝ }
-    ensures reply { λ _. ⌜ now (reply .exit) ≡ runs (formatOf second) (now (image .entry)) (now (reply .entry)) (judgedOf (formatOf second) (now (stream .entry)) (length (now (lines .entry)))) .reply ⌝ }
-    ensures lines { λ _. ⌜ now (lines .exit) ≡ splice 0 (lined (runs (formatOf second) (now (image .entry)) (now (reply .entry)) (judgedOf (formatOf second) (now (stream .entry)) (length (now (lines .entry)))))) (now (lines .entry)) ⌝ }
-    ensures kept { λ _. ⌜ checked ≡ sound (formatOf second) (now (image .exit)) ⌝ }
-{
-    many(format_of(second), image, stream, reply, checked, lines)
-}
-
-// A run with the image checked first.
-pub fn run_of(
-    second: bool,
-    image: &mut [u8],
-    stream: &[u8],
-    reply: &mut [u8],
-    lines: &mut [u64],
-) -> Ran
-    ensures ran { λ r. ⌜ r ≡ ranOf (formatOf second) (now (stream .entry)) (length (now (lines .entry))) ⌝ }
-    ensures image { λ _. ⌜ now (image .exit) ≡ runs (formatOf second) (now (image .entry)) (now (reply .entry)) (judgedOf (formatOf second) (now (stream .entry)) (length (now (lines .entry)))) .image ⌝ }
-    ensures reply { λ _. ⌜ now (reply .exit) ≡ runs (formatOf second) (now (image .entry)) (now (reply .entry)) (judgedOf (formatOf second) (now (stream .entry)) (length (now (lines .entry)))) .reply ⌝ }
-    ensures lines { λ _. ⌜ now (lines .exit) ≡ splice 0 (lined (runs (formatOf second) (now (image .entry)) (now (reply .entry)) (judgedOf (formatOf second) (now (stream .entry)) (length (now (lines .entry)))))) (now (lines .entry)) ⌝ }
-{
-    let checked = sound_of(second, image);
-    many_of(second, image, stream, reply, checked, lines)
-}
-
 // ---- One request.
 
-// Whether lent bytes are as long as one whole command says that it is.
-fn is_one(second: bool, command: &[u8]) -> bool
-    ensures { λ r. ⌜ r ≡ isOne (formatOf second) (now (command .entry)) ⌝ }
-{
-    let fixed = formats::inner::fixed(format_of(second));
-    if command.len() < fixed {
-        return false;
-    }
-    command.len() == fixed + (read_u16(command, LENGTH) as usize)
-}
-
 // One request on an image that has been checked, as a run of one command; bytes of another length are malformed. The numbers of its answer are written
-// to `line`, and the first of them is handed back.
+// to `line`.
 pub fn one(
-    second: bool,
+    v: Version,
     image: &mut [u8],
     command: &[u8],
     reply: &mut [u8],
     checked: bool,
     line: &mut [u64],
-) -> u8
-    requires { ⌜ (checked ≡ sound (formatOf second) (now image)) × (length (now line) ≡ perLine) ⌝ }
-    ensures number { λ r. ⌜ r ≡ serve (formatOf second) (now (image .entry)) (now (command .entry)) (now (reply .entry)) .answer .number ⌝ }
-    ensures image { λ _. ⌜ now (image .exit) ≡ serve (formatOf second) (now (image .entry)) (now (command .entry)) (now (reply .entry)) .image ⌝ }
-    ensures reply { λ _. ⌜ now (reply .exit) ≡ serve (formatOf second) (now (image .entry)) (now (command .entry)) (now (reply .entry)) .reply ⌝ }
-    ensures line { λ _. ⌜ now (line .exit) ≡ numbersOf (serve (formatOf second) (now (image .entry)) (now (command .entry)) (now (reply .entry)) .answer) ⌝ }
-    ensures kept { λ _. ⌜ checked ≡ sound (formatOf second) (now (image .exit)) ⌝ }
+)
+    requires { ⌜ (checked ≡ sound (formatOf v) (now image)) × (length (now line) ≡ perLine) ⌝ }
+    ensures served { λ _. ⌜ ServesTo (formatOf v) (now (image .entry)) (now (command .entry)) (now (reply .entry)) (now (line .exit)) (now (image .exit)) (now (reply .exit)) ⌝ }
+    ensures kept { λ _. ⌜ checked ≡ sound (formatOf v) (now (image .exit)) ⌝ }
 {
-    if is_one(second, command) {
-        many_of(second, image, command, reply, checked, line);
-        return line[0] as u8;
+    let end = stream::next_from(v, command, 0);
+    if (end == command.len()) & !(end == 0) {
+        many(v, image, command, reply, checked, line);
+        return;
     }
     if checked {
         put_line(line, 0, guard::refusal(MALFORMED));
-        return MALFORMED;
+        return;
     }
     put_line(line, 0, guard::refusal(UNSOUND));
-    UNSOUND
-}
-
-// One request on an image: the number, and the seven reply fields.
-pub fn answer_of(
-    second: bool,
-    image: &mut [u8],
-    command: &[u8],
-    reply: &mut [u8],
-    fields: &mut [u64; 7],
-) -> u8
-    ensures number { λ r. ⌜ r ≡ serve (formatOf second) (now (image .entry)) (now (command .entry)) (now (reply .entry)) .answer .number ⌝ }
-    ensures fields { λ _. ⌜ now (fields .exit) ≡ replyFields (serve (formatOf second) (now (image .entry)) (now (command .entry)) (now (reply .entry)) .answer) ⌝ }
-    ensures image { λ _. ⌜ now (image .exit) ≡ serve (formatOf second) (now (image .entry)) (now (command .entry)) (now (reply .entry)) .image ⌝ }
-    ensures reply { λ _. ⌜ now (reply .exit) ≡ serve (formatOf second) (now (image .entry)) (now (command .entry)) (now (reply .entry)) .reply ⌝ }
-{
-    let checked = sound_of(second, image);
-    let mut line = [0u64; PER_LINE];
-    let number = one(second, image, command, reply, checked, &mut line);
-    *fields = [
-        line[1],
-        line[2],
-        line[3],
-        line[4],
-        line[5],
-        line[6],
-        line[7],
-    ];
-    number
 }

@@ -7,7 +7,7 @@ use borrow.Author.Tests.{eq-eqb}
 use lib.ListN.{set, replicate}
 use Rattle.lists.specs.Le.{le}
 use Rattle.lists.specs.Parts.{part}
-use Rattle.formats.specs.declared.Format.the-variants.{V1}
+use Rattle.formats.specs.Format.{V1}
 use Rattle.stream.specs.Stream.{extent, whole, nextAt, onward, endWithin, endOf}
 use Rattle.stream_test.proofs.main.Statement.{statement}
 use Rattle.stream_test.proofs.main.Tie as tie

@@ -1,13 +1,15 @@
--- What the call ensures. Assumes nothing.
+-- The step, and whether it went on. Assumes nothing.
+use Rattle.formats.specs.Format.{V1}
+use Rattle.stream.proofs.Place.{moved}
 use borrow.Author.Needs.{needs}
 use Rattle.capi.proofs.streams.lupaniele_next.Statement.{statement}
 use Rattle.capi.proofs.streams.lupaniele_next.Tie as tie
 
-next-as-requires : tie.Need-next-as-requires
-next-as-requires c κs = search needs
+next-from-requires : tie.Need-next-from-requires
+next-from-requires c κs = search needs
 
 returns : tie.Need-returns
-returns c = c .next-as .ensures
+returns c = (moved V1 _ _ (c .next-from .ensures), c .next-from .ensures)
 
 pub lupaniele-next-spec : {M : Type 1} → statement M
-lupaniele-next-spec = tie.close (tie.spec next-as-requires returns)
+lupaniele-next-spec = tie.close (tie.spec next-from-requires returns)

@@ -1,6 +1,4 @@
--- What the run leaves, and both numbers. Assumes nothing.
-use mathlib.Core.Path.{ap}
-use Rattle.store.specs.declared.Ran.{Ran}
+-- What the run leaves. Assumes nothing.
 use borrow.Author.Needs.{needs}
 use Rattle.capi.proofs.streams.lupaniele_run.Statement.{statement}
 use Rattle.capi.proofs.streams.lupaniele_run.Tie as tie
@@ -18,9 +16,7 @@ same-length-3 : tie.Need-same-length-3
 same-length-3 c = search needs
 
 returns : tie.Need-returns
-returns c =
-    let e = c .before .before .before .before .before .before .run .ensures in
-    (ap (λ (r : Ran). r .count) (e .0), (ap (λ (r : Ran). r .end) (e .0), (e .1 .0, (e .1 .1 .0, e .1 .1 .1))))
+returns c = c .before .before .before .before .before .before .run .ensures
 
 pub lupaniele-run-spec : {M : Type 1} → statement M
 lupaniele-run-spec =

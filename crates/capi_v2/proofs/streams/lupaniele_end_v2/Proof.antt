@@ -3,11 +3,11 @@ use borrow.Author.Needs.{needs}
 use Rattle.capi_v2.proofs.streams.lupaniele_end_v2.Statement.{statement}
 use Rattle.capi_v2.proofs.streams.lupaniele_end_v2.Tie as tie
 
-end-of-as-requires : tie.Need-end-of-as-requires
-end-of-as-requires c κs = search needs
+end-of-requires : tie.Need-end-of-requires
+end-of-requires c κs = search needs
 
 returns : tie.Need-returns
-returns c = c .end-of-as .ensures
+returns c = c .end-of .ensures
 
 pub lupaniele-end-v2-spec : {M : Type 1} → statement M
-lupaniele-end-v2-spec = tie.close (tie.spec end-of-as-requires returns)
+lupaniele-end-v2-spec = tie.close (tie.spec end-of-requires returns)

@@ -1,6 +1,6 @@
 use native.Mathlib.Omega.{arith}
 use mathlib.Core.Path.{sym, ap, _∙_}
-use Rattle.formats.specs.declared.Format.the-variants.{V1}
+use Rattle.formats.specs.Format.{V1}
 use Rattle.recovery.proofs.Laws.{serve-bad, serve-none, serve-runs, kept-sound}
 use Rattle.store.proofs.Kept.{header-in}
 use borrow.Author.Tests.{not-true, not-false}

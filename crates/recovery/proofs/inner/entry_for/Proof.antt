@@ -1,6 +1,6 @@
 use native.Mathlib.Omega.{arith}
 use mathlib.Core.Path.{_∙_}
-use Rattle.formats.specs.declared.Format.the-variants.{V1}
+use Rattle.formats.specs.Format.{V1}
 use Rattle.recovery.proofs.Laws.{entry-none, entry-some, entry-inside}
 use Rattle.store.proofs.Kept.{header-in}
 use lib.Dec.{lit<}

@@ -39,8 +39,8 @@ part-fields-end c = let w = within _ _ _ (sym (c .before .before .before .next-a
 fields-requires : tie.Need-fields-requires Inv-loop μ-loop
 fields-requires c κs = let w = within _ _ _ (sym (c .before .before .before .before .next-at .ensures) ∙ c .before .before .end .given .1) in omega (arith, w .0, w .1)
 
-add-t13 : tie.Need-add-t13 Inv-loop μ-loop
-add-t13 c = let w = within _ _ _ (sym (c .before .before .before .before .before .next-at .ensures) ∙ c .before .before .before .end .given .1) in omega (arith, w .0, w .1)
+add-t12 : tie.Need-add-t12 Inv-loop μ-loop
+add-t12 c = let w = within _ _ _ (sym (c .before .before .before .before .before .next-at .ensures) ∙ c .before .before .before .end .given .1) in omega (arith, w .0, w .1)
 
 chosen-requires : tie.Need-chosen-requires Inv-loop μ-loop
 chosen-requires c κs = search needs
@@ -69,7 +69,7 @@ text-of-spec =
     part-fields-start
     part-fields-end
     fields-requires
-    add-t13
+    add-t12
     chosen-requires
     loop-less
     loop-again

@@ -4,7 +4,7 @@ use native.Mathlib.Omega.{arith}
 use borrow.Author.Needs.{needs}
 use lib.ListN.{length}
 use lib.Seq.{length-take-le}
-use Rattle.formats.specs.declared.Format.the-variants.{V1}
+use Rattle.formats.specs.Format.{V1}
 use Rattle.commands.proofs.CommandBytes.{formedness}
 use Rattle.history.proofs.Requests.{exits, low, read-fits, carry-refused, carry-accepted, number-zero}
 use Rattle.history.proofs.inner.requests.carry.Statement.{statement}

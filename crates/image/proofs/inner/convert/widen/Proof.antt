@@ -2,7 +2,7 @@
 use native.Mathlib.Omega.{arith}
 use mathlib.Core.Path.{ap}
 use lib.ListN.{length}
-use Rattle.formats.specs.declared.Format.the-variants.{V1}
+use Rattle.formats.specs.Format.{V1}
 use Rattle.image.proofs.Decode.{places}
 use Rattle.image.proofs.Widen.{lies, widen-step}
 use borrow.Author.Needs.{needs}

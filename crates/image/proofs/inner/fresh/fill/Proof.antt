@@ -1,4 +1,5 @@
 -- The numbers of the header, and zeros behind them. Assumes nothing.
+use Rattle.formats.specs.Format.{formatOf}
 use native.Mathlib.Omega.{arith}
 use Rattle.image.proofs.Making.{fresh-written}
 use borrow.Author.Needs.{needs}
@@ -18,7 +19,7 @@ same-length : tie.Need-same-length
 same-length c = search needs
 
 returns : tie.Need-returns
-returns c = rw (c .before .before .clear .ensures, c .before .before .before .before .before .before .write-header .ensures) (fresh-written (c .before .before .before .before .before .before .before .before .before .args .f) (c .before .before .before .before .before .before .before .before .before .args .n) (c .before .before .before .before .before .before .before .before .before .args .c) (c .before .before .before .before .before .before .before .before .before .args .image .now) (omega arith))
+returns c = rw (c .before .before .clear .ensures, c .before .before .before .before .before .before .write-header .ensures) (fresh-written (formatOf (c .before .before .before .before .before .before .before .before .before .args .v)) (c .before .before .before .before .before .before .before .before .before .args .n) (c .before .before .before .before .before .before .before .before .before .args .c) (c .before .before .before .before .before .before .before .before .before .args .image .now) (omega arith))
 
 pub fill-spec : {M : Type 1} → statement M
 fill-spec =

@@ -1,5 +1,5 @@
 -- The numbers end to end. Assumes nothing.
-use Rattle.formats.specs.Format.{version}
+use Rattle.formats.specs.Format.{formatOf, version}
 use Rattle.image.specs.Bytes.{magic}
 use native.Mathlib.Omega.{arith}
 use Rattle.lists.specs.Le.{toLe}
@@ -35,7 +35,7 @@ returns c = rw (
   c .before .before .before .before .before .before .before .before .before .before .before .before .before .before .write-u32 .ensures,
   c .before .before .before .before .before .before .before .before .before .before .before .before .before .before .before .before .version .ensures,
 )
-    (splice-four 0 magic (toLe 2 (version (c .before .before .before .before .before .before .before .before .before .before .before .before .before .before .before .before .before .before .args .f))) (toLe 2 (c .before .before .before .before .before .before .before .before .before .before .before .before .before .before .before .before .before .before .args .n)) (toLe 2 (c .before .before .before .before .before .before .before .before .before .before .before .before .before .before .before .before .before .before .args .c)) _ (omega arith))
+    (splice-four 0 magic (toLe 2 (version (formatOf (c .before .before .before .before .before .before .before .before .before .before .before .before .before .before .before .before .before .before .args .v)))) (toLe 2 (c .before .before .before .before .before .before .before .before .before .before .before .before .before .before .before .before .before .before .args .n)) (toLe 2 (c .before .before .before .before .before .before .before .before .before .before .before .before .before .before .before .before .before .before .args .c)) _ (omega arith))
 
 pub write-header-spec : {M : Type 1} → statement M
 write-header-spec =

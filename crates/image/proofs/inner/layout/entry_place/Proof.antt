@@ -1,3 +1,4 @@
+use Rattle.formats.specs.Format.{formatOf}
 use native.Mathlib.Omega.{arith}
 use Rattle.image.proofs.Shape.{product, entry-small}
 use borrow.Author.Needs.{needs}
@@ -8,10 +9,10 @@ entry-size-requires : tie.Need-entry-size-requires
 entry-size-requires c κs = search needs
 
 mul-result : tie.Need-mul-result
-mul-result c = let b = product 48 (entry-small (c .before .args .f) (c .entry-size .ensures)) (c .before .fits .k .fits) in omega (arith, b)
+mul-result c = let b = product 48 (entry-small (formatOf (c .before .args .v)) (c .entry-size .ensures)) (c .before .fits .k .fits) in omega (arith, b)
 
 add-result : tie.Need-add-result
-add-result c = let b = product 48 (entry-small (c .before .args .f) (c .entry-size .ensures)) (c .before .fits .k .fits) in omega (arith, b)
+add-result c = let b = product 48 (entry-small (formatOf (c .before .args .v)) (c .entry-size .ensures)) (c .before .fits .k .fits) in omega (arith, b)
 
 returns : tie.Need-returns
 returns c = rw (c .entry-size .ensures)

@@ -1,3 +1,4 @@
+use Rattle.formats.specs.Format.{formatOf}
 use native.Mathlib.Omega.{arith}
 use Rattle.formats.proofs.Numbers.{numbers}
 use borrow.Author.Needs.{needs}
@@ -11,7 +12,7 @@ mul-result : tie.Need-mul-result
 mul-result c = search needs
 
 add-result : tie.Need-add-result
-add-result c = let n = numbers (c .before .args .f) in omega (arith, n, c .lengths-at .ensures)
+add-result c = let n = numbers (formatOf (c .before .args .v)) in omega (arith, n, c .lengths-at .ensures)
 
 returns : tie.Need-returns
 returns c = search needs

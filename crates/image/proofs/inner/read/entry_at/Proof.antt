@@ -1,3 +1,4 @@
+use Rattle.formats.specs.Format.{formatOf}
 use Rattle.lists.proofs.Parts.{length-part}
 use Prim.Native.Nat.{_+_}
 use mathlib.Core.Path.{refl}
@@ -28,7 +29,7 @@ part-entry-of-end : tie.Need-part-entry-of-end
 part-entry-of-end c = search needs
 
 entry-of-requires : tie.Need-entry-of-requires
-entry-of-requires c κs = let n = numbers (c .before .before .before .before .args .f) in
+entry-of-requires c κs = let n = numbers (formatOf (c .before .before .before .before .args .v)) in
     let long = length-part (c .before .before .entry-place .result) (c .before .entry-size .result) (c .before .before .before .before .args .image .now) (omega (arith, c .before .entry-size .ensures, c .before .before .entry-place .ensures)) in
     let same = cut (c .before .before .entry-place .result) (c .before .entry-size .result) (c .before .before .entry-place .result + c .before .entry-size .result) (c .before .before .before .before .args .image .now) refl in
     rw same (omega (arith, n, long, c .before .entry-size .ensures))

@@ -1,4 +1,5 @@
 -- The field is read in its place. Assumes nothing.
+use Rattle.formats.specs.Format.{formatOf}
 use native.Mathlib.Omega.{arith}
 use mathlib.Core.Path.{sym, ap}
 use Rattle.lists.specs.Le.{le}
@@ -16,15 +17,15 @@ length-place-requires : tie.Need-length-place-requires
 length-place-requires c κs = search needs
 
 add-read-u16 : tie.Need-add-read-u16
-add-read-u16 c = let n = numbers (c .before .before .before .args .f) in omega (arith, n, c .before .entry-place .ensures, c .length-place .ensures)
+add-read-u16 c = let n = numbers (formatOf (c .before .before .before .args .v)) in omega (arith, n, c .before .entry-place .ensures, c .length-place .ensures)
 
 read-u16-requires : tie.Need-read-u16-requires
-read-u16-requires c κs = let n = numbers (c .before .before .before .args .f) in omega (arith, n, c .before .entry-place .ensures, c .length-place .ensures)
+read-u16-requires c κs = let n = numbers (formatOf (c .before .before .before .args .v)) in omega (arith, n, c .before .entry-place .ensures, c .length-place .ensures)
 
 returns : tie.Need-returns
 unfolding entryAt readEntry
 returns c = rw (c .read-u16 .ensures, c .before .before .entry-place .ensures, c .before .length-place .ensures)
-    (sym (ap le (part-part _ _ _ 2 (c .before .before .before .before .args .image .now) (let n = numbers (c .before .before .before .before .args .f) in omega (arith, n)))))
+    (sym (ap le (part-part _ _ _ 2 (c .before .before .before .before .args .image .now) (let n = numbers (formatOf (c .before .before .before .before .args .v)) in omega (arith, n)))))
 
 pub length-at-spec : {M : Type 1} → statement M
 length-at-spec = tie.close (tie.spec entry-place-requires length-place-requires add-read-u16 read-u16-requires returns)

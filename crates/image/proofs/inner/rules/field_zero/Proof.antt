@@ -1,4 +1,5 @@
 -- The field is read in its place. Assumes nothing.
+use Rattle.formats.specs.Format.{formatOf}
 use native.Mathlib.Omega.{arith}
 use Rattle.formats.proofs.Numbers.{numbers}
 use borrow.Author.Needs.{needs}
@@ -9,10 +10,10 @@ entry-place-requires : tie.Need-entry-place-requires
 entry-place-requires c κs = search needs
 
 add-read-u16 : tie.Need-add-read-u16
-add-read-u16 c = let n = numbers (c .before .before .args .f) in omega (arith, n, c .entry-place .ensures)
+add-read-u16 c = let n = numbers (formatOf (c .before .before .args .v)) in omega (arith, n, c .entry-place .ensures)
 
 read-u16-requires : tie.Need-read-u16-requires
-read-u16-requires c κs = let n = numbers (c .before .before .args .f) in omega (arith, n, c .entry-place .ensures)
+read-u16-requires c κs = let n = numbers (formatOf (c .before .before .args .v)) in omega (arith, n, c .entry-place .ensures)
 
 returns : tie.Need-returns
 returns c = rw (c .read-u16 .ensures, c .before .entry-place .ensures)

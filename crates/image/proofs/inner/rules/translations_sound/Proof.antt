@@ -5,28 +5,28 @@ use mathlib.Core.Path.{_≡_, sym, _∙_}
 use borrow.Author.Tests.{not-true, not-false}
 use Rattle.lists.specs.Parts.{every}
 use Rattle.lists.proofs.Every.{every-none, every-more, every-fail}
-use Rattle.formats.specs.Format.{translations}
+use Rattle.formats.specs.Format.{formatOf, translations}
 use Rattle.image.specs.Image.{translationSound}
 use Rattle.image.proofs.inner.rules.translations_sound.Statement.{statement}
 use Rattle.image.proofs.inner.rules.translations_sound.Tie as tie
 
 abbrev Inv-loop : tie.InvT-loop
-Inv-loop f image k edition count t₀ t = (t ≤ count) × (every (translationSound f image k) t ≡ true)
+Inv-loop v image k edition count t₀ t = (t ≤ count) × (every (translationSound (formatOf v) image k) t ≡ true)
 
 abbrev μ-loop : tie.MeasureT-loop
-μ-loop f image k edition count t₀ t = count - t
+μ-loop v image k edition count t₀ t = count - t
 
 translations-requires : tie.Need-translations-requires Inv-loop μ-loop
 translations-requires c κs = tt
 
 loop-holds : tie.Need-loop-holds Inv-loop μ-loop
-loop-holds c = (omega arith, every-none (translationSound (c .before .before .args .f) (c .before .before .args .image .now) (c .before .before .args .k)))
+loop-holds c = (omega arith, every-none (translationSound (formatOf (c .before .before .args .v)) (c .before .before .args .image .now) (c .before .before .args .k)))
 
 translation-sound-requires : tie.Need-translation-sound-requires Inv-loop μ-loop
 translation-sound-requires c κs = let given = c .before .before .before .before .pre in (given .0, given .1, omega (arith, c .before .before .translations .ensures), given .2, given .3)
 
 returns : tie.Need-returns Inv-loop μ-loop
-returns c = sym (every-fail (translationSound (c .before .before .before .before .before .before .args .f) (c .before .before .before .before .before .before .args .image .now) (c .before .before .before .before .before .before .args .k)) (translations (c .before .before .before .before .before .before .args .f)) (c .before .before .before .loop .t) (omega (arith, c .before .before .before .before .translations .ensures))
+returns c = sym (every-fail (translationSound (formatOf (c .before .before .before .before .before .before .args .v)) (c .before .before .before .before .before .before .args .image .now) (c .before .before .before .before .before .before .args .k)) (translations (formatOf (c .before .before .before .before .before .before .args .v))) (c .before .before .before .loop .t) (omega (arith, c .before .before .before .before .translations .ensures))
     (sym (c .before .translation-sound .ensures) ∙ not-true _ (c .if1 .taken)))
 
 add-t : tie.Need-add-t Inv-loop μ-loop
@@ -36,11 +36,11 @@ loop-less : tie.Need-loop-less Inv-loop μ-loop
 loop-less c = omega arith
 
 loop-again : tie.Need-loop-again Inv-loop μ-loop
-loop-again c = (omega arith, every-more (translationSound (c .before .before .before .before .before .before .args .f) (c .before .before .before .before .before .before .args .image .now) (c .before .before .before .before .before .before .args .k)) (c .before .before .before .loop .t) (c .before .before .before .loop .inv .1) (sym (c .before .translation-sound .ensures) ∙ not-false _ (c .if1 .left)))
+loop-again c = (omega arith, every-more (translationSound (formatOf (c .before .before .before .before .before .before .args .v)) (c .before .before .before .before .before .before .args .image .now) (c .before .before .before .before .before .before .args .k)) (c .before .before .before .loop .t) (c .before .before .before .loop .inv .1) (sym (c .before .translation-sound .ensures) ∙ not-false _ (c .if1 .left)))
 
 returns-2 : tie.Need-returns-2 Inv-loop μ-loop
 returns-2 c = let a = c .before .before .before .before .args in
-    let last : c .before .loop .t ≡ translations (a .f) = omega (arith, c .before .before .translations .ensures) in
+    let last : c .before .loop .t ≡ translations (formatOf (a .v)) = omega (arith, c .before .before .translations .ensures) in
     sym (rw last at (c .before .loop .inv .1))
 
 pub translations-sound-spec : {M : Type 1} → statement M

@@ -1,3 +1,4 @@
+use Rattle.formats.specs.Format.{formatOf}
 use native.Mathlib.Omega.{arith}
 use Rattle.formats.proofs.Numbers.{numbers}
 use Rattle.image.specs.Write.{entryWith}
@@ -9,16 +10,16 @@ entry-place-requires : tie.Need-entry-place-requires
 entry-place-requires c κs = search needs
 
 write-pair-requires : tie.Need-write-pair-requires
-write-pair-requires c κs = let n = numbers (c .before .before .before .args .f) in omega (arith, n, c .before .entry-place .ensures)
+write-pair-requires c κs = let n = numbers (formatOf (c .before .before .before .args .v)) in omega (arith, n, c .before .entry-place .ensures)
 
 add-write-mark : tie.Need-add-write-mark
 add-write-mark c = search needs
 
 write-mark-requires : tie.Need-write-mark-requires
-write-mark-requires c κs = let n = numbers (c .before .before .before .before .before .before .before .args .f) in omega (arith, n, c .before .before .before .before .before .entry-place .ensures)
+write-mark-requires c κs = let n = numbers (formatOf (c .before .before .before .before .before .before .before .args .v)) in omega (arith, n, c .before .before .before .before .before .entry-place .ensures)
 
 write-counts-requires : tie.Need-write-counts-requires
-write-counts-requires c κs = let n = numbers (c .before .before .before .before .before .before .before .before .before .before .before .args .f) in omega (arith, n, c .before .before .before .before .before .before .before .before .before .entry-place .ensures)
+write-counts-requires c κs = let n = numbers (formatOf (c .before .before .before .before .before .before .before .before .before .before .before .args .v)) in omega (arith, n, c .before .before .before .before .before .before .before .before .before .entry-place .ensures)
 
 same-length : tie.Need-same-length
 same-length c = search needs

@@ -2,7 +2,7 @@
 use mathlib.Core.Path.{sym}
 use native.Mathlib.Omega.{arith}
 use lib.Seq.{length-take-le}
-use Rattle.program.proofs.Answered.{back-of, answered-by}
+use Rattle.program.proofs.Answered.{back-of, answered-by, copied-sound}
 use borrow.Author.Needs.{needs}
 use Rattle.program.proofs.inner.output.answers.Statement.{statement}
 use Rattle.program.proofs.inner.output.answers.Tie as tie
@@ -38,7 +38,11 @@ slice-aggregate-put-printed-2 : tie.Need-slice-aggregate-put-printed-2
 slice-aggregate-put-printed-2 c = sym (length-take-le _ _ (omega (arith, c .before .before .before .before .before .before .before .before .before .pre .most)))
 
 put-printed-requires : tie.Need-put-printed-requires
-put-printed-requires c κs = rw (back-of (c .before .before .before .before .before .before .before .before .before .before .args .size) (c .before .before .before .before .before .before .before .before .before .before .args .input .now)) (c .before .before .before .before .before .before .before .before .before .before .pre .lines)
+put-printed-requires c κs =
+    let at10 = c .before .before .before .before .before .before .before .before .before .before in (
+      copied-sound (at10 .args .size) (at10 .args .input .now) _ _ (at10 .pre .within) (c .before .before .before .before .before .put .ensures) (at10 .pre .good),
+      rw (back-of (c .before .before .before .before .before .before .before .before .before .before .args .size) (c .before .before .before .before .before .before .before .before .before .before .args .input .now)) (c .before .before .before .before .before .before .before .before .before .before .pre .lines),
+    )
 
 same-length : tie.Need-same-length
 same-length c = search needs

@@ -1,11 +1,12 @@
 -- The loop: the lines of what is left to run are left to write, and the check of the image holds on. The measure is what is left of the stream.
 -- Assumes nothing.
 use Prim.Native.Nat.{_-_}
-use mathlib.Core.Path.{_≡_, refl, ap, _∙_}
+use mathlib.Core.Path.{_≡_, refl, ap, sym, _∙_}
+use mathlib.Core.Bool.{true}
 use borrow.Author.Needs.{needs}
 use native.Mathlib.Omega.{arith}
 use lib.ListN.{length}
-use Rattle.formats.specs.declared.Format.the-variants.{V1}
+use Rattle.formats.specs.Format.{V1}
 use Rattle.image.specs.Image.{sound}
 use Rattle.store.specs.Runs.{perLine}
 use Rattle.stream.proofs.Place.{went, stayed}
@@ -15,17 +16,14 @@ use Rattle.program.proofs.inner.run.put_printed.Statement.{statement}
 use Rattle.program.proofs.inner.run.put_printed.Tie as tie
 
 abbrev Inv-loop : tie.InvT-loop
-Inv-loop image₀ stream reply₀ out₀ at checked line₀ from₀ place₀ to₀ image reply out line from place to =
-    Running at image₀ reply₀ stream out₀ image reply out from place to × (checked ≡ sound V1 image) × (length line ≡ perLine)
+Inv-loop image₀ stream reply₀ out₀ at line₀ from₀ place₀ to₀ image reply out line from place to =
+    Running at image₀ reply₀ stream out₀ image reply out from place to × (sound V1 image ≡ true) × (length line ≡ perLine)
 
 abbrev μ-loop : tie.MeasureT-loop
-μ-loop image₀ stream reply₀ out₀ at checked line₀ from₀ place₀ to₀ image reply out line from place to = length stream - from
-
-sound-requires : tie.Need-sound-requires Inv-loop μ-loop
-sound-requires c κs = search needs
+μ-loop image₀ stream reply₀ out₀ at line₀ from₀ place₀ to₀ image reply out line from place to = length stream - from
 
 loop-holds : tie.Need-loop-holds Inv-loop μ-loop
-loop-holds c = (running-none _ _ _ _ _ (c .before .before .before .before .before .before .pre), c .sound .ensures, refl)
+loop-holds c = let p = c .before .before .before .before .pre in (running-none _ _ _ _ _ (p .1), p .0, refl)
 
 next-from-requires : tie.Need-next-from-requires Inv-loop μ-loop
 next-from-requires c κs = search needs
@@ -49,7 +47,7 @@ slice-aggregate-one : tie.Need-slice-aggregate-one Inv-loop μ-loop
 slice-aggregate-one c = search needs
 
 one-requires : tie.Need-one-requires Inv-loop μ-loop
-one-requires c κs = (c .before .before .before .before .before .before .loop .inv .1, c .before .before .before .before .before .before .loop .inv .2)
+one-requires c κs = (sym (c .before .before .before .before .before .before .loop .inv .1), c .before .before .before .before .before .before .loop .inv .2)
 
 slice-aggregate-put-line : tie.Need-slice-aggregate-put-line Inv-loop μ-loop
 slice-aggregate-put-line c = search needs
@@ -57,7 +55,7 @@ slice-aggregate-put-line c = search needs
 put-line-requires : tie.Need-put-line-requires Inv-loop μ-loop
 put-line-requires c κs =
     let w = running-within (c .before .before .before .before .before .before .before .before .before .before .before .before .before .before .loop .inv .0) _ (went V1 _ _ (c .before .before .before .before .before .before .before .before .before .before .before .before .before .next-from .ensures) (c .before .before .before .before .before .before .before .before .before .before .before .before .if1 .left)) in
-    (omega (arith, w .0, w .1, w .2, w .3), ap length (c .before .before .before .before .before .before .before .one .ensures .1 .1 .1 .0) ∙ per-line _)
+    (omega (arith, w .0, w .1, w .2, w .3), ap length (c .before .before .before .before .before .before .before .one .ensures .0 .0) ∙ per-line _)
 
 add-place : tie.Need-add-place Inv-loop μ-loop
 add-place c =
@@ -70,9 +68,9 @@ loop-less c = running-less (c .before .before .before .before .before .before .b
 loop-again : tie.Need-loop-again Inv-loop μ-loop
 loop-again c =
     let e = c .before .before .before .before .before .before .before .before .before .before .one .ensures in (
-      running-more (c .before .before .before .before .before .before .before .before .before .before .before .before .before .before .before .before .before .loop .inv .0) _ _ _ _ _ _ (went V1 _ _ (c .before .before .before .before .before .before .before .before .before .before .before .before .before .before .before .before .next-from .ensures) (c .before .before .before .before .before .before .before .before .before .before .before .before .before .before .before .if1 .left)) refl (e .1 .0) (e .1 .1 .0) (line-put _ _ (e .1 .1 .1 .0) (c .before .before .put-line .ensures)) (search needs) (search needs),
-      e .1 .1 .1 .1,
-      ap length (e .1 .1 .1 .0) ∙ per-line _,
+      running-more (c .before .before .before .before .before .before .before .before .before .before .before .before .before .before .before .before .before .loop .inv .0) _ _ _ _ _ _ (went V1 _ _ (c .before .before .before .before .before .before .before .before .before .before .before .before .before .before .before .before .next-from .ensures) (c .before .before .before .before .before .before .before .before .before .before .before .before .before .before .before .if1 .left)) refl (e .0 .1 .0) (e .0 .1 .1) (line-put _ _ (e .0 .0) (c .before .before .put-line .ensures)) (search needs) (search needs),
+      sym (e .1),
+      ap length (e .0 .0) ∙ per-line _,
     )
 
 sub-put-last : tie.Need-sub-put-last Inv-loop μ-loop
@@ -99,7 +97,6 @@ put-printed-spec =
     (tie.spec
     Inv-loop
     μ-loop
-    sound-requires
     loop-holds
     next-from-requires
     sub-one

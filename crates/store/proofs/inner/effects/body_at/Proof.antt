@@ -1,13 +1,14 @@
+use Rattle.formats.specs.Format.{formatOf}
 use Rattle.store.proofs.Kept.{header-in}
 use borrow.Author.Needs.{needs}
 use Rattle.store.proofs.inner.effects.body_at.Statement.{statement}
 use Rattle.store.proofs.inner.effects.body_at.Tie as tie
 
 count-requires : tie.Need-count-requires
-count-requires c κs = header-in (c .before .args .f) (c .before .args .image .now) (c .before .pre)
+count-requires c κs = header-in (formatOf (c .before .args .v)) (c .before .args .image .now) (c .before .pre)
 
 room-requires : tie.Need-room-requires
-room-requires c κs = header-in (c .before .before .args .f) (c .before .before .args .image .now) (c .before .before .pre)
+room-requires c κs = header-in (formatOf (c .before .before .args .v)) (c .before .before .args .image .now) (c .before .before .pre)
 
 body-place-requires : tie.Need-body-place-requires
 body-place-requires c κs = search needs

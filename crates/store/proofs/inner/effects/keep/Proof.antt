@@ -1,3 +1,4 @@
+use Rattle.formats.specs.Format.{formatOf}
 use native.Mathlib.Omega.{arith}
 use Rattle.lists.proofs.Tests.{to-T}
 use Rattle.image.proofs.Decode.{entry-lies}
@@ -10,7 +11,7 @@ write-requires : tie.Need-write-requires
 write-requires c κs = search needs
 
 store-entry-requires : tie.Need-store-entry-requires
-store-entry-requires c κs = let start = c .before .before .before .before .before .before .before in (omega (arith, entry-lies (start .args .f) (start .args .image .now) (to-T (start .pre .0)) _ (start .pre .1), c .before .before .before .write .kept .1), start .pre .2)
+store-entry-requires c κs = let start = c .before .before .before .before .before .before .before in (omega (arith, entry-lies (formatOf (start .args .v)) (start .args .image .now) (to-T (start .pre .0)) _ (start .pre .1), c .before .before .before .write .kept .1), start .pre .2)
 
 same-length : tie.Need-same-length
 same-length c = search needs
@@ -18,7 +19,7 @@ same-length c = search needs
 returns : tie.Need-returns
 returns c = let start = c .before .before .before .before .before .before .before .before .before .before in
     rw (c .before .before .store-entry .ensures, c .before .before .before .before .before .before .write .ensures)
-    (keeps (start .args .f) (start .args .image .now) (λ j. c .before .before .before .before .before .before .before .before .before .slice-known .given j .fits) (to-T (start .pre .0)) (start .args .c) (start .pre .1) (start .pre .2) (start .args .text .now) (start .pre .4) (start .pre .6))
+    (keeps (formatOf (start .args .v)) (start .args .image .now) (λ j. c .before .before .before .before .before .before .before .before .before .slice-known .given j .fits) (to-T (start .pre .0)) (start .args .c) (start .pre .1) (start .pre .2) (start .args .text .now) (start .pre .4) (start .pre .6))
 
 pub keep-spec : {M : Type 1} → statement M
 keep-spec = tie.close (tie.spec write-requires store-entry-requires same-length returns)

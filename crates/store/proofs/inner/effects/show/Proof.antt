@@ -1,3 +1,4 @@
+use Rattle.formats.specs.Format.{formatOf}
 use Rattle.image.specs.Image.{cardAt}
 use native.Mathlib.Omega.{arith}
 use mathlib.Core.Path.{sym, _∙_}
@@ -14,34 +15,34 @@ body-at-requires : tie.Need-body-at-requires
 body-at-requires c κs = search needs
 
 copy-text-requires : tie.Need-copy-text-requires
-copy-text-requires c κs = let start = c .before .before .before .before .before .before in original-fits (start .args .f) (start .args .image .now) (start .pre .0) (start .args .c) (start .pre .1) (start .pre .2) (start .pre .3) (sym (c .before .before .before .reads-original .ensures) ∙ c .before .before .if1 .taken) (c .before .body-at .ensures) (start .pre .4)
+copy-text-requires c κs = let start = c .before .before .before .before .before .before in original-fits (formatOf (start .args .v)) (start .args .image .now) (start .pre .0) (start .args .c) (start .pre .1) (start .pre .2) (start .pre .3) (sym (c .before .before .before .reads-original .ensures) ∙ c .before .before .if1 .taken) (c .before .body-at .ensures) (start .pre .4)
 
 same-length : tie.Need-same-length
 same-length c = search needs
 
 returns : tie.Need-returns
-returns c = let start = c .before .before .before .before .before .before .before .before .before in shows-original (start .args .f) (start .args .image .now) (start .pre .0) (start .args .c) (start .pre .1) (start .pre .2) (start .pre .3) (sym (c .before .before .before .before .before .before .reads-original .ensures) ∙ c .before .before .before .before .before .if1 .taken) (c .before .before .before .before .body-at .ensures) (start .args .reply .now) (c .before .before .copy-text .ensures)
+returns c = let start = c .before .before .before .before .before .before .before .before .before in shows-original (formatOf (start .args .v)) (start .args .image .now) (start .pre .0) (start .args .c) (start .pre .1) (start .pre .2) (start .pre .3) (sym (c .before .before .before .before .before .before .reads-original .ensures) ∙ c .before .before .before .before .before .if1 .taken) (c .before .before .before .before .body-at .ensures) (start .args .reply .now) (c .before .before .copy-text .ensures)
 
 reads-translation-requires : tie.Need-reads-translation-requires
 reads-translation-requires c κs = search needs
 
 add-body-at : tie.Need-add-body-at
-add-body-at c = let start = c .before .before .before .before .before .before .before in omega (arith, numbers (start .args .f), start .pre .2)
+add-body-at c = let start = c .before .before .before .before .before .before .before in omega (arith, numbers (formatOf (start .args .v)), start .pre .2)
 
 body-at-requires-2 : tie.Need-body-at-requires-2
 body-at-requires-2 c κs = search needs
 
 copy-text-requires-2 : tie.Need-copy-text-requires-2
-copy-text-requires-2 c κs = let start = c .before .before .before .before .before .before .before .before .before in translation-fits (start .args .f) (start .args .image .now) (start .pre .0) (start .args .c) (start .pre .1) (start .pre .2) (start .pre .3) (sym (c .before .before .before .before .before .before .reads-original .ensures) ∙ c .before .before .before .before .before .if1 .left) (sym (c .before .before .before .before .reads-translation .ensures) ∙ c .before .before .before .if2 .taken) (c .before .body-at2 .ensures) (start .pre .4)
+copy-text-requires-2 c κs = let start = c .before .before .before .before .before .before .before .before .before in translation-fits (formatOf (start .args .v)) (start .args .image .now) (start .pre .0) (start .args .c) (start .pre .1) (start .pre .2) (start .pre .3) (sym (c .before .before .before .before .before .before .reads-original .ensures) ∙ c .before .before .before .before .before .if1 .left) (sym (c .before .before .before .before .reads-translation .ensures) ∙ c .before .before .before .if2 .taken) (c .before .body-at2 .ensures) (start .pre .4)
 
 same-length-2 : tie.Need-same-length-2
 same-length-2 c = search needs
 
 returns-2 : tie.Need-returns-2
-returns-2 c = let start = c .before .before .before .before .before .before .before .before .before .before .before .before in shows-translation (start .args .f) (start .args .image .now) (start .pre .0) (start .args .c) (start .pre .1) (start .pre .2) (start .pre .3) (sym (c .before .before .before .before .before .before .before .before .before .reads-original .ensures) ∙ c .before .before .before .before .before .before .before .before .if1 .left) (sym (c .before .before .before .before .before .before .before .reads-translation .ensures) ∙ c .before .before .before .before .before .before .if2 .taken) (c .before .before .before .before .body-at2 .ensures) (start .args .reply .now) (c .before .before .copy-text2 .ensures)
+returns-2 c = let start = c .before .before .before .before .before .before .before .before .before .before .before .before in shows-translation (formatOf (start .args .v)) (start .args .image .now) (start .pre .0) (start .args .c) (start .pre .1) (start .pre .2) (start .pre .3) (sym (c .before .before .before .before .before .before .before .before .before .reads-original .ensures) ∙ c .before .before .before .before .before .before .before .before .if1 .left) (sym (c .before .before .before .before .before .before .before .reads-translation .ensures) ∙ c .before .before .before .before .before .before .if2 .taken) (c .before .before .before .before .body-at2 .ensures) (start .args .reply .now) (c .before .before .copy-text2 .ensures)
 
 returns-3 : tie.Need-returns-3
-returns-3 c = shows-none (cardAt (c .before .before .before .before .before .before .args .f) (c .before .before .before .before .before .before .args .image .now) (c .before .before .before .before .before .before .args .c .card)) (c .before .before .before .before .before .before .args .c) (c .before .before .before .before .before .before .args .reply .now) (sym (c .before .before .before .reads-original .ensures) ∙ c .before .before .if1 .left) (sym (c .before .reads-translation .ensures) ∙ c .if2 .left)
+returns-3 c = shows-none (cardAt (formatOf (c .before .before .before .before .before .before .args .v)) (c .before .before .before .before .before .before .args .image .now) (c .before .before .before .before .before .before .args .c .card)) (c .before .before .before .before .before .before .args .c) (c .before .before .before .before .before .before .args .reply .now) (sym (c .before .before .before .reads-original .ensures) ∙ c .before .before .if1 .left) (sym (c .before .reads-translation .ensures) ∙ c .if2 .left)
 
 pub show-spec : {M : Type 1} → statement M
 show-spec =

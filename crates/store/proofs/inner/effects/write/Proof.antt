@@ -1,4 +1,5 @@
 -- Over the old text, on the side that the command writes. Assumes nothing.
+use Rattle.formats.specs.Format.{formatOf}
 use native.Mathlib.Omega.{arith}
 use mathlib.Core.Path.{sym, _∙_}
 use Rattle.formats.proofs.Numbers.{numbers}
@@ -16,7 +17,7 @@ body-at-requires c κs = search needs
 store-text-requires : tie.Need-store-text-requires
 store-text-requires c κs =
     let start = c .before .before .before .before .before .before .before in
-    original-room (start .args .f) (start .args .image .now) (start .pre .0) (start .args .c) (start .pre .1) (start .pre .2) (start .pre .3) (start .args .text .now) (start .pre .4)
+    original-room (formatOf (start .args .v)) (start .args .image .now) (start .pre .0) (start .args .c) (start .pre .1) (start .pre .2) (start .pre .3) (start .args .text .now) (start .pre .4)
     (c .before .body-at .ensures)
 
 same-length : tie.Need-same-length
@@ -25,7 +26,7 @@ same-length c = search needs
 returns : tie.Need-returns
 returns c =
     let start = c .before .before .before .before .before .before .before .before .before .before in
-    written-original (start .args .f) (start .args .image .now) (start .pre .0) (start .args .c) (start .pre .1) (start .pre .2) (start .pre .3) (start .args .text .now) (start .pre .4)
+    written-original (formatOf (start .args .v)) (start .args .image .now) (start .pre .0) (start .args .c) (start .pre .1) (start .pre .2) (start .pre .3) (start .args .text .now) (start .pre .4)
     (c .before .before .before .before .body-at .ensures)
     (c .before .before .store-text .ensures)
     (sym (c .before .before .before .before .before .before .before .writes-original .ensures) ∙ c .before .before .before .before .before .before .if1 .taken)
@@ -34,7 +35,7 @@ writes-translation-requires : tie.Need-writes-translation-requires
 writes-translation-requires c κs = search needs
 
 add-body-at : tie.Need-add-body-at
-add-body-at c = let start = c .before .before .before .before .before .before .before .before in omega (arith, numbers (start .args .f), start .pre)
+add-body-at c = let start = c .before .before .before .before .before .before .before .before in omega (arith, numbers (formatOf (start .args .v)), start .pre)
 
 body-at-requires-2 : tie.Need-body-at-requires-2
 body-at-requires-2 c κs = search needs
@@ -42,7 +43,7 @@ body-at-requires-2 c κs = search needs
 store-text-requires-2 : tie.Need-store-text-requires-2
 store-text-requires-2 c κs =
     let start = c .before .before .before .before .before .before .before .before .before .before in
-    translation-room (start .args .f) (start .args .image .now) (start .pre .0) (start .args .c) (start .pre .1) (start .pre .2) (start .pre .3) (start .args .text .now) (start .pre .4)
+    translation-room (formatOf (start .args .v)) (start .args .image .now) (start .pre .0) (start .args .c) (start .pre .1) (start .pre .2) (start .pre .3) (start .args .text .now) (start .pre .4)
     (c .before .body-at2 .ensures)
 
 same-length-2 : tie.Need-same-length-2
@@ -51,7 +52,7 @@ same-length-2 c = search needs
 returns-2 : tie.Need-returns-2
 returns-2 c =
     let start = c .before .before .before .before .before .before .before .before .before .before .before .before .before in
-    written-translation (start .args .f) (start .args .image .now) (start .pre .0) (start .args .c) (start .pre .1) (start .pre .2) (start .pre .3) (start .args .text .now) (start .pre .4)
+    written-translation (formatOf (start .args .v)) (start .args .image .now) (start .pre .0) (start .args .c) (start .pre .1) (start .pre .2) (start .pre .3) (start .args .text .now) (start .pre .4)
     (c .before .before .before .before .body-at2 .ensures)
     (c .before .before .store-text2 .ensures)
     (sym (c .before .before .before .before .before .before .before .before .before .before .writes-original .ensures) ∙ c .before .before .before .before .before .before .before .before .before .if1 .left)
@@ -60,7 +61,7 @@ returns-2 c =
 returns-3 : tie.Need-returns-3
 returns-3 c =
     let start = c .before .before .before .before .before .before in
-    written-none (start .args .f) (start .args .image .now) (start .args .c) (start .args .text .now)
+    written-none (formatOf (start .args .v)) (start .args .image .now) (start .args .c) (start .args .text .now)
     (sym (c .before .before .before .writes-original .ensures) ∙ c .before .before .if1 .left)
     (sym (c .before .writes-translation .ensures) ∙ c .if2 .left)
 

@@ -1,4 +1,5 @@
 -- `store::inner::step::carry` meets its contract. Assumes nothing.
+use Rattle.formats.specs.Format.{formatOf}
 use borrow.Author.Needs.{needs}
 use mathlib.Core.Path.{_≡_, refl}
 use lib.ListN.{length}
@@ -13,11 +14,11 @@ use Rattle.store.proofs.inner.step.carry.Tie as tie
 -- The entry of the command's card judged it.
 known : (c : tie.After-judge-formed) →
     c .judge-formed .result
-    ≡ judgedAt (c .before .before .before .before .before .before .before .before .args .f) (c .before .before .before .before .before .before .before .before .args .image .now) (c .before .before .before .before .before .before .before .before .args .c) (length (c .before .before .before .before .before .before .before .before .args .reply .now))
+    ≡ judgedAt (formatOf (c .before .before .before .before .before .before .before .before .args .v)) (c .before .before .before .before .before .before .before .before .args .image .now) (c .before .before .before .before .before .before .before .before .args .c) (length (c .before .before .before .before .before .before .before .before .args .reply .now))
 known c = rw (← c .before .before .before .entry-at .ensures, ← c .before .room .ensures) (c .judge-formed .ensures)
 
 entry-at-requires : tie.Need-entry-at-requires
-entry-at-requires c κs = let start = c .before .before .before .before in (entry-lies (start .args .f) (start .args .image .now) (to-T (start .pre .0)) _ (start .pre .1), start .pre .2)
+entry-at-requires c κs = let start = c .before .before .before .before in (entry-lies (formatOf (start .args .v)) (start .args .image .now) (to-T (start .pre .0)) _ (start .pre .1), start .pre .2)
 
 room-requires : tie.Need-room-requires
 room-requires c κs = header-in _ _ (c .before .before .before .before .before .before .pre .0)
@@ -35,7 +36,7 @@ returns : tie.Need-returns
 returns c =
     let start = c .before .before .before .before .before .before .before .before .before .before .before in
     exits
-    (refuses (start .args .f) (start .args .image .now) (start .args .c) (start .args .text .now) (start .args .reply .now) (known (c .before .before .before)) (c .before .if1 .taken))
+    (refuses (formatOf (start .args .v)) (start .args .image .now) (start .args .c) (start .args .text .now) (start .args .reply .now) (known (c .before .before .before)) (c .before .if1 .taken))
     (c .reply .ensures)
     refl
     refl
@@ -48,7 +49,7 @@ show-requires c κs =
       start .pre .1,
       start .pre .2,
       entry,
-      lent-fits (start .args .f) (start .args .image .now) (start .args .c) (start .args .text .now) (start .args .reply .now) (known (c .before .before .before .before)) (c .before .before .if1 .left) entry,
+      lent-fits (formatOf (start .args .v)) (start .args .image .now) (start .args .c) (start .args .text .now) (start .args .reply .now) (known (c .before .before .before .before)) (c .before .before .if1 .left) entry,
     )
 
 keep-requires : tie.Need-keep-requires
@@ -61,8 +62,8 @@ keep-requires c κs =
       start .pre .2,
       c .before .before .before .before .before .before .before .before .before .before .before .entry-at .ensures,
       start .pre .3,
-      payload-fits (start .args .f) (start .args .image .now) (start .args .c) (start .args .text .now) (start .args .reply .now) judged zero,
-      raises (start .args .f) (start .args .image .now) (start .args .c) (start .args .text .now) (start .args .reply .now) judged zero,
+      payload-fits (formatOf (start .args .v)) (start .args .image .now) (start .args .c) (start .args .text .now) (start .args .reply .now) judged zero,
+      raises (formatOf (start .args .v)) (start .args .image .now) (start .args .c) (start .args .text .now) (start .args .reply .now) judged zero,
     )
 
 reply-requires-2 : tie.Need-reply-requires-2
@@ -78,7 +79,7 @@ returns-2 : tie.Need-returns-2
 returns-2 c =
     let start = c .before .before .before .before .before .before .before .before .before .before .before .before .before .before .before .before .before .before .before .before in
     exits
-    (accepts (start .args .f) (start .args .image .now) (start .args .c) (start .args .text .now) (start .args .reply .now) (known (c .before .before .before .before .before .before .before .before .before .before .before .before)) (c .before .before .before .before .before .before .before .before .before .before .if1 .left))
+    (accepts (formatOf (start .args .v)) (start .args .image .now) (start .args .c) (start .args .text .now) (start .args .reply .now) (known (c .before .before .before .before .before .before .before .before .before .before .before .before)) (c .before .before .before .before .before .before .before .before .before .before .if1 .left))
     (c .reply3 .ensures)
     (c .before .before .before .keep .ensures)
     (c .before .before .before .before .before .before .before .show .ensures)

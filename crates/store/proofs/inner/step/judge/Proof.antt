@@ -1,8 +1,9 @@
 -- The check that was made says which of the two cases it is. Assumes nothing.
+use Rattle.formats.specs.Format.{formatOf}
 use borrow.Author.Needs.{needs}
 use borrow.Author.Tests.{not-true, not-false}
 use mathlib.Core.Path.{refl, sym, _∙_}
-use Rattle.store.proofs.Step.{exits, and-last, serve-unsound}
+use Rattle.store.proofs.Step.{serves, serve-unsound}
 use Rattle.store.proofs.inner.step.judge.Statement.{statement}
 use Rattle.store.proofs.inner.step.judge.Tie as tie
 
@@ -11,15 +12,15 @@ refusal-requires c κs = search needs
 
 returns : tie.Need-returns
 returns c =
-    let start = c .before .before .before .before .before in
-    and-last
-    (exits
-    (serve-unsound (start .args .f) (start .args .image .now) (start .args .command .now) (start .args .reply .now)
-    (sym (start .pre) ∙ not-true (start .args .checked) (c .before .if1 .taken)))
-    (c .refusal .ensures)
-    refl
-    refl)
-    (start .pre)
+    let start = c .before .before .before .before .before in (
+      serves
+          (serve-unsound (formatOf (start .args .v)) (start .args .image .now) (start .args .command .now) (start .args .reply .now)
+          (sym (start .pre) ∙ not-true (start .args .checked) (c .before .if1 .taken)))
+          (c .refusal .ensures)
+          refl
+          refl,
+      start .pre,
+    )
 
 serve-requires : tie.Need-serve-requires
 serve-requires c κs =
@@ -36,7 +37,7 @@ returns-2 : tie.Need-returns-2
 returns-2 c =
     let start = c .before .before .before .before .before .before .before .before .before .before .before in
     let e = c .before .before .before .before .serve .ensures in
-    (e .0, (e .1 .0, (e .1 .1 .0, not-false (start .args .checked) (c .before .before .before .before .before .before .before .if1 .left) ∙ sym (e .1 .1 .1))))
+    (e .0, not-false (start .args .checked) (c .before .before .before .before .before .before .before .if1 .left) ∙ sym (e .1))
 
 pub judge-spec : {M : Type 1} → statement M
 judge-spec = tie.close (tie.spec refusal-requires returns serve-requires same-length same-length-2 returns-2)

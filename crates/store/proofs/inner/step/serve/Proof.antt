@@ -1,3 +1,4 @@
+use Rattle.formats.specs.Format.{formatOf}
 use native.Mathlib.Omega.{arith}
 use mathlib.Core.Path.{_≡_, refl, sym, ap, _∙_}
 use mathlib.Core.Bool.{true}
@@ -8,18 +9,18 @@ use Rattle.commands.proofs.CommandBytes.{length-payload, language-within, forme
 use Rattle.image.specs.Image.{sound}
 use Rattle.model.proofs.Sound.{stays-sound}
 use Rattle.store.proofs.Kept.{header-in}
-use Rattle.store.proofs.Step.{exits, and-last, fixed-in, behind-place, serve-malformed, serve-no-card, serve-found}
+use Rattle.store.proofs.Step.{serves, fixed-in, behind-place, serve-malformed, serve-no-card, serve-found}
 use borrow.Author.Needs.{needs}
 use Rattle.store.proofs.inner.step.serve.Statement.{statement}
 use Rattle.store.proofs.inner.step.serve.Tie as tie
 
 -- The command was found in the lent bytes.
 found : (c : tie.After-known-told) →
-    (formed (c .before .before .before .before .before .before .before .args .f) (c .before .before .before .before .before .before .before .args .command .now) ≡ true) × (c .before .c .given .0 .0 ≡ fieldsOf (c .before .before .before .before .before .before .before .args .f) (c .before .before .before .before .before .before .before .args .command .now))
-found c = is-formed (c .before .before .before .before .before .before .before .args .f) (c .before .before .before .before .before .before .before .args .command .now) (sym (c .before .c .given .1) ∙ c .before .before .before .parse-as .ensures)
+    (formed (formatOf (c .before .before .before .before .before .before .before .args .v)) (c .before .before .before .before .before .before .before .args .command .now) ≡ true) × (c .before .c .given .0 .0 ≡ fieldsOf (formatOf (c .before .before .before .before .before .before .before .args .v)) (c .before .before .before .before .before .before .before .args .command .now))
+found c = is-formed (formatOf (c .before .before .before .before .before .before .before .args .v)) (c .before .before .before .before .before .before .before .args .command .now) (sym (c .before .c .given .1) ∙ c .before .before .before .parse .ensures)
 
-parse-as-requires : tie.Need-parse-as-requires
-parse-as-requires c κs = search needs
+parse-requires : tie.Need-parse-requires
+parse-requires c κs = search needs
 
 enum-known-c : tie.Need-enum-known-c
 enum-known-c c = search needs
@@ -33,9 +34,10 @@ refusal-requires c κs = search needs
 returns : tie.Need-returns
 returns c = let start = c .before .before .before .before .before .before .before in
     let command = start .args .command .now in
-    let none = is-malformed (start .args .f) command (sym (c .before .enum-told .given .1) ∙ c .before .before .before .parse-as .ensures) in
-    and-last (exits (serve-malformed (start .args .f) (start .args .image .now) command (start .args .reply .now) (start .pre) none) (c .refusal .ensures) refl refl)
-    (start .pre)
+    let none = is-malformed (formatOf (start .args .v)) command (sym (c .before .enum-told .given .1) ∙ c .before .before .before .parse .ensures) in (
+      serves (serve-malformed (formatOf (start .args .v)) (start .args .image .now) command (start .args .reply .now) (start .pre) none) (c .refusal .ensures) refl refl,
+      start .pre,
+    )
 
 count-requires : tie.Need-count-requires
 count-requires c κs = header-in _ _ (c .before .before .before .before .before .before .before .before .pre)
@@ -49,10 +51,10 @@ same-length c = search needs
 returns-2 : tie.Need-returns-2
 returns-2 c = let start = c .before .before .before .before .before .before .before .before .before .before .before .before in
     let command = start .args .command .now in
-    let whole = found (c .before .before .before .before .before) in
-    and-last
-    (exits (serve-no-card (start .args .f) (start .args .image .now) command (start .args .reply .now) (start .pre) (whole .0) (rw (← whole .1, ← c .before .before .before .count .ensures) (le-ltb _ _ (c .before .if1 .taken)))) (c .refusal2 .ensures) refl refl)
-    (start .pre)
+    let whole = found (c .before .before .before .before .before) in (
+      serves (serve-no-card (formatOf (start .args .v)) (start .args .image .now) command (start .args .reply .now) (start .pre) (whole .0) (rw (← whole .1, ← c .before .before .before .count .ensures) (le-ltb _ _ (c .before .if1 .taken)))) (c .refusal2 .ensures) refl refl,
+      start .pre,
+    )
 
 fixed-requires : tie.Need-fixed-requires
 fixed-requires c κs = search needs
@@ -72,9 +74,9 @@ carry-requires c κs = let start = c .before .before .before .before .before .be
     let whole = found (c .before .before .before .before .before .before .before .before) in (
       start .pre,
       rw (← c .before .before .before .before .before .before .count .ensures) (c .before .before .before .before .if1 .left),
-      rw (whole .1) (language-within (start .args .f) command (whole .0)),
-      rw (behind-place (start .args .f) command (c .before .before .before .fixed .ensures), whole .1) (length-payload (start .args .f) command (whole .0)),
-      rw (whole .1) (formedness (start .args .f) command (whole .0) .rules),
+      rw (whole .1) (language-within (formatOf (start .args .v)) command (whole .0)),
+      rw (behind-place (formatOf (start .args .v)) command (c .before .before .before .fixed .ensures), whole .1) (length-payload (formatOf (start .args .v)) command (whole .0)),
+      rw (whole .1) (formedness (formatOf (start .args .v)) command (whole .0) .rules),
     )
 
 same-length-2 : tie.Need-same-length-2
@@ -90,20 +92,21 @@ returns-3 c = let start = c .before .before .before .before .before .before .bef
     let reply = start .args .reply .now in
     let whole = found (c .before .before .before .before .before .before .before .before .before .before .before .before .before) in
     let done = c .before .before .before .before .carry .ensures in
-    let left = exits (serve-found (start .args .f) image command reply (start .pre) (whole .0) (whole .1) (behind-place (start .args .f) command (c .before .before .before .before .before .before .before .before .fixed .ensures)) (rw (← c .before .before .before .before .before .before .before .before .before .before .before .count .ensures) (c .before .before .before .before .before .before .before .before .before .if1 .left))) (done .0) (done .1 .0) (done .1 .1) in
-    and-last left
-    (ap (sound (start .args .f)) (left .1 .0)
-    ∙ stays-sound (start .args .f) image command reply
-    (λ j. c .before .before .before .before .before .before .before .before .before .before .before .before .before .before .before .before .before .before .before .slice-known .given j .fits)
-    (λ j. c .before .before .before .before .before .before .before .before .before .before .before .before .before .before .before .before .before .before .shared-slice-known .given j .fits)
-    (λ j. c .before .before .before .before .before .before .before .before .before .before .before .before .before .before .before .before .before .slice-known2 .given j .fits)
-    (start .pre))
+    let left = serves (serve-found (formatOf (start .args .v)) image command reply (start .pre) (whole .0) (whole .1) (behind-place (formatOf (start .args .v)) command (c .before .before .before .before .before .before .before .before .fixed .ensures)) (rw (← c .before .before .before .before .before .before .before .before .before .before .before .count .ensures) (c .before .before .before .before .before .before .before .before .before .if1 .left))) (done .0) (done .1 .0) (done .1 .1) in (
+      left,
+      ap (sound (formatOf (start .args .v))) (left .1 .0)
+          ∙ stays-sound (formatOf (start .args .v)) image command reply
+          (λ j. c .before .before .before .before .before .before .before .before .before .before .before .before .before .before .before .before .before .before .before .slice-known .given j .fits)
+          (λ j. c .before .before .before .before .before .before .before .before .before .before .before .before .before .before .before .before .before .before .shared-slice-known .given j .fits)
+          (λ j. c .before .before .before .before .before .before .before .before .before .before .before .before .before .before .before .before .before .slice-known2 .given j .fits)
+          (start .pre),
+    )
 
 pub serve-spec : {M : Type 1} → statement M
 serve-spec =
     tie.close
     (tie.spec
-    parse-as-requires
+    parse-requires
     enum-known-c
     enum-told
     refusal-requires

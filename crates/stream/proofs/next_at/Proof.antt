@@ -1,11 +1,12 @@
 -- By the tests, with the size of the fixed part as it was found. Assumes nothing.
+use Rattle.formats.specs.Format.{formatOf}
 use native.Mathlib.Omega.{arith}
 use mathlib.Core.Path.{refl}
 use borrow.Author.Needs.{needs}
 use Rattle.formats.proofs.Numbers.{numbers}
 use Rattle.stream.proofs.Place.{shows-short, shows-cut, shows-whole}
-use Rattle.stream.proofs.next_at_as.Statement.{statement}
-use Rattle.stream.proofs.next_at_as.Tie as tie
+use Rattle.stream.proofs.next_at.Statement.{statement}
+use Rattle.stream.proofs.next_at.Tie as tie
 
 returns : tie.Need-returns
 returns c = shows-short _ _ _ refl (omega arith)
@@ -23,7 +24,7 @@ add-read-u16 : tie.Need-add-read-u16
 add-read-u16 c = search needs
 
 read-u16-requires : tie.Need-read-u16-requires
-read-u16-requires c κs = omega (arith, numbers (c .before .before .before .before .args .f), c .before .fixed .ensures, c .if2 .left, c .before .before .if1 .left)
+read-u16-requires c κs = omega (arith, numbers (formatOf (c .before .before .before .before .args .v)), c .before .fixed .ensures, c .if2 .left, c .before .before .if1 .left)
 
 cast-payload : tie.Need-cast-payload
 cast-payload c = search needs
@@ -40,8 +41,8 @@ add-t10 c = search needs
 returns-4 : tie.Need-returns-4
 returns-4 c = shows-whole _ _ _ (c .before .before .before .fixed .ensures) _ (c .before .read-u16 .ensures) (omega arith)
 
-pub next-at-as-spec : {M : Type 1} → statement M
-next-at-as-spec =
+pub next-at-spec : {M : Type 1} → statement M
+next-at-spec =
     tie.close
     (tie.spec
     returns

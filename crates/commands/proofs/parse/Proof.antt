@@ -1,4 +1,5 @@
 -- Test by test. Assumes nothing.
+use Rattle.formats.specs.Format.{formatOf}
 use borrow.Author.Needs.{needs}
 use borrow.Author.Tests.{not-true, not-false}
 use Prim.Native.Nat.{ℕ, _-_}
@@ -8,8 +9,8 @@ use Rattle.lists.specs.Parts.{part, zeros}
 use Rattle.formats.proofs.Numbers.{numbers}
 use Rattle.commands.specs.declared.Parsed.the-variants.{Formed}
 use Rattle.commands.proofs.CommandBytes.{parsed-formed, parsed-malformed, formed-short, not-whole, not-blank, by-rules}
-use Rattle.commands.proofs.parse_as.Statement.{statement}
-use Rattle.commands.proofs.parse_as.Tie as tie
+use Rattle.commands.proofs.parse.Statement.{statement}
+use Rattle.commands.proofs.parse.Tie as tie
 
 fixed-requires : tie.Need-fixed-requires
 fixed-requires c κs = search needs
@@ -18,7 +19,7 @@ returns : tie.Need-returns
 returns c = sym (parsed-malformed _ _ (formed-short _ _ (omega (arith, c .before .fixed .ensures, c .if1 .taken))))
 
 fields-requires : tie.Need-fields-requires
-fields-requires c κs = let n = numbers (c .before .before .before .args .f) in omega (arith, c .before .fixed .ensures, c .if1 .left)
+fields-requires c κs = let n = numbers (formatOf (c .before .before .before .args .v)) in omega (arith, c .before .fixed .ensures, c .if1 .left)
 
 blank-at-requires : tie.Need-blank-at-requires
 blank-at-requires c κs = search needs
@@ -33,13 +34,13 @@ returns-2 : tie.Need-returns-2
 returns-2 c = sym (parsed-malformed _ _ (not-whole _ _ (c .before .before .before .fields .ensures) (c .before .before .before .before .before .fixed .ensures) (c .if2 .taken)))
 
 sub-all-zero : tie.Need-sub-all-zero
-sub-all-zero c = let n = numbers (c .before .before .before .before .before .before .before .args .f) in omega (arith, c .before .before .blank-at .ensures)
+sub-all-zero c = let n = numbers (formatOf (c .before .before .before .before .before .before .before .args .v)) in omega (arith, c .before .before .blank-at .ensures)
 
 part-all-zero-start : tie.Need-part-all-zero-start
-part-all-zero-start c = let n = numbers (c .before .before .before .before .before .before .before .args .f) in omega (arith, c .before .before .blank-at .ensures)
+part-all-zero-start c = let n = numbers (formatOf (c .before .before .before .before .before .before .before .args .v)) in omega (arith, c .before .before .blank-at .ensures)
 
 part-all-zero-end : tie.Need-part-all-zero-end
-part-all-zero-end c = let n = numbers (c .before .before .before .before .before .before .before .args .f) in omega (arith, c .before .before .before .before .before .fixed .ensures, c .before .before .before .before .if1 .left)
+part-all-zero-end c = let n = numbers (formatOf (c .before .before .before .before .before .before .before .args .v)) in omega (arith, c .before .before .before .before .before .fixed .ensures, c .before .before .before .before .if1 .left)
 
 all-zero-requires : tie.Need-all-zero-requires
 all-zero-requires c κs = search needs
@@ -69,8 +70,8 @@ returns-5 c =
     ap Formed (c .before .before .before .before .before .before .before .before .fields .ensures)
     ∙ sym (parsed-formed _ _ (by-rules _ bytes (c .before .before .before .before .before .before .before .before .fields .ensures) (c .before .before .before .before .before .before .before .before .before .before .fixed .ensures) (c .before .before .before .before .before .if2 .left) blank (not-false _ (c .before .before .if3 .left)) (c .before .well-formed .ensures) ∙ not-false _ (c .if4 .left)))
 
-pub parse-as-spec : {M : Type 1} → statement M
-parse-as-spec =
+pub parse-spec : {M : Type 1} → statement M
+parse-spec =
     tie.close
     (tie.spec
     fixed-requires

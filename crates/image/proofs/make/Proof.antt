@@ -6,8 +6,8 @@ use lib.ListN.{length}
 use borrow.Author.Tests.{not-true, not-false}
 use mathlib.Core.Path.{sym, _∙_}
 use borrow.Author.Needs.{needs}
-use Rattle.image.proofs.make_as.Statement.{statement}
-use Rattle.image.proofs.make_as.Tie as tie
+use Rattle.image.proofs.make.Statement.{statement}
+use Rattle.image.proofs.make.Tie as tie
 
 shape-ok-requires : tie.Need-shape-ok-requires
 shape-ok-requires c κs = search needs
@@ -40,8 +40,8 @@ returns-3 : tie.Need-returns-3
 returns-3 c = let accepted = made _ (c .before .before .before .before .before .before .before .before .before .args .cards) (c .before .before .before .before .before .before .before .before .before .args .room) (length (c .before .before .before .before .before .before .before .before .before .args .image .now)) (sym (c .before .before .before .before .before .before .before .shape-ok .ensures) ∙ not-false _ (c .before .before .before .before .before .before .if1 .left)) (c .before .before .before .before .if2 .left ∙ c .before .before .before .before .before .size-of .ensures) in
     (rw accepted, rw accepted (c .before .before .fill .ensures))
 
-pub make-as-spec : {M : Type 1} → statement M
-make-as-spec =
+pub make-spec : {M : Type 1} → statement M
+make-spec =
     tie.close
     (tie.spec
     shape-ok-requires
