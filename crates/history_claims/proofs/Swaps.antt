@@ -9,12 +9,14 @@ use Rattle.lists.specs.Parts.{Bytes}
 use Rattle.lists.proofs.Tests.{cases, to-T}
 use Rattle.image.specs.Image.{Cards, encode, decode, sound}
 use Rattle.image.specs.Image.{GoodCards}
-use Rattle.image_claims.proofs.Claims.{soundReadsBack, goodEncodes}
-use Rattle.model.specs.Serve.{serve, serveBy}
+use Rattle.image_claims.proofs.Claims.{soundReadsBack}
+use Rattle.model.specs.Serve.{serve}
 use Rattle.model.specs.Words.{Sent, Event, eventOf, imageAfter, history}
-use Rattle.model.specs.Claims.{SentBytes, AllBytes}
+use Rattle.model.specs.Claims.{SentBytes}
 use Rattle.model.proofs.Machine.{numberOn, cardsBy}
 use Rattle.model.proofs.Simulation.{good-more, same-event, same-image}
+use Rattle.model.proofs.Sound.{bytes-all}
+use Rattle.model.proofs.Versions.{turned}
 use Rattle.history_claims.specs.Swaps.{swap, Apart, Swapping}
 use Rattle.history_claims.proofs.Commute.{unseen-event, unseen-number, same-cards}
 
@@ -27,29 +29,9 @@ module _ (v : Format) where
   abbrev pub event : List ℕ → Sent → Event
   event image s = eventOf v s (serve v image (s .command) (s .lent))
 
-  -- An unsound image: number 9, zeros, and nothing written.
-  module _ (image : List ℕ) (s : Sent) (e : sound v image ≡ false) where
-    pub unsound-image : imageBy image s ≡ image
-    unfolding serve serveBy
-    unsound-image = rw e
-
-  -- An image of bytes stays one.
-  bytes-after : (image : List ℕ) (s : Sent) → Bytes image → SentBytes s → Bytes (imageBy image s)
-  bytes-after image s b bs = go (cases (sound v image))
-    where
-      go : (sound v image ≡ true) ⊎ (sound v image ≡ false) → Bytes (imageBy image s)
-      go (inr e) = subst Bytes (sym (unsound-image image s e)) b
-      go (inl e) =
-          let back = soundReadsBack v image b (to-T e) in
-          let cards : Cards = cardsBy v (numberOn v (decode v image) s) (decode v image) s in
-          let after : imageBy image s ≡ encode v cards =
-          subst (λ (i : List ℕ). imageBy i s ≡ encode v cards) (back .same) (same-image v (decode v image) s (back .good)) in
-          subst Bytes (sym after) (goodEncodes v cards (good-more v (decode v image) s (back .good) bs (numberOn v (decode v image) s) refl) .bytes)
-
-  bytes-all : (start : List ℕ) (sent : List Sent) → Bytes start → AllBytes sent → Bytes (imageAfter v start sent)
-  unfolding imageAfter
-  bytes-all start [] b bs = b
-  bytes-all start (s ∷ earlier) b bs = bytes-after (imageAfter v start earlier) s (bytes-all start earlier b (bs .1)) (bs .0)
+  -- An unsound image: nothing is written.
+  pub unsound-image : (image : List ℕ) (s : Sent) → sound v image ≡ false → imageBy image s ≡ image
+  unsound-image image s e = turned v image (s .command) (s .lent) e .kept
 
   -- ---- two requests
 

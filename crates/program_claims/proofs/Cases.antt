@@ -42,7 +42,7 @@ longer = let n : length (replicate {A = ℕ} 65537 0) ≡ 65537 = length-replica
 
 pub short-cases : ShortCases
 unfolding outputOf quoted decimalWithin decimal firstLine lineOf linesFrom lastLine runs numbersOf goodFront commands commandsWithin endOf endWithin whole extent serve serveBy stepped sound headerSound cardSound translationSound tailZero decode cardAt entryAt readEntry encode bodies pad entryBytes header shapeOk fresh replied raise entrySound commandBytes formed payload fieldsOf wellFormed all allFrom le toLe part splice table spread every zeros
-short-cases = record { empty = refl; alone = refl; lacking = refl; longest = longest; longer = longer }
+short-cases = record { empty = refl; alone = refl; lacking = refl; longest = longest; longer = longer; second = refl; second-lacking = refl }
 
 pub run-cases : RunCases
 unfolding runs commands commandsWithin whole extent serve serveBy stepped sound headerSound cardSound translationSound tailZero decode cardAt entryAt readEntry encode bodies pad entryBytes header shapeOk fresh replied raise entrySound commandBytes formed payload fieldsOf wellFormed all allFrom le toLe part splice table spread every zeros

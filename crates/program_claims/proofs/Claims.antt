@@ -80,7 +80,7 @@ never-empty input = go (ltb mostInput (length input)) (goodFront input)
 
 no-version-2 : NoVersion2
 unfolding outputOf
-no-version-2 image rest holds h = rw (le-ltb mostInput (length (image ++ rest)) h, noOldFront image rest holds)
+no-version-2 input other h = rw (le-ltb mostInput (length input) h, noOldFront input other)
 
 pub claims : ProgramClaims
 claims =

@@ -1,20 +1,20 @@
 -- A run that stopped for want of lines and the run of the rest are one run. Assumes nothing.
-use Prim.Native.Nat.{ℕ, suc, _+_, _-_, _/_, _<_, _≤_}
+use Prim.Native.Nat.{ℕ, _+_, _-_, _/_}
 use native.Mathlib.Omega.{arith}
 use native.Mathlib.Nat.{zero-add}
 use mathlib.Core.Path.{_≡_, refl, sym, ap, subst, _∙_}
 use mathlib.Core.List.{List, [], _∷_, _++_, append-assoc}
-use lib.ListN.{length, take, drop, getD, length-append, length-drop, take-append-drop}
+use lib.ListN.{length, take, drop, length-append, length-drop, take-append-drop}
 use lib.Seq.{drop-append-seam, getD-drop}
 use Rattle.formats.specs.Format.{Format}
-use Rattle.lists.specs.Parts.{part, spread}
+use Rattle.lists.specs.Parts.{part}
 use Rattle.lists.proofs.Parts.{part-join}
 use Rattle.lists.proofs.Spread.{spread-append}
 use Rattle.model.specs.Serve.{serve}
 use Rattle.stream.specs.Stream.{commands, endOf, endToEnd, OneCommand}
 use Rattle.stream.proofs.Walks as walk
 use Rattle.store.specs.Runs.{Run, runs, perLine, numbersOf}
-use Rattle.store.specs.Ran.{judgedOf, ranOf, lined}
+use Rattle.store.specs.Ran.{judgedOf, lined}
 use Rattle.program_claims.specs.Claims.{runWithin, restOf, runOfRest, GoingOn}
 
 -- A run of some commands and then of others.

@@ -2,38 +2,35 @@
 -- Assumes nothing.
 use Prim.Native.Nat.{ℕ, zero, suc, _+_, _≤_, _<_}
 use native.Mathlib.Omega.{arith}
-use mathlib.Core.Path.{_≡_, refl, sym, subst, ap, _∙_}
+use mathlib.Core.Path.{_≡_, refl, sym, subst, _∙_}
 use mathlib.Core.Logic.{_⊎_, inl, inr}
 use mathlib.Core.List.{List, [], _∷_}
-use mathlib.Core.Bool.{Bool, true, false, cond, not, _&&_, _||_}
+use mathlib.Core.Bool.{Bool, true, false, not, _&&_, _||_}
 use borrow.Author.Tests.{ne-eqb, ltb-true, not-true}
 use lib.Dec.{T, eqb, ltb, lit<}
 use lib.ListN.{length, take, drop, replicate, length-replicate}
 use Rattle.formats.specs.Format.{V1, translations}
 use Rattle.lists.specs.Parts.{Bytes}
-use Rattle.lists.proofs.Bytes.{Bytes-nil, Bytes-take, Bytes-drop, Bytes-replicate, Bytes-splice}
+use Rattle.lists.proofs.Bytes.{Bytes-take, Bytes-drop, Bytes-replicate}
 use Rattle.lists.proofs.Parts.{length-splice}
 use Rattle.lists.proofs.Table.{given, first-all}
 use Rattle.lists.proofs.Tests.{to-T, from-T, cases, or-none, or-cases, and-right, not-in}
 use Rattle.commands.specs.Command.{original, translation, readsTranslation, reads}
 use Rattle.commands.specs.Bytes.{fieldsOf, formed}
 use Rattle.commands.specs.declared.Command.{Command}
-use Rattle.guard.specs.Replies.{replied}
 use Rattle.guard.specs.declared.Answer.{Answer}
 use Rattle.image.specs.Bytes.{roomOf}
-use Rattle.image.specs.Image.{Cards, text, encode, decode, sound, fresh}
-use Rattle.image.specs.Image.{GoodCard, GoodCards, freshCards}
+use Rattle.image.specs.Image.{Cards, encode, decode, sound}
+use Rattle.image.specs.Image.{GoodCards}
 use Rattle.image.proofs.Bytes.{Lengths, lengths}
-use Rattle.image_claims.proofs.Claims.{soundReadsBack, goodEncodes, freshSound}
+use Rattle.image_claims.proofs.Claims.{soundReadsBack, goodEncodes}
 use Rattle.image.proofs.Decode.{room-decode}
 use Rattle.model.specs.Serve.{serve, cardOf, entryOf, requestRows, textRead, replyBy}
-use Rattle.model.specs.Words.{Sent, Event, logOf}
+use Rattle.model.specs.Words.{Sent}
 use Rattle.lists.specs.Search.{any, none}
-use Rattle.model.specs.Claims.{AllBytes}
-use Rattle.model.proofs.Demand.{demand3}
 use Rattle.model.proofs.Machine.{numberOn, cardsBy, passed}
-use Rattle.model.proofs.Simulation.{good-more, same-event, same-image}
-use Rattle.stream.specs.Stream.{commands, commandsWithin, extent, whole}
+use Rattle.model.proofs.Simulation.{good-more}
+use Rattle.stream.specs.Stream.{commands}
 use Rattle.image.specs.Image.{claimed}
 use Rattle.store.specs.Runs.{runs}
 use Rattle.image.proofs.InFront.{good-front}

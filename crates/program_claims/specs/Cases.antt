@@ -38,13 +38,16 @@ abbrev pub CaseP : Type 0
 CaseP = outputOf inputP ≡ outputP
 
 -- Inputs without a line for a command: none at all, the image alone, an image that lacks its last byte, as many zeros as an input may have bytes,
--- and one more.
+-- one more, and images of version 2.
 pub record ShortCases : Type 0 where
   pub empty : outputOf [] ≡ quoted "bad store\n"
   pub alone : outputOf (caseP .start) ≡ quoted "cards 1\nend\n"
   pub lacking : outputOf (take 79 (caseP .start)) ≡ quoted "bad store\n"
   pub longest : outputOf (replicate 65536 0) ≡ quoted "bad store\n"
   pub longer : outputOf (replicate 65537 0) ≡ quoted "too long\n"
+  -- images of version 2: a fresh one, and one that lacks its last byte
+  pub second : outputOf (fresh V2 1 16) ≡ quoted "bad store\n"
+  pub second-lacking : outputOf (take 143 (fresh V2 1 16)) ≡ quoted "bad store\n"
 
 -- Rule 8.7: of case P's stream, with a place for no line, for one and a part of another, for all four and for more; where each run stops.
 abbrev pub ran : ℕ → ℕ → Ran

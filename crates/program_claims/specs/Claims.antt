@@ -6,11 +6,11 @@ use mathlib.Core.List.{List, [], _∷_, _++_, map, reverse}
 use mathlib.Core.Bool.{true}
 use lib.Dec.{T, eqb}
 use lib.ListN.{length, take, drop, getD, replicate}
-use Rattle.formats.specs.Format.{Format, V1, V2}
+use Rattle.formats.specs.Format.{Format, V1, version}
 use Rattle.lists.specs.Parts.{Bytes}
 use Rattle.guard.specs.declared.Answer.{Answer}
 use Rattle.image.specs.Layout.{shapeOk}
-use Rattle.image.specs.Bytes.{countOf, roomOf}
+use Rattle.image.specs.Bytes.{versionOf, countOf, roomOf}
 use Rattle.image.specs.Image.{sound, fresh}
 use Rattle.model.specs.Serve.{serve}
 use Rattle.model.specs.Words.{Sent, Event, imageAfter, history}
@@ -137,10 +137,10 @@ Prints =
 abbrev pub NeverEmpty : Type 0
 NeverEmpty = (input : List ℕ) → 0 < length (outputOf input)
 
--- An input that begins with an image of version 2 gets the line for a bad store, and no text.
+-- An input whose header has not the number 1, as an image of version 2 has not, sound or damaged, gets the line for a bad store, and no text.
 abbrev pub NoVersion2 : Type 0
 NoVersion2 =
-    (image rest : List ℕ) → T (sound V2 image) → length (image ++ rest) ≤ mostInput → outputOf (image ++ rest) ≡ quoted "bad store\n"
+    (input : List ℕ) → (versionOf input ≡ version V1 → ⊥) → length input ≤ mostInput → outputOf input ≡ quoted "bad store\n"
 
 pub record ProgramClaims : Type 0 where
   pub stepwise : (v : Format) (image reply : List ℕ) (cs : List (List ℕ)) → Stepwise v image reply cs
