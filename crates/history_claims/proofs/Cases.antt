@@ -7,8 +7,8 @@ use mathlib.Core.Bool.{Bool, true, false, cond, not, _&&_, _||_}
 use borrow.Author.Tests.{ltb-true, le-ltb, ne-eqb}
 use lib.Dec.{T, ltb, eqb, lit≤}
 use lib.ListN.{length, replicate, length-replicate}
-use Rattle.formats.specs.Format.{V1}
-use Rattle.lists.specs.Parts.{part, splice, spread, zeros, Bytes}
+use Rattle.formats.specs.Format.{V1, V2}
+use Rattle.lists.specs.Parts.{part, splice, table, spread, every, zeros, Bytes}
 use Rattle.lists.specs.Le.{le, toLe}
 use Rattle.lists.specs.Search.{any, none}
 use Rattle.lists.specs.Table.{row, all, allFrom, first}
@@ -17,14 +17,16 @@ use Rattle.lists.proofs.Table.{first-then}
 use Rattle.lists.proofs.Tests.{T-and-left, T-and-right, from-T, never-both, not-in}
 use Rattle.commands.specs.Command.{wellFormed}
 use Rattle.commands.specs.Bytes.{fieldsOf, payload, formed, commandBytes}
+use Rattle.guard.specs.Entry.{entrySound}
 use Rattle.guard.specs.Judge.{raise, entryRows}
 use Rattle.guard.specs.Replies.{replied}
 use Rattle.guard.specs.declared.Entry.{Entry}
 use Rattle.stream.specs.Stream.{extent, whole, commandsWithin, commands, endWithin, endOf}
 use Rattle.image.specs.Layout.{shapeOk}
-use Rattle.image.specs.Bytes.{header}
-use Rattle.image.specs.Image.{fresh}
-use Rattle.model.specs.Cases.{readOriginal, long}
+use Rattle.image.specs.Bytes.{header, entryBytes, pad, readEntry, entryAt}
+use Rattle.image.specs.Image.{bodies, encode, cardAt, decode, tailZero, translationSound, cardSound, headerSound, sound, fresh}
+use Rattle.model.specs.Cases.{readOriginal, long, text205, names, writesIn, readsIn, run}
+use Rattle.model.specs.Serve.{stepped, serveBy, serve}
 use Rattle.model.specs.Words.{Sent}
 use Rattle.model.specs.Claims.{SentBytes, AllBytes}
 use Rattle.history.specs.WorkedOut.{highest, timesWritten, textFrom, entryFrom}
@@ -33,7 +35,7 @@ use Rattle.history.specs.Lent.{historySize, keptIn, bytesBy, usedBy, historySer
 use Rattle.history.proofs.Raised.{entry-here}
 use Rattle.history_claims.specs.Claims.{keptAfter, engineEvent, engineEvents, engineLog, gave22}
 use Rattle.history_claims.specs.Swaps.{Apart, SameSequences}
-use Rattle.history_claims.specs.Cases.{KeptLimits, again, TwoHundred, wrote205, WorkedBytes, onCard, malformed, ApartCases}
+use Rattle.history_claims.specs.Cases.{KeptLimits, again, TwoHundred, wrote205, WorkedBytes, onCard, malformed, inLanguage3, gotLanguage3, ApartCases}
 use Rattle.history_claims.proofs.Claims.{equals-guard, first-full}
 use Rattle.history_claims.proofs.Lent.{engine-over-bytes, lent-equals-guard}
 use Rattle.history_claims.proofs.Swaps.{swapping}
@@ -202,7 +204,7 @@ no-command : SentBytes malformed
 no-command = sent-bytes malformed tt tt
 
 -- What each request is for.
-card-1 : (s : Sent) → fieldsOf V1 (onCard 1 s .command) .card ≡ 1 → fieldsOf V1 (wrote205 .command) .card ≡ 0 → Apart (onCard 1 s) wrote205
+card-1 : (s : Sent) → fieldsOf V1 (onCard 1 s .command) .card ≡ 1 → fieldsOf V1 (wrote205 .command) .card ≡ 0 → Apart V1 (onCard 1 s) wrote205
 card-1 s h k p q z = let never : _≡_ {A = ℕ} 1 0 = sym h ∙ z ∙ k in absurd (omega (arith, never))
 
 reads-1 : fieldsOf V1 (onCard 1 (readOriginal (long 3)) .command) .card ≡ 1
@@ -221,24 +223,62 @@ not-formed : formed V1 (malformed .command) ≡ false
 unfolding formed le part
 not-formed = refl
 
-either : SameSequences (onCard 1 wrote205 ∷ malformed ∷ wrote205 ∷ []) (wrote205 ∷ onCard 1 wrote205 ∷ [])
+either : SameSequences V1 (onCard 1 wrote205 ∷ malformed ∷ wrote205 ∷ []) (wrote205 ∷ onCard 1 wrote205 ∷ [])
 unfolding commandBytes formed fieldsOf wellFormed all allFrom le toLe part splice zeros
 either zero = refl
 either (suc zero) = refl
 either (suc (suc k)) = rw (ne-eqb 0 (suc (suc k)) (λ z. omega arith), ne-eqb 1 (suc (suc k)) (λ z. omega arith))
 
+-- Version 2.
+fresh-bytes-2 : Bytes (fresh V2 2 16)
+unfolding fresh header toLe
+fresh-bytes-2 = bytes-by (fresh V2 2 16) tt
+
+all-bytes-2 : AllBytes inLanguage3
+unfolding commandBytes toLe splice
+all-bytes-2 = (
+  sent-bytes (onCard 1 (readsIn 3)) tt tt,
+  (
+    sent-bytes (writesIn 1 3) tt tt,
+    (
+      sent-bytes (onCard 1 (writesIn 1 3)) tt tt,
+      (
+        sent-bytes (onCard 1 (names 3 0 0 text205 [])) tt tt,
+        (sent-bytes (names 3 0 0 text205 []) tt tt, tt),
+      ),
+    ),
+  ),
+)
+
+reads-card : fieldsOf V2 (onCard 1 (readsIn 3) .command) .card ≡ 1
+unfolding commandBytes fieldsOf le toLe part splice
+reads-card = refl
+
+writes-card : fieldsOf V2 (writesIn 1 3 .command) .card ≡ 0
+unfolding commandBytes fieldsOf le toLe part
+writes-card = refl
+
+apart-2 : Apart V2 (onCard 1 (readsIn 3)) (writesIn 1 3)
+apart-2 p q z = let never : _≡_ {A = ℕ} 1 0 = sym reads-card ∙ z ∙ writes-card in absurd (omega (arith, never))
+
+accepted-2 : run V2 (fresh V2 2 16) (reverse inLanguage3) ≡ gotLanguage3
+unfolding run serve serveBy stepped sound headerSound cardSound translationSound tailZero decode cardAt entryAt readEntry encode bodies pad entryBytes header shapeOk fresh replied raise entrySound commandBytes formed payload fieldsOf wellFormed all allFrom le toLe part splice table spread every zeros
+accepted-2 = refl
+
 pub apart-cases : ApartCases
 apart-cases =
     record {
       cards-apart =
-          swapping (fresh V1 2 16) fresh-bytes (onCard 1 (readOriginal (long 3)) ∷ wrote205 ∷ []) (read-1, (write-0, tt)) 0
+          swapping V1 (fresh V1 2 16) fresh-bytes (onCard 1 (readOriginal (long 3)) ∷ wrote205 ∷ []) (read-1, (write-0, tt)) 0
           (card-1 (readOriginal (long 3)) reads-1 writes-0);
       malformed-apart =
-          swapping (fresh V1 2 16) fresh-bytes (again ∷ wrote205 ∷ malformed ∷ []) (again-bytes, (write-0, (no-command, tt))) 1
+          swapping V1 (fresh V1 2 16) fresh-bytes (again ∷ wrote205 ∷ malformed ∷ []) (again-bytes, (write-0, (no-command, tt))) 1
           (λ p q z. never-both q not-formed);
       unsound-apart =
-          swapping (1 ∷ []) (bytes-by (1 ∷ []) tt) (onCard 1 again ∷ wrote205 ∷ []) (again-1, (write-0, tt)) 0 (card-1 again agains-1 writes-0);
+          swapping V1 (1 ∷ []) (bytes-by (1 ∷ []) tt) (onCard 1 again ∷ wrote205 ∷ []) (again-1, (write-0, tt)) 0 (card-1 again agains-1 writes-0);
       either-order =
-          sequences (fresh V1 2 16) fresh-bytes (onCard 1 wrote205 ∷ malformed ∷ wrote205 ∷ []) (wrote205 ∷ onCard 1 wrote205 ∷ [])
+          sequences V1 (fresh V1 2 16) fresh-bytes (onCard 1 wrote205 ∷ malformed ∷ wrote205 ∷ []) (wrote205 ∷ onCard 1 wrote205 ∷ [])
           (write-1, (no-command, (write-0, tt))) (write-0, (write-1, tt)) either;
+      languages-apart = swapping V2 (fresh V2 2 16) fresh-bytes-2 inLanguage3 all-bytes-2 0 apart-2;
+      languages-accepted = accepted-2;
     }

@@ -5,14 +5,14 @@ use mathlib.Core.Path.{_≡_}
 use mathlib.Core.List.{List, [], _∷_, _++_, reverse}
 use mathlib.Core.Bool.{true, false}
 use lib.ListN.{replicate}
-use Rattle.formats.specs.Format.{V1, fixed}
+use Rattle.formats.specs.Format.{V1, V2, fixed}
 use Rattle.lists.specs.Parts.{splice}
 use Rattle.lists.specs.Le.{toLe}
 use Rattle.lists.specs.Search.{none}
 use Rattle.stamps.specs.Stamp.{shared, exclusive}
 use Rattle.image.specs.Image.{fresh}
 use Rattle.model.specs.Words.{Sent}
-use Rattle.model.specs.Cases.{pair, request, got, stamp1, stamp2, verify, verifyOpening, writeOriginal, writeTranslation, readOriginal, text205, text401, long}
+use Rattle.model.specs.Cases.{pair, request, got, stamp1, stamp2, verify, verifyOpening, writeOriginal, writeTranslation, readOriginal, text205, text401, long, names, gotIn, letters, writesIn, readsIn, run, Got}
 use Rattle.history.specs.Engine.{overLimits, deduced}
 use Rattle.history.specs.Lent.{historySize, keptIn, historyServe}
 use Rattle.history_claims.specs.Claims.{keptAfter, engineEvent, engineLog, gave22, EqualSoFar, FirstRefusal}
@@ -87,10 +87,27 @@ onCard k s = record { command = splice 2 (toLe 2 k) (s .command); lent = s .lent
 abbrev pub malformed : Sent
 malformed = record { command = 5 ∷ []; lent = long 2 }
 
+-- In version 2: both originals and language 3 of card 1 are written; then language 3 of card 0 is written, and that of card 1 is read. Latest first.
+abbrev pub inLanguage3 : List Sent
+inLanguage3 =
+    onCard 1 (readsIn 3)
+    ∷ writesIn 1 3
+    ∷ onCard 1 (writesIn 1 3)
+    ∷ onCard 1 (names 3 0 0 text205 [])
+    ∷ names 3 0 0 text205 []
+    ∷ []
+
+-- What they get, in the order in which they are sent.
+abbrev pub gotLanguage3 : List Got
+gotLanguage3 = gotIn 0 1 0 0 [] ∷ gotIn 0 1 0 0 [] ∷ gotIn 0 1 1 0 [] ∷ gotIn 0 1 1 0 [] ∷ gotIn 0 1 1 4 (letters 3) ∷ []
+
 -- A write of card 0 and a read of card 1 are swapped; so are a malformed request and a write; and two requests to bytes that are no image. Malformed
 -- requests aside, two writes may come in either order.
 pub record ApartCases : Type 0 where
-  pub cards-apart : Undisturbed (fresh V1 2 16) (onCard 1 (readOriginal (long 3)) ∷ wrote205 ∷ []) 0
-  pub malformed-apart : Undisturbed (fresh V1 2 16) (again ∷ wrote205 ∷ malformed ∷ []) 1
-  pub unsound-apart : Undisturbed (1 ∷ []) (onCard 1 again ∷ wrote205 ∷ []) 0
-  pub either-order : SameByCard (fresh V1 2 16) (onCard 1 wrote205 ∷ malformed ∷ wrote205 ∷ []) (wrote205 ∷ onCard 1 wrote205 ∷ [])
+  pub cards-apart : Undisturbed V1 (fresh V1 2 16) (onCard 1 (readOriginal (long 3)) ∷ wrote205 ∷ []) 0
+  pub malformed-apart : Undisturbed V1 (fresh V1 2 16) (again ∷ wrote205 ∷ malformed ∷ []) 1
+  pub unsound-apart : Undisturbed V1 (1 ∷ []) (onCard 1 again ∷ wrote205 ∷ []) 0
+  pub either-order : SameByCard V1 (fresh V1 2 16) (onCard 1 wrote205 ∷ malformed ∷ wrote205 ∷ []) (wrote205 ∷ onCard 1 wrote205 ∷ [])
+  -- the last two of version 2 are swapped, and all five are accepted; the read shows what was written for its card
+  pub languages-apart : Undisturbed V2 (fresh V2 2 16) inLanguage3 0
+  pub languages-accepted : run V2 (fresh V2 2 16) (reverse inLanguage3) ≡ gotLanguage3

@@ -165,7 +165,7 @@ places f image k holds below =
       lengths = λ t h. lengths c (entryAt f image k t) (entry-holds f image holds k below t h);
     }
 
-entry-fits : (f : Format) (image : List ℕ) (k t : ℕ) → Bytes image → FitsEntry (entryAt f image k t)
+pub entry-fits : (f : Format) (image : List ℕ) (k t : ℕ) → Bytes image → FitsEntry (entryAt f image k t)
 unfolding entryAt readEntry
 entry-fits f image k t b =
     let own = Bytes-part (entryPlace f k) (entrySize f) image b in

@@ -43,9 +43,12 @@ entryBytes f see = pairBytes (see 0 .pair) ++ entryMark (see 0 .mark) ++ spread 
 unfoldable pub pad : ℕ → List ℕ → List ℕ
 pad room text = take room (text ++ replicate room 0)
 
--- ---- What the bytes of an image say: N and C, and the entry of a card (rules 2.3 and 2.4).
+-- ---- What the bytes of an image say: its version, N and C, and the entry of a card (rules 2.3 and 2.4).
 
--- N and C as the header says.
+-- The version, N and C as the header says.
+abbrev pub versionOf : List ℕ → ℕ
+versionOf image = field 4 2 image
+
 abbrev pub countOf : List ℕ → ℕ
 countOf image = field 6 2 image
 

@@ -18,7 +18,7 @@ use Rattle.guard.specs.declared.Entry.{Entry}
 use Rattle.image.specs.declared.Dimensions.{Dimensions}
 use Rattle.formats.specs.Format.{Format, V1, version, translations, entrySize}
 use Rattle.image.specs.Layout.{sides, sizeOf, shapeOk, entryPlace, entryEnd, bodyPlace, headerSize}
-use Rattle.image.specs.Bytes.{countOf, roomOf, entryAt, magic, header, entryBytes, pad}
+use Rattle.image.specs.Bytes.{versionOf, countOf, roomOf, entryAt, magic, header, entryBytes, pad}
 
 -- A translation of a card: the edition that it was made from, and its text.
 pub record Translation : Type 0 where
@@ -153,7 +153,7 @@ unfoldable pub headerSound : Format → List ℕ → Bool
 headerSound f image =
     all
     (eqb (field 0 4 image) (le magic)
-    ∷ eqb (field 4 2 image) (version f)
+    ∷ eqb (versionOf image) (version f)
     ∷ shapeOk f (countOf image) (roomOf image)
     ∷ zeros (part 10 6 image)
     ∷ eqb (length image) (sizeOf f (countOf image) (roomOf image))

@@ -3,15 +3,15 @@ use Prim.Native.Nat.{ℕ, _+_, _*_, _-_, _/_, _<_}
 use native.Mathlib.Omega.{arith}
 use mathlib.Core.Path.{_≡_, refl, sym, ap, _∙_, subst}
 use mathlib.Core.Logic.{_⊎_, inl, inr}
-use mathlib.Core.List.{List, _++_}
+use mathlib.Core.List.{List}
 use mathlib.Core.Bool.{Bool, true, false, _&&_}
 use borrow.Author.Tests.{eqb-true, ne-eqb}
 use lib.Dec.{T, leb, lit<, leb·zero}
 use lib.ListN.{length, take, drop, getD, replicate, length-replicate, getD-replicate}
 use lib.Seq.{drop-at}
 use Rattle.lists.specs.Parts.{Bytes}
-use Rattle.lists.specs.Le.{le, field}
-use Rattle.lists.proofs.Parts.{part-take, part-append-left}
+use Rattle.lists.specs.Le.{le}
+use Rattle.lists.proofs.Parts.{part-take}
 use Rattle.lists.proofs.Spread.{table-ext}
 use Rattle.lists.proofs.Tests.{to-T, from-T, cases, all-out, all-fails-at}
 use Rattle.lists.specs.Table.{all, allFrom, listed}
@@ -20,9 +20,9 @@ use Rattle.guard.specs.Entry.{entrySound, noEntry, FitsEntry}
 use Rattle.guard.specs.declared.Entry.{Entry}
 use Rattle.formats.specs.Format.{Format, V1, V2, version, translations}
 use Rattle.image.specs.Layout.{shapeOk, sizeOf, headerSize}
-use Rattle.image.specs.Bytes.{header, countOf}
+use Rattle.image.specs.Bytes.{header, versionOf, countOf}
 use Rattle.image.specs.Image.{noTranslation, view, noCard, encode, cardAt, decode, headerSound, sound, fresh, GoodCard, GoodCards, freshCards, makes, makeNumber, claimed, goodFront}
-use Rattle.image_claims.specs.Claims.{SoundReadsBack, GoodEncodes, OneImage, OneVersion, NoOldFront, FreshSound, LargestImage, makeNumbers, MakeListed}
+use Rattle.image_claims.specs.Claims.{SoundReadsBack, GoodEncodes, OneImage, NumberTells, OneVersion, NoOldFront, FreshSound, LargestImage, makeNumbers, MakeListed}
 use Rattle.image.proofs.Shape.{shape}
 use Rattle.image.proofs.Cards.{Bytes-encode, sound-encode, decode-encode}
 use Rattle.image.proofs.Encode.{length-header, length-encode}
@@ -42,14 +42,14 @@ oneImage f x y bx by sx sy n c same =
     sym (encode-decode f x bx sx) ∙ ap (encode f) cards ∙ encode-decode f y by sy
 
 -- The number of an image's version.
-version-is : (f : Format) (image : List ℕ) → T (sound f image) → field 4 2 image ≡ version f
+pub version-is : (f : Format) (image : List ℕ) → T (sound f image) → versionOf image ≡ version f
 unfolding headerSound
-version-is f image holds = eqb-true (field 4 2 image) (version f) (all-out _ (header-holds f image holds) 1)
+version-is f image holds = eqb-true (versionOf image) (version f) (all-out _ (header-holds f image holds) 1)
 
-other-fails : (g : Format) (image : List ℕ) → (field 4 2 image ≡ version g → ⊥) → sound g image ≡ false
+pub number-tells : NumberTells
 unfolding headerSound sound
-other-fails g image other =
-    let fails : headerSound g image ≡ false = all-fails-at _ 1 (ne-eqb (field 4 2 image) (version g) other) in
+number-tells g image other =
+    let fails : headerSound g image ≡ false = all-fails-at _ 1 (ne-eqb (versionOf image) (version g) other) in
     rw fails
 
 versions-apart : (f g : Format) → (f ≡ g → ⊥) → version f ≡ version g → ⊥
@@ -59,25 +59,19 @@ versions-apart V2 V1 apart e = absurd (omega arith)
 versions-apart V2 V2 apart e = apart refl
 
 pub oneVersion : OneVersion
-oneVersion f g apart image holds = other-fails g image (λ e. versions-apart f g apart (sym (version-is f image holds) ∙ e))
+oneVersion f g apart image holds = number-tells g image (λ e. versions-apart f g apart (sym (version-is f image holds) ∙ e))
 
 pub noOldFront : NoOldFront
 unfolding goodFront
-noOldFront image rest holds = go (cases (leb headerSize (length (image ++ rest)) && leb (claimed (image ++ rest)) (length (image ++ rest))))
+noOldFront bytes other = go (cases (leb headerSize (length bytes) && leb (claimed bytes) (length bytes)))
   where
-    bytes : List ℕ
-    bytes = image ++ rest
-
-    -- The version stands in the header, which both have.
-    says-2 : field 4 2 (take (claimed bytes) bytes) ≡ 2
-    says-2 =
-        ap le (part-take 4 2 (claimed bytes) bytes (omega arith))
-        ∙ ap le (part-append-left 4 2 image rest (omega (arith, long V2 image holds)))
-        ∙ version-is V2 image holds
+    -- The number stands in the header, which an image that is claimed has.
+    same : versionOf (take (claimed bytes) bytes) ≡ versionOf bytes
+    same = ap le (part-take 4 2 (claimed bytes) bytes (omega arith))
 
     go : ((leb headerSize (length bytes) && leb (claimed bytes) (length bytes)) ≡ true) ⊎ ((leb headerSize (length bytes) && leb (claimed bytes) (length bytes)) ≡ false)
         → (leb headerSize (length bytes) && leb (claimed bytes) (length bytes) && sound V1 (take (claimed bytes) bytes)) ≡ false
-    go (inl e) = rw e (other-fails V1 (take (claimed bytes) bytes) (λ one. absurd (omega (arith, says-2, one))))
+    go (inl e) = rw e (number-tells V1 (take (claimed bytes) bytes) (λ one. other (sym same ∙ one)))
     go (inr e) = rw e
 
 -- ---- a fresh image

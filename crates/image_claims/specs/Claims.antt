@@ -2,16 +2,16 @@
 -- Assumes nothing.
 use Prim.Native.Nat.{ℕ, _%_, _<_, _≤_}
 use mathlib.Core.Path.{_≡_}
-use mathlib.Core.List.{List, [], _∷_, _++_}
+use mathlib.Core.List.{List, [], _∷_}
 use lib.ListN.{length, drop, getD}
 use mathlib.Core.Bool.{false}
 use lib.Dec.{T}
 use Rattle.lists.specs.Parts.{Bytes}
 use Rattle.lists.specs.Table.{listed}
-use Rattle.formats.specs.Format.{Format, V1, V2}
+use Rattle.formats.specs.Format.{Format, V1, version}
 use Rattle.image.specs.Image.{Cards, GoodCards, encode, decode, sound, cardAt, fresh, freshCards, makeNumber, goodFront}
 use Rattle.image.specs.Layout.{shapeOk, sizeOf, headerSize}
-use Rattle.image.specs.Bytes.{countOf, roomOf}
+use Rattle.image.specs.Bytes.{versionOf, countOf, roomOf}
 
 -- A sound image reads back to cards by the rules, and those encode to the same bytes.
 pub record ReadsBack (f : Format) (image : List ℕ) : Type 0 where
@@ -39,12 +39,16 @@ OneImage =
     → ((k : ℕ) → k < countOf a → cardAt f a k ≡ cardAt f b k)
     → a ≡ b
 
--- No bytes are a sound image of two versions, and none that begin with a sound image of version 2 begin with one of version 1.
+-- Rule 15.13: bytes whose header has not the number of a version are no sound image of it, whatever else stands there. So no bytes are a sound image of two versions, and
+-- none whose header has not the number 1 begin with an image of version 1.
+abbrev pub NumberTells : Type 0
+NumberTells = (g : Format) (image : List ℕ) → (versionOf image ≡ version g → ⊥) → sound g image ≡ false
+
 abbrev pub OneVersion : Type 0
 OneVersion = (f g : Format) → (f ≡ g → ⊥) → (image : List ℕ) → T (sound f image) → sound g image ≡ false
 
 abbrev pub NoOldFront : Type 0
-NoOldFront = (image rest : List ℕ) → T (sound V2 image) → goodFront (image ++ rest) ≡ false
+NoOldFront = (bytes : List ℕ) → (versionOf bytes ≡ version V1 → ⊥) → goodFront bytes ≡ false
 
 -- A fresh image is the bytes of empty cards by the rules, is sound, and is all zero after its header.
 pub record Fresh (f : Format) (n c : ℕ) : Type 0 where

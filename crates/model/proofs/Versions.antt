@@ -10,21 +10,21 @@ use Rattle.commands.proofs.Languages.{writes-named, writes-other, one-write, no
 use Rattle.guard.specs.Replies.{replied}
 use Rattle.formats.specs.Format.{Format}
 use Rattle.image.specs.Image.{sound}
-use Rattle.image_claims.proofs.Claims.{oneVersion}
+use Rattle.image_claims.proofs.Claims.{number-tells}
 use Rattle.lists.specs.Table.{first}
 use Rattle.model.specs.Serve.{serve, serveBy, storeRows}
 use Rattle.model.specs.Words.{Event, commandOf, accepted, wrote}
 use Rattle.model.specs.Claims.{Turned, OtherVersion, EachByItself}
 
 -- What is no sound image is answered 9.
-turned : (g : Format) (image command reply : List ℕ) → sound g image ≡ false → Turned g image command reply
+pub turned : (g : Format) (image command reply : List ℕ) → sound g image ≡ false → Turned g image command reply
 unfolding serve serveBy replied
 turned g image command reply e =
     let nine : first (storeRows g image command (length reply)) ≡ 9 = rw e in
     record { number = rw nine; kept = rw nine; silent = rw nine }
 
 pub other-version : OtherVersion
-other-version f g apart image command reply holds = turned g image command reply (oneVersion f g apart image holds)
+other-version g image command reply other = turned g image command reply (number-tells g image other)
 
 -- A command that writes one language writes no other.
 one-language : (c : Command) (l m : Language) → (l ≡ m → ⊥) → writes l c ≡ true → writes m c ≡ false

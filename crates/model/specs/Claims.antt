@@ -10,8 +10,9 @@ use lib.Dec.{T}
 use Rattle.lists.specs.Parts.{Bytes}
 use Rattle.commands.specs.Command.{Language, translation, reads, writes}
 use Rattle.lists.specs.Table.{applies, earlier, noRow}
-use Rattle.formats.specs.Format.{Format, V1}
+use Rattle.formats.specs.Format.{Format, V1, version}
 use Rattle.image.specs.Layout.{shapeOk}
+use Rattle.image.specs.Bytes.{versionOf}
 use Rattle.image.specs.Image.{sound}
 use Rattle.model.specs.Serve.{serve, storeRows}
 use Rattle.lists.specs.Search.{none}
@@ -139,14 +140,14 @@ StaysSound =
     (f : Format) (image command reply : List ℕ) → Bytes image → Bytes command → Bytes reply → sound f image ≡ true
     → sound f (serve f image command reply .image) ≡ true
 
--- Rule 15.13: an image of another version is answered 9, whatever is asked, and nothing changes.
+-- Rule 15.13: bytes whose header has not the number of a version, sound or not, are answered 9 by it, whatever is asked, and nothing changes.
 pub record Turned (g : Format) (image command reply : List ℕ) : Type 0 where
   pub number : serve g image command reply .answer .number ≡ 9
   pub kept : serve g image command reply .image ≡ image
   pub silent : serve g image command reply .reply ≡ reply
 
 abbrev pub OtherVersion : Type 0
-OtherVersion = (f g : Format) → (f ≡ g → ⊥) → (image command reply : List ℕ) → T (sound f image) → Turned g image command reply
+OtherVersion = (g : Format) (image command reply : List ℕ) → (versionOf image ≡ version g → ⊥) → Turned g image command reply
 
 -- Rule 15.8, each language by itself: a command that writes one leaves the text of every other as it was, and one that writes a translation leaves it as it was
 -- whether another translation is behind.

@@ -2,9 +2,11 @@
 use Prim.Native.Nat.{ℕ}
 use native.Mathlib.Omega.{arith}
 use mathlib.Core.Path.{_≡_, refl}
+use mathlib.Core.List.{[], _∷_}
 use lib.ListN.{length, replicate, length-replicate}
 use Rattle.image.proofs.InFront.{front-sound}
 use Rattle.program.proofs.Answered.{long-output, bad-output}
+use Rattle.formats.specs.Format.{V2}
 use Rattle.lists.specs.Parts.{part, splice, table, spread, every, zeros}
 use Rattle.lists.specs.Table.{all, allFrom}
 use Rattle.lists.specs.Le.{le, toLe}
@@ -22,7 +24,8 @@ use Rattle.image.specs.Image.{goodFront}
 use Rattle.program.specs.Program.{lineOf, linesFrom, firstLine, lastLine, outputOf}
 use Rattle.store.specs.Runs.{numbersOf, runs}
 use Rattle.program.specs.Text.{quoted, decimalWithin, decimal}
-use Rattle.program_claims.specs.Cases.{CaseP, ShortCases, Decimals}
+use Rattle.program_claims.specs.Cases.{stream2, CaseP, ShortCases, RunCases, Decimals}
+use Rattle.program_claims.proofs.GoingOn.{going-on}
 
 pub case-p : CaseP
 unfolding outputOf quoted decimalWithin decimal firstLine lineOf linesFrom lastLine runs numbersOf goodFront commands commandsWithin endOf endWithin whole extent serve serveBy stepped sound headerSound cardSound translationSound tailZero decode cardAt entryAt readEntry encode bodies pad entryBytes header shapeOk fresh replied raise entrySound commandBytes formed payload fieldsOf wellFormed all allFrom le toLe part splice table spread every zeros
@@ -39,7 +42,11 @@ longer = let n : length (replicate {A = ℕ} 65537 0) ≡ 65537 = length-replica
 
 pub short-cases : ShortCases
 unfolding outputOf quoted decimalWithin decimal firstLine lineOf linesFrom lastLine runs numbersOf goodFront commands commandsWithin endOf endWithin whole extent serve serveBy stepped sound headerSound cardSound translationSound tailZero decode cardAt entryAt readEntry encode bodies pad entryBytes header shapeOk fresh replied raise entrySound commandBytes formed payload fieldsOf wellFormed all allFrom le toLe part splice table spread every zeros
-short-cases = record { empty = refl; alone = refl; lacking = refl; longest = longest; longer = longer }
+short-cases = record { empty = refl; alone = refl; lacking = refl; longest = longest; longer = longer; second = refl; second-lacking = refl }
+
+pub run-cases : RunCases
+unfolding runs commands commandsWithin whole extent serve serveBy stepped sound headerSound cardSound translationSound tailZero decode cardAt entryAt readEntry encode bodies pad entryBytes header shapeOk fresh replied raise entrySound commandBytes formed payload fieldsOf wellFormed all allFrom le toLe part splice table spread every zeros
+run-cases = record { places = refl; places-2 = refl; short = refl; gone-on = going-on V2 (fresh V2 1 16) (9 ∷ []) stream2 15 8 16 refl }
 
 pub decimals : Decimals
 unfolding quoted decimalWithin decimal

@@ -8,7 +8,7 @@ use mathlib.Core.Bool.{Bool, true, false, cond}
 use borrow.Author.Tests.{le-ltb}
 use lib.Dec.{ltb, lit<}
 use lib.ListN.{length, take, drop, getD}
-use Rattle.formats.specs.Format.{V1}
+use Rattle.formats.specs.Format.{Format}
 use Rattle.guard.specs.declared.Answer.{Answer}
 use Rattle.model.specs.Serve.{serve}
 use Rattle.image.specs.Bytes.{countOf}
@@ -19,30 +19,11 @@ use Rattle.program.specs.Program.{lineOf, linesFrom, firstLine, printed, mostIn
 use Rattle.store.specs.Runs.{runs}
 use Rattle.program_claims.specs.Claims.{NeverEmpty, NoVersion2, ProgramClaims}
 use Rattle.program_claims.proofs.Log.{logs}
-use Rattle.program_claims.proofs.Served.{guarded, serves}
+use Rattle.program_claims.proofs.Requests.{guarded}
+use Rattle.program_claims.proofs.Served.{serves}
+use Rattle.program_claims.proofs.GoingOn.{going-on}
 use Rattle.program_claims.proofs.Prints.{prints}
 use Rattle.program_claims.proofs.Numerals.{numerals}
-
-one-each : (image reply : List ℕ) (cs : List (List ℕ)) → length (runs V1 image reply cs .answers) ≡ length cs
-unfolding runs
-one-each image reply [] = refl
-one-each image reply (c ∷ cs) = ap suc (one-each (serve V1 image c reply .image) (serve V1 image c reply .reply) cs)
-
-each : (image reply : List ℕ) (cs : List (List ℕ)) (i : ℕ) (none : Answer) → i < length cs →
-    getD (runs V1 image reply cs .answers) i none ≡ serve V1 (runs V1 image reply (take i cs) .image) (getD cs i []) (runs V1 image reply (take i cs) .reply) .answer
-unfolding runs
-each image reply [] i none h = absurd (not-suc-le-zero h)
-each image reply (c ∷ cs) zero none h = refl
-each image reply (c ∷ cs) (suc i) none h = each (serve V1 image c reply .image) (serve V1 image c reply .reply) cs i none (le-of-suc-le-suc h)
-
--- Of the first commands, the first answers.
-first-answers : (image reply : List ℕ) (cs : List (List ℕ)) (i : ℕ) → runs V1 image reply (take i cs) .answers ≡ take i (runs V1 image reply cs .answers)
-unfolding runs
-first-answers image reply [] zero = refl
-first-answers image reply [] (suc i) = refl
-first-answers image reply (c ∷ cs) zero = refl
-first-answers image reply (c ∷ cs) (suc i) =
-    ap (λ (l : List Answer). serve V1 image c reply .answer ∷ l) (first-answers (serve V1 image c reply .image) (serve V1 image c reply .reply) cs i)
 
 lines-apart : (p i : ℕ) (l : List Answer) (none : Answer) → i < length l →
     linesFrom p l ≡ linesFrom p (take i l) ++ (lineOf (p + i) (getD l i none) ++ linesFrom (p + i + 1) (drop (suc i) l))
@@ -54,15 +35,39 @@ lines-apart p (suc i) (a ∷ l) none h =
     ap (λ (m : List ℕ). lineOf p a ++ m) (rw place at (lines-apart (p + 1) i l none (le-of-suc-le-suc h)))
     ∙ sym (append-assoc (lineOf p a) _ _)
 
-lines : (image reply : List ℕ) (cs : List (List ℕ)) (i : ℕ) (none : Answer) → i < length cs →
-    linesFrom 1 (runs V1 image reply cs .answers)
-    ≡ linesFrom 1 (runs V1 image reply (take i cs) .answers)
-    ++ (lineOf (i + 1) (getD (runs V1 image reply cs .answers) i none) ++ linesFrom (i + 2) (drop (i + 1) (runs V1 image reply cs .answers)))
-lines image reply cs i none h =
-    let a : 1 + i ≡ i + 1 = omega arith in
-    let b : i + 1 + 1 ≡ i + 2 = omega arith in
-    let c : suc i ≡ i + 1 = omega arith in
-    rw (first-answers image reply cs i) (rw (c, b) at (rw a at (lines-apart 1 i (runs V1 image reply cs .answers) none (rw (one-each image reply cs) h))))
+-- ---- a run of a version
+
+module _ (v : Format) where
+  one-each : (image reply : List ℕ) (cs : List (List ℕ)) → length (runs v image reply cs .answers) ≡ length cs
+  unfolding runs
+  one-each image reply [] = refl
+  one-each image reply (c ∷ cs) = ap suc (one-each (serve v image c reply .image) (serve v image c reply .reply) cs)
+
+  each : (image reply : List ℕ) (cs : List (List ℕ)) (i : ℕ) (none : Answer) → i < length cs →
+      getD (runs v image reply cs .answers) i none ≡ serve v (runs v image reply (take i cs) .image) (getD cs i []) (runs v image reply (take i cs) .reply) .answer
+  unfolding runs
+  each image reply [] i none h = absurd (not-suc-le-zero h)
+  each image reply (c ∷ cs) zero none h = refl
+  each image reply (c ∷ cs) (suc i) none h = each (serve v image c reply .image) (serve v image c reply .reply) cs i none (le-of-suc-le-suc h)
+
+  -- Of the first commands, the first answers.
+  first-answers : (image reply : List ℕ) (cs : List (List ℕ)) (i : ℕ) → runs v image reply (take i cs) .answers ≡ take i (runs v image reply cs .answers)
+  unfolding runs
+  first-answers image reply [] zero = refl
+  first-answers image reply [] (suc i) = refl
+  first-answers image reply (c ∷ cs) zero = refl
+  first-answers image reply (c ∷ cs) (suc i) =
+      ap (λ (l : List Answer). serve v image c reply .answer ∷ l) (first-answers (serve v image c reply .image) (serve v image c reply .reply) cs i)
+
+  lines : (image reply : List ℕ) (cs : List (List ℕ)) (i : ℕ) (none : Answer) → i < length cs →
+      linesFrom 1 (runs v image reply cs .answers)
+      ≡ linesFrom 1 (runs v image reply (take i cs) .answers)
+      ++ (lineOf (i + 1) (getD (runs v image reply cs .answers) i none) ++ linesFrom (i + 2) (drop (i + 1) (runs v image reply cs .answers)))
+  lines image reply cs i none h =
+      let a : 1 + i ≡ i + 1 = omega arith in
+      let b : i + 1 + 1 ≡ i + 2 = omega arith in
+      let c : suc i ≡ i + 1 = omega arith in
+      rw (first-answers image reply cs i) (rw (c, b) at (rw a at (lines-apart 1 i (runs v image reply cs .answers) none (rw (one-each image reply cs) h))))
 
 never-empty : NeverEmpty
 unfolding outputOf quoted firstLine
@@ -75,19 +80,20 @@ never-empty input = go (ltb mostInput (length input)) (goodFront input)
 
 no-version-2 : NoVersion2
 unfolding outputOf
-no-version-2 image rest holds h = rw (le-ltb mostInput (length (image ++ rest)) h, noOldFront image rest holds)
+no-version-2 input other h = rw (le-ltb mostInput (length input) h, noOldFront input other)
 
 pub claims : ProgramClaims
 claims =
     record {
-      stepwise = λ image reply cs.
+      stepwise = λ v image reply cs.
           record {
-            whole = one-each image reply cs;
-            each = each image reply cs;
-            lines = lines image reply cs;
+            whole = one-each v image reply cs;
+            each = each v image reply cs;
+            lines = lines v image reply cs;
           };
       logs = logs;
       guarded = guarded;
+      going-on = going-on;
       serves = serves;
       prints = prints;
       numerals = numerals;

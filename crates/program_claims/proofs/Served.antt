@@ -2,42 +2,40 @@
 -- Assumes nothing.
 use Prim.Native.Nat.{ℕ, zero, suc, _+_, _≤_, _<_}
 use native.Mathlib.Omega.{arith}
-use mathlib.Core.Path.{_≡_, refl, sym, subst, ap, _∙_}
+use mathlib.Core.Path.{_≡_, refl, sym, subst, _∙_}
 use mathlib.Core.Logic.{_⊎_, inl, inr}
 use mathlib.Core.List.{List, [], _∷_}
-use mathlib.Core.Bool.{Bool, true, false, cond, not, _&&_, _||_}
+use mathlib.Core.Bool.{Bool, true, false, not, _&&_, _||_}
 use borrow.Author.Tests.{ne-eqb, ltb-true, not-true}
 use lib.Dec.{T, eqb, ltb, lit<}
 use lib.ListN.{length, take, drop, replicate, length-replicate}
 use Rattle.formats.specs.Format.{V1, translations}
 use Rattle.lists.specs.Parts.{Bytes}
-use Rattle.lists.proofs.Bytes.{Bytes-nil, Bytes-take, Bytes-drop, Bytes-replicate, Bytes-splice}
+use Rattle.lists.proofs.Bytes.{Bytes-take, Bytes-drop, Bytes-replicate}
 use Rattle.lists.proofs.Parts.{length-splice}
 use Rattle.lists.proofs.Table.{given, first-all}
 use Rattle.lists.proofs.Tests.{to-T, from-T, cases, or-none, or-cases, and-right, not-in}
 use Rattle.commands.specs.Command.{original, translation, readsTranslation, reads}
 use Rattle.commands.specs.Bytes.{fieldsOf, formed}
 use Rattle.commands.specs.declared.Command.{Command}
-use Rattle.guard.specs.Replies.{replied}
 use Rattle.guard.specs.declared.Answer.{Answer}
 use Rattle.image.specs.Bytes.{roomOf}
-use Rattle.image.specs.Image.{Cards, text, encode, decode, sound, fresh}
-use Rattle.image.specs.Image.{GoodCard, GoodCards, freshCards}
+use Rattle.image.specs.Image.{Cards, encode, decode, sound}
+use Rattle.image.specs.Image.{GoodCards}
 use Rattle.image.proofs.Bytes.{Lengths, lengths}
-use Rattle.image_claims.proofs.Claims.{soundReadsBack, goodEncodes, freshSound}
+use Rattle.image_claims.proofs.Claims.{soundReadsBack, goodEncodes}
 use Rattle.image.proofs.Decode.{room-decode}
 use Rattle.model.specs.Serve.{serve, cardOf, entryOf, requestRows, textRead, replyBy}
-use Rattle.model.specs.Words.{Sent, Event, logOf}
+use Rattle.model.specs.Words.{Sent}
 use Rattle.lists.specs.Search.{any, none}
-use Rattle.model.specs.Claims.{AllBytes}
-use Rattle.model.proofs.Demand.{demand3}
 use Rattle.model.proofs.Machine.{numberOn, cardsBy, passed}
-use Rattle.model.proofs.Simulation.{good-more, same-event, same-image}
-use Rattle.stream.specs.Stream.{commands, commandsWithin, extent, whole}
+use Rattle.model.proofs.Simulation.{good-more}
+use Rattle.stream.specs.Stream.{commands}
 use Rattle.image.specs.Image.{claimed}
 use Rattle.store.specs.Runs.{runs}
 use Rattle.image.proofs.InFront.{good-front}
-use Rattle.program_claims.specs.Claims.{requests, Guarded, Serves}
+use Rattle.program_claims.specs.Claims.{Serves}
+use Rattle.program_claims.proofs.Requests.{EachBytes, each-bytes, stored, of-text, reply-bytes, answers-by, replies-by, leaves-by}
 
 -- ---- one request, with a reply buffer of C bytes
 
@@ -65,11 +63,8 @@ module _ (cs : Cards) (command reply : List ℕ) (fit : Fit cs reply) where
   named = lit< tt
 
   module _ (there : ltb (asked .card) (length (cs .cards)) ≡ true) where
-    stored : GoodCard V1 (cs .room) (cardOf V1 cs asked)
-    stored = fit .good .each (asked .card) (ltb-true (asked .card) (length (cs .cards)) there)
-
     within : Lengths (cs .room) (entryOf V1 cs asked)
-    within = lengths (cs .room) (entryOf V1 cs asked) (from-T _ (stored .rules (asked .language) named))
+    within = lengths (cs .room) (entryOf V1 cs asked) (from-T _ (stored V1 cs command reply (fit .good) there .rules (asked .language) named))
 
     never-original : (reads original asked && ltb (length reply) (entryOf V1 cs asked .original)) ≡ true → ⊥
     never-original o =
@@ -103,114 +98,57 @@ module _ (cs : Cards) (command reply : List ℕ) (fit : Fit cs reply) where
           (or-cases (reads original asked && ltb (length reply) (entryOf V1 cs asked .original)) (readsTranslation asked && ltb (length reply) (entryOf V1 cs asked .translation)) short)
       go (inr h) = away (formed V1 command) refl h e
 
-  -- What holds of both texts of the card and of no text holds of the text read.
-  of-text : (P : List ℕ → Type 0) → P (text original (cardOf V1 cs asked)) → P (text (translation (asked .language)) (cardOf V1 cs asked)) → P [] → P (textRead (cardOf V1 cs asked) asked)
-  of-text P o t n = go (reads original asked) (readsTranslation asked)
-    where
-      go : (a b : Bool) → P (cond a (text original (cardOf V1 cs asked)) (cond b (text (translation (asked .language)) (cardOf V1 cs asked)) []))
-      go true b = o
-      go false true = t
-      go false false = n
-
-  module _ (bytes : Bytes command) where
-    fit-by : (n : ℕ) → number ≡ n → Fit (cardsBy V1 n cs sent) (replyBy V1 n cs command reply)
-    fit-by zero e =
-        let there = passed V1 cs sent e .exists in
-        let card = stored there in
-        let text-bytes = of-text Bytes (card .bytes 0) (card .bytes (suc (asked .language))) Bytes-nil in
-        let short : 0 + length (textRead (cardOf V1 cs asked) asked) ≤ length reply =
-        of-text (λ (t : List ℕ). 0 + length t ≤ length reply)
-        (omega (arith, within there .original, fit .long))
-        (omega (arith, within there .translation, fit .long))
-        (omega arith) in
-        record {
-          good = good-more V1 cs sent (fit .good) (record { command = bytes; lent = fit .bytes }) zero e;
-          bytes = Bytes-splice 0 (textRead (cardOf V1 cs asked) asked) reply text-bytes (fit .bytes);
-          long = length-splice 0 (textRead (cardOf V1 cs asked) asked) reply short ∙ fit .long;
-        }
-    fit-by (suc j) e = record { good = fit .good; bytes = fit .bytes; long = fit .long }
-
-  -- The store on bytes does the same.
-  answers-by : serve V1 (encode V1 cs) command reply .answer .number ≡ number
-  unfolding replied
-  answers-by = ap (λ (e : Event). e .answer .number) (same-event V1 cs sent (fit .good))
-
-  replies-by : serve V1 (encode V1 cs) command reply .reply ≡ replyBy V1 number cs command reply
-  replies-by = ap (λ (e : Event). e .reply) (same-event V1 cs sent (fit .good))
-
-  leaves-by : serve V1 (encode V1 cs) command reply .image ≡ encode V1 (cardsBy V1 number cs sent)
-  leaves-by = same-image V1 cs sent (fit .good)
+  fit-by : Bytes command → (n : ℕ) → number ≡ n → Fit (cardsBy V1 n cs sent) (replyBy V1 n cs command reply)
+  fit-by bytes zero e =
+      let there = passed V1 cs sent e .exists in
+      let short : 0 + length (textRead (cardOf V1 cs asked) asked) ≤ length reply =
+      of-text V1 cs command reply (fit .good) (λ (t : List ℕ). 0 + length t ≤ length reply)
+      (omega (arith, within there .original, fit .long))
+      (omega (arith, within there .translation, fit .long))
+      (omega arith) in
+      record {
+        good = good-more V1 cs sent (fit .good) (record { command = bytes; lent = fit .bytes }) zero e;
+        bytes = reply-bytes V1 cs command reply (fit .good) (fit .bytes) zero e;
+        long = length-splice 0 (textRead (cardOf V1 cs asked) asked) reply short ∙ fit .long;
+      }
+  fit-by bytes (suc j) e = record { good = fit .good; bytes = fit .bytes; long = fit .long }
 
 -- ---- a run
-
--- Each command is bytes.
-abbrev EachBytes : List (List ℕ) → Type 0
-EachBytes [] = Unit {0}
-EachBytes (c ∷ cs) = Bytes c × EachBytes cs
 
 -- What a run from an image with a reply buffer keeps.
 record Kept (image reply : List ℕ) (cs : List (List ℕ)) : Type 0 where
   no-9 : none (λ (a : Answer). eqb (a .number) 9) (runs V1 image reply cs .answers) ≡ true
   no-8 : none (λ (a : Answer). eqb (a .number) 8) (runs V1 image reply cs .answers) ≡ true
   stays : sound V1 (runs V1 image reply cs .image) ≡ true
-  bytes : AllBytes (requests image reply cs)
 
 none-more : {A : Type 0} (p : A → Bool) (a : A) (l : List A) → p a ≡ false → none p l ≡ true → none p (a ∷ l) ≡ true
 none-more p a l h n = not-in (or-none h (not-true (any p l) n))
 
 kept : (cards : Cards) (reply : List ℕ) (cs : List (List ℕ)) → Fit cards reply → EachBytes cs → Kept (encode V1 cards) reply cs
-unfolding runs requests
+unfolding runs
 kept cards reply [] fit b =
-    record { no-9 = refl; no-8 = refl; stays = from-T (sound V1 (encode V1 cards)) (goodEncodes V1 cards (fit .good) .sounds); bytes = tt }
+    record { no-9 = refl; no-8 = refl; stays = from-T (sound V1 (encode V1 cards)) (goodEncodes V1 cards (fit .good) .sounds) }
 kept cards reply (c ∷ cs) fit b =
     let s : Sent = record { command = c; lent = reply } in
     let n : ℕ = numberOn V1 cards s in
     let later : Kept (serve V1 (encode V1 cards) c reply .image) (serve V1 (encode V1 cards) c reply .reply) cs =
-    rw (leaves-by cards c reply fit, replies-by cards c reply fit)
+    rw (leaves-by V1 cards c reply (fit .good), replies-by V1 cards c reply (fit .good))
     (kept (cardsBy V1 n cards s) (replyBy V1 n cards c reply) cs (fit-by cards c reply fit (b .0) n refl) (b .1)) in
     let answer = serve V1 (encode V1 cards) c reply .answer in
     let rest = runs V1 (serve V1 (encode V1 cards) c reply .image) (serve V1 (encode V1 cards) c reply .reply) cs .answers in
     record {
       no-9 =
           none-more (λ (a : Answer). eqb (a .number) 9) answer rest
-          (ne-eqb (answer .number) 9 (λ e. not-9 cards c reply fit (sym (answers-by cards c reply fit) ∙ e)))
+          (ne-eqb (answer .number) 9 (λ e. not-9 cards c reply fit (sym (answers-by V1 cards c reply (fit .good)) ∙ e)))
           (later .no-9);
       no-8 =
           none-more (λ (a : Answer). eqb (a .number) 8) answer rest
-          (ne-eqb (answer .number) 8 (λ e. not-8 cards c reply fit (sym (answers-by cards c reply fit) ∙ e)))
+          (ne-eqb (answer .number) 8 (λ e. not-8 cards c reply fit (sym (answers-by V1 cards c reply (fit .good)) ∙ e)))
           (later .no-8);
       stays = later .stays;
-      bytes = (record { command = b .0; lent = fit .bytes }, later .bytes);
     }
 
--- ---- the commands of a stream of bytes
-
-each-within : (steps : ℕ) (l : List ℕ) → Bytes l → EachBytes (commandsWithin V1 steps l)
-unfolding commandsWithin
-each-within zero l b = tt
-each-within (suc steps) l b = go (whole V1 l) (each-within steps (drop (extent V1 l) l) (Bytes-drop (extent V1 l) l b))
-  where
-    go : (w : Bool) → EachBytes (commandsWithin V1 steps (drop (extent V1 l) l)) →
-        EachBytes (cond w (take (extent V1 l) l ∷ commandsWithin V1 steps (drop (extent V1 l) l)) [])
-    go true later = (Bytes-take (extent V1 l) l b, later)
-    go false later = tt
-
-each-bytes : (stream : List ℕ) → Bytes stream → EachBytes (commands V1 stream)
-unfolding commands
-each-bytes stream b = each-within (length stream) stream b
-
--- ---- the claims
-
-pub guarded : Guarded
-unfolding logOf freshCards
-guarded n c stream shape b =
-    let f = freshSound V1 n c shape in
-    let fit : Fit (freshCards V1 n c) (replicate c 0) =
-    record { good = f .good; bytes = Bytes-replicate c (omega arith); long = length-replicate c 0 } in
-    let k : Kept (fresh V1 n c) (replicate c 0) (commands V1 stream) =
-    subst (λ (image : List ℕ). Kept image (replicate c 0) (commands V1 stream)) (f .cards)
-    (kept (freshCards V1 n c) (replicate c 0) (commands V1 stream) fit (each-bytes stream b)) in
-    demand3 V1 n c shape (requests (fresh V1 n c) (replicate c 0) (commands V1 stream)) (k .bytes)
+-- ---- the claim
 
 pub serves : Serves
 serves input b g =
@@ -226,5 +164,5 @@ serves input b g =
     let k : Kept image (replicate (roomOf input) 0) (commands V1 (drop (claimed input) input)) =
     subst (λ (i : List ℕ). Kept i (replicate (roomOf input) 0) (commands V1 (drop (claimed input) input))) (back .same)
     (kept (decode V1 image) (replicate (roomOf input) 0) (commands V1 (drop (claimed input) input)) fit
-    (each-bytes (drop (claimed input) input) (Bytes-drop (claimed input) input b))) in
+    (each-bytes V1 (drop (claimed input) input) (Bytes-drop (claimed input) input b))) in
     record { never-9 = rw (f .size) (k .no-9); never-8 = rw (f .size) (k .no-8); stays = rw (f .size) (k .stays) }

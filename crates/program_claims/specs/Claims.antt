@@ -1,16 +1,16 @@
--- What is claimed of a run, and of the program's output (rules 8.4, 8.5 and 9.1).
+-- What is claimed of a run of either version, and of the program's output (rules 8.4, 8.5, 8.7 and 9.1).
 -- Assumes nothing.
-use Prim.Native.Nat.{ℕ, _+_, _-_, _*_, _≤_, _<_}
+use Prim.Native.Nat.{ℕ, _+_, _-_, _*_, _/_, _≤_, _<_}
 use mathlib.Core.Path.{_≡_}
 use mathlib.Core.List.{List, [], _∷_, _++_, map, reverse}
 use mathlib.Core.Bool.{true}
 use lib.Dec.{T, eqb}
 use lib.ListN.{length, take, drop, getD, replicate}
-use Rattle.formats.specs.Format.{V1, V2}
+use Rattle.formats.specs.Format.{Format, V1, version}
 use Rattle.lists.specs.Parts.{Bytes}
 use Rattle.guard.specs.declared.Answer.{Answer}
 use Rattle.image.specs.Layout.{shapeOk}
-use Rattle.image.specs.Bytes.{countOf, roomOf}
+use Rattle.image.specs.Bytes.{versionOf, countOf, roomOf}
 use Rattle.image.specs.Image.{sound, fresh}
 use Rattle.model.specs.Serve.{serve}
 use Rattle.model.specs.Words.{Sent, Event, imageAfter, history}
@@ -20,51 +20,86 @@ use Rattle.stream.specs.Stream.{commands}
 use Rattle.image.specs.Image.{goodFront}
 use Rattle.program.specs.Text.{decimal, quoted}
 use Rattle.program.specs.Program.{firstLine, lineOf, linesFrom, lastLine, leftOver, mostInput, runOf, outputOf}
-use Rattle.store.specs.Runs.{runs}
+use Rattle.store.specs.Runs.{Run, runs, perLine}
+use Rattle.store.specs.Ran.{judgedOf, ranOf, lined}
 
 -- The answers of a run are those of judging command by command: one for each command, and each is the store's, on the image and the reply
 -- buffer as the commands before leave them.
-pub record Stepwise (image reply : List ℕ) (cs : List (List ℕ)) : Type 0 where
-  pub whole : length (runs V1 image reply cs .answers) ≡ length cs
+pub record Stepwise (v : Format) (image reply : List ℕ) (cs : List (List ℕ)) : Type 0 where
+  pub whole : length (runs v image reply cs .answers) ≡ length cs
   pub each : (i : ℕ) (none : Answer) → i < length cs →
-      getD (runs V1 image reply cs .answers) i none ≡ serve V1 (runs V1 image reply (take i cs) .image) (getD cs i []) (runs V1 image reply (take i cs) .reply) .answer
+      getD (runs v image reply cs .answers) i none ≡ serve v (runs v image reply (take i cs) .image) (getD cs i []) (runs v image reply (take i cs) .reply) .answer
   -- Line i, counted from 0, stands behind the lines of the first i commands, and shows its place, counted from 1, and answer i.
   pub lines : (i : ℕ) (none : Answer) → i < length cs →
-      linesFrom 1 (runs V1 image reply cs .answers)
-      ≡ linesFrom 1 (runs V1 image reply (take i cs) .answers)
-      ++ (lineOf (i + 1) (getD (runs V1 image reply cs .answers) i none) ++ linesFrom (i + 2) (drop (i + 1) (runs V1 image reply cs .answers)))
+      linesFrom 1 (runs v image reply cs .answers)
+      ≡ linesFrom 1 (runs v image reply (take i cs) .answers)
+      ++ (lineOf (i + 1) (getD (runs v image reply cs .answers) i none) ++ linesFrom (i + 2) (drop (i + 1) (runs v image reply cs .answers)))
 
 -- ---- a run and the log that demand 3 speaks of
 
 -- A run's commands as requests: each is sent with the reply buffer as the one before left it.
-unfoldable pub requests : List ℕ → List ℕ → List (List ℕ) → List Sent
-requests image reply [] = []
-requests image reply (c ∷ cs) =
-    record { command = c; lent = reply } ∷ requests (serve V1 image c reply .image) (serve V1 image c reply .reply) cs
+unfoldable pub requests : Format → List ℕ → List ℕ → List (List ℕ) → List Sent
+requests v image reply [] = []
+requests v image reply (c ∷ cs) =
+    record { command = c; lent = reply } ∷ requests v (serve v image c reply .image) (serve v image c reply .reply) cs
 
 -- Their log from the same image, latest first.
-abbrev pub logged : List ℕ → List ℕ → List (List ℕ) → List Event
-logged image reply cs = history V1 image (reverse (requests image reply cs))
+abbrev pub logged : Format → List ℕ → List ℕ → List (List ℕ) → List Event
+logged v image reply cs = history v image (reverse (requests v image reply cs))
 
 -- A run is the log of its requests.
-pub record Logged (image reply : List ℕ) (cs : List (List ℕ)) : Type 0 where
+pub record Logged (v : Format) (image reply : List ℕ) (cs : List (List ℕ)) : Type 0 where
   -- the requests are the commands, in their order,
-  pub sends : map (λ (s : Sent). s .command) (requests image reply cs) ≡ cs
+  pub sends : map (λ (s : Sent). s .command) (requests v image reply cs) ≡ cs
   -- with one reply buffer: the first is lent it as it is at first, each later one as the log shows it after the one before, and the last one
   -- leaves it as the run does,
   pub lends :
-      map (λ (s : Sent). s .lent) (requests image reply cs) ++ (runs V1 image reply cs .reply ∷ [])
-      ≡ reply ∷ map (λ (e : Event). e .reply) (reverse (logged image reply cs))
+      map (λ (s : Sent). s .lent) (requests v image reply cs) ++ (runs v image reply cs .reply ∷ [])
+      ≡ reply ∷ map (λ (e : Event). e .reply) (reverse (logged v image reply cs))
   -- the answers are those of the log, in order, and the image is left as the requests leave it
-  pub answers : runs V1 image reply cs .answers ≡ map (λ (e : Event). e .answer) (reverse (logged image reply cs))
-  pub leaves : runs V1 image reply cs .image ≡ imageAfter V1 image (reverse (requests image reply cs))
+  pub answers : runs v image reply cs .answers ≡ map (λ (e : Event). e .answer) (reverse (logged v image reply cs))
+  pub leaves : runs v image reply cs .image ≡ imageAfter v image (reverse (requests v image reply cs))
 
--- So demand 3 speaks of the program: every sentence of it holds of the log of a stream's commands behind a fresh image, with a reply buffer of C
--- zeros.
+-- So demand 3 speaks of a run: every sentence of it holds of the log of a stream's commands behind a fresh image, with a reply buffer of any length and content;
+-- of all of them, and of those that have a place for their line where the run stops for want of one. The program's reply buffer has C zeros.
+pub record GuardedRun (v : Format) (n c : ℕ) (stream reply : List ℕ) : Type 0 where
+  pub all : Claim n (requests v (fresh v n c) reply (commands v stream)) (logged v (fresh v n c) reply (commands v stream))
+  pub some : (lent : ℕ) → Claim n (requests v (fresh v n c) reply (judgedOf v stream lent)) (logged v (fresh v n c) reply (judgedOf v stream lent))
+
 abbrev pub Guarded : Type 0
-Guarded =
-    (n c : ℕ) (stream : List ℕ) → T (shapeOk V1 n c) → Bytes stream
-    → Claim n (requests (fresh V1 n c) (replicate c 0) (commands V1 stream)) (logged (fresh V1 n c) (replicate c 0) (commands V1 stream))
+Guarded = (v : Format) (n c : ℕ) (stream reply : List ℕ) → T (shapeOk v n c) → Bytes stream → Bytes reply → GuardedRun v n c stream reply
+
+-- ---- a run that is gone on with (rule 8.7)
+
+-- A run of a stream where so many numbers are lent for lines.
+abbrev pub runWithin : Format → List ℕ → List ℕ → List ℕ → ℕ → Run
+runWithin v image reply stream lent = runs v image reply (judgedOf v stream lent)
+
+-- What is left of the stream behind it: the bytes from its end on.
+abbrev pub restOf : Format → List ℕ → ℕ → List ℕ
+restOf v stream lent = drop (ranOf v stream lent .end) stream
+
+-- The run of the rest, on the image and with the reply buffer that the first run left.
+abbrev pub runOfRest : Format → List ℕ → List ℕ → List ℕ → ℕ → ℕ → Run
+runOfRest v image reply stream first second =
+    runWithin v (runWithin v image reply stream first .image) (runWithin v image reply stream first .reply) (restOf v stream first) second
+
+-- One run with as many lines as both, against the two.
+pub record GoesOn (v : Format) (image reply stream : List ℕ) (first second lent : ℕ) : Type 0 where
+  -- the rest has the commands that had no place for their line, and no other
+  pub rest : commands v (restOf v stream first) ≡ drop (first / perLine) (commands v stream)
+  -- commands and bytes count on
+  pub counts : ranOf v stream lent .count ≡ ranOf v stream first .count + ranOf v (restOf v stream first) second .count
+  pub ends : ranOf v stream lent .end ≡ ranOf v stream first .end + ranOf v (restOf v stream first) second .end
+  -- the lines stand end to end, and the image and the reply buffer are left alike
+  pub lines : lined (runWithin v image reply stream lent) ≡ lined (runWithin v image reply stream first) ++ lined (runOfRest v image reply stream first second)
+  pub image-left : runWithin v image reply stream lent .image ≡ runOfRest v image reply stream first second .image
+  pub reply-left : runWithin v image reply stream lent .reply ≡ runOfRest v image reply stream first second .reply
+
+abbrev pub GoingOn : Type 0
+GoingOn =
+    (v : Format) (image reply stream : List ℕ) (first second lent : ℕ) → lent / perLine ≡ first / perLine + second / perLine
+    → GoesOn v image reply stream first second lent
 
 -- ---- the program on a good store
 
@@ -102,15 +137,16 @@ Prints =
 abbrev pub NeverEmpty : Type 0
 NeverEmpty = (input : List ℕ) → 0 < length (outputOf input)
 
--- An input that begins with an image of version 2 gets the line for a bad store, and no text.
+-- An input whose header has not the number 1, as an image of version 2 has not, sound or damaged, gets the line for a bad store, and no text.
 abbrev pub NoVersion2 : Type 0
 NoVersion2 =
-    (image rest : List ℕ) → T (sound V2 image) → length (image ++ rest) ≤ mostInput → outputOf (image ++ rest) ≡ quoted "bad store\n"
+    (input : List ℕ) → (versionOf input ≡ version V1 → ⊥) → length input ≤ mostInput → outputOf input ≡ quoted "bad store\n"
 
 pub record ProgramClaims : Type 0 where
-  pub stepwise : (image reply : List ℕ) (cs : List (List ℕ)) → Stepwise image reply cs
-  pub logs : (image reply : List ℕ) (cs : List (List ℕ)) → Logged image reply cs
+  pub stepwise : (v : Format) (image reply : List ℕ) (cs : List (List ℕ)) → Stepwise v image reply cs
+  pub logs : (v : Format) (image reply : List ℕ) (cs : List (List ℕ)) → Logged v image reply cs
   pub guarded : Guarded
+  pub going-on : GoingOn
   pub serves : Serves
   pub prints : Prints
   pub numerals : (n : ℕ) → Numeral n

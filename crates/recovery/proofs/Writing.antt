@@ -11,13 +11,12 @@ use lib.Dec.{eqb, lit<}
 use Rattle.formats.specs.Format.{V1, translations}
 use Rattle.lists.specs.Parts.{Bytes}
 use Rattle.lists.specs.Le.{field}
-use Rattle.lists.proofs.Tests.{and-left, to-T}
+use Rattle.lists.proofs.Tests.{and-left}
 use Rattle.commands.specs.Command.{FitsCommand}
 use Rattle.commands.specs.declared.Command.{Command}
 use Rattle.commands.specs.Bytes.{commandBytes}
 use Rattle.guard.specs.declared.Entry.{Entry}
-use Rattle.image.specs.Image.{sound, decode}
-use Rattle.image.proofs.Decode.{decode-good}
+use Rattle.image.specs.Image.{sound}
 use Rattle.model.specs.Serve.{Outcome, serve}
 use Rattle.lists.specs.Search.{any}
 use Rattle.store.proofs.Step.{serve-unsound}
@@ -25,7 +24,7 @@ use Rattle.redo_log.specs.Log.{LogRecord, goodLog, recordCount, startAt, length
 use Rattle.redo_log.proofs.Records.{here, body-at, body-long, short-record, update-length}
 use Rattle.redo_log.proofs.ReadBack.{record-of}
 use Rattle.recovery_model.specs.Recovery.{Pairs, recordIn, transactionIn, commitsTo, due, writeBy, writeOf, entryFor, recoverySent}
-use Rattle.recovery_model.proofs.Sending.{entry-fits, fits-write}
+use Rattle.recovery_model.proofs.Sending.{fits-write}
 use Rattle.recovery.specs.Step.{pairsOf, writeOutcome, stepNumber, stepImage}
 
 abbrev pub updated : List ℕ → LogRecord
@@ -42,10 +41,10 @@ module _ (image ss xs body : List ℕ) (ok : Bool) (o : ok ≡ sound V1 image) w
     pub write-is : w ≡ writeOf (pairsOf ss xs) image (updated body)
     write-is = ew ∙ rw (ep, eq, ee, ec)
 
-    pub write-fits : sound V1 image ≡ true → Bytes image → Bytes body → ((k : ℕ) → getD ss k 0 < 18446744073709551616) → ((k : ℕ) → getD xs k 0 < 18446744073709551616) → length body < 65536 → FitsCommand w
-    write-fits t ib bb fs fx h =
+    pub write-fits : Bytes image → Bytes body → ((k : ℕ) → getD ss k 0 < 18446744073709551616) → ((k : ℕ) → getD xs k 0 < 18446744073709551616) → length body < 65536 → FitsCommand w
+    write-fits ib bb fs fx h =
         subst FitsCommand (sym write-is)
-        (fits-write (pairsOf ss xs) image (updated body) (record { s = fs; x = fx }) (entry-fits (decode V1 image) (decode-good V1 image ib (to-T t)) (field 0 2 body)) bb h)
+        (fits-write (pairsOf ss xs) image (updated body) (record { s = fs; x = fx }) ib bb h)
 
     pub write-names : w .language < translations V1
     write-names = subst (λ (c : Command). c .language < translations V1) (sym write-is) (lit< tt)

@@ -14,6 +14,7 @@ use Rattle.image.specs.Layout.{shapeOk}
 use Rattle.image.specs.Bytes.{header, entryBytes, pad, readEntry, entryAt}
 use Rattle.image.specs.Image.{bodies, encode, cardAt, decode, tailZero, translationSound, cardSound, headerSound, sound, fresh}
 use Rattle.model.specs.Serve.{stepped, serveBy, serve}
+use Rattle.model.specs.Words.{imageAfter}
 use Rattle.redo_log.specs.Log.{shaped, lastBegun, opened, follows, total, startAt, recordAt, recordOk, goodLog, records}
 use lib.ListN.{take, replicate}
 use Rattle.redo_log.specs.Append.{Store, stored, puts, lineBytes, stores, appended}
@@ -65,7 +66,7 @@ unfolding recovered goodLog
 bad-log = refl
 
 pub recovery-cases : RecoveryCases
-unfolding due recoverySent recoveryStep recovering recovered allStores stored puts lineBytes stores appended shaped lastBegun opened follows total startAt recordAt recordOk goodLog records serve serveBy stepped sound headerSound cardSound translationSound tailZero decode cardAt entryAt readEntry encode bodies pad entryBytes header shapeOk fresh replied raise entrySound commandBytes formed payload fieldsOf wellFormed all allFrom le toLe part splice table spread every zeros
+unfolding imageAfter due recoverySent recoveryStep recovering recovered allStores stored puts lineBytes stores appended shaped lastBegun opened follows total startAt recordAt recordOk goodLog records serve serveBy stepped sound headerSound cardSound translationSound tailZero decode cardAt entryAt readEntry encode bodies pad entryBytes header shapeOk fresh replied raise entrySound commandBytes formed payload fieldsOf wellFormed all allFrom le toLe part splice table spread every zeros
 recovery-cases =
     let runs : cutRuns (allStores (emptyLog 64) twoTransactions) ≡ (0, ([], 0)) ∷ (0, (text205, 0)) ∷ (0, (text205, 0)) ∷ (0, (text401, 0)) ∷ [] = refl in
     let later = tail-eq-of-cons-eq (tail-eq-of-cons-eq runs) in
@@ -79,5 +80,7 @@ recovery-cases =
       cut99 = number-and-text (head-eq-of-cons-eq later);
       cut100 = number-and-text last;
       again = ap (λ (t : Twice). t .1 .1) last;
+      cut-first = (refl, refl);
+      run-again = (refl, refl, refl, refl);
       bad = bad-log;
     }

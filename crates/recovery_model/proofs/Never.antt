@@ -20,15 +20,14 @@ use Rattle.commands.specs.declared.Command.{Command}
 use Rattle.commands.proofs.CommandBytes.{fields-command}
 use Rattle.guard.specs.Judge.{wrongEdition, replyShort}
 use Rattle.guard.specs.declared.Entry.{Entry}
-use Rattle.image.specs.Image.{Cards, GoodCards, encode, decode}
-use Rattle.image_claims.proofs.Claims.{soundReadsBack}
+use Rattle.image.specs.Image.{decode}
 use Rattle.model.specs.Serve.{entryOf, serve}
 use Rattle.model.proofs.Exact.{exactly}
 use Rattle.redo_log.specs.Log.{LogRecord, recordCard, recordSide, recordText, goodLog, records}
 use Rattle.recovery_model.specs.Recovery.{Pairs, FitsPairs, Recovery, recordIn, entryFor, writeOf, recoverySent, recoveryStep, recovering, recovered}
 use Rattle.recovery_model.specs.Claims.{neverAnswered, RecoveryNever}
 use Rattle.recovery_model.proofs.Steps.{R, Idle, Sends, next}
-use Rattle.recovery_model.proofs.Sending.{FitsRecords, fits-here, all-bytes, fits-log}
+use Rattle.recovery_model.proofs.Sending.{FitsRecords, fits-here, fits-log}
 
 abbrev Apart : ℕ → Type 0
 Apart n = none (eqb n) neverAnswered ≡ true
@@ -85,27 +84,22 @@ never-one pairs i q r f =
     apart (serve V1 (q .image) (commandBytes V1 (writeOf pairs (q .image) r) (recordText r)) [] .answer .number)
     (never-4 pairs (q .image) r f) (never-6 pairs (q .image) r f) (never-8 pairs (q .image) r f)
 
-module _ (pairs : Pairs) (rs : List LogRecord) (cs : Cards) (gc : GoodCards V1 cs) (fp : FitsPairs pairs) (fit : FitsRecords rs) where
-  never-all : (i : ℕ) → i ≤ length rs → Apart (R pairs rs (encode V1 cs) i .number)
+module _ (pairs : Pairs) (rs : List LogRecord) (image : List ℕ) (ib : Bytes image) (fp : FitsPairs pairs) (fit : FitsRecords rs) where
+  never-all : (i : ℕ) → i ≤ length rs → Apart (R pairs rs image i .number)
   unfolding recovering
   never-all zero h = refl
-  never-all (suc i) h = go (next pairs rs (encode V1 cs) i) (never-all i (omega arith))
+  never-all (suc i) h = go (next pairs rs image i) (never-all i (omega arith))
     where
-      go : Idle pairs rs (encode V1 cs) i ⊎ Sends pairs rs (encode V1 cs) i → Apart (R pairs rs (encode V1 cs) i .number) → Apart (R pairs rs (encode V1 cs) (suc i) .number)
+      go : Idle pairs rs image i ⊎ Sends pairs rs image i → Apart (R pairs rs image i .number) → Apart (R pairs rs image (suc i) .number)
       go (inl idle) u = subst (λ (q : Recovery). Apart (q .number)) (sym (idle .same)) u
       go (inr s) u =
           subst (λ (q : Recovery). Apart (q .number)) (sym (s .now))
-          (never-one pairs i (R pairs rs (encode V1 cs) i) (recordIn rs i) (fits-here pairs rs cs gc fp fit i (all-bytes pairs rs cs gc fp fit i (omega arith)) h))
-
-never-cards : (pairs : Pairs) (log : List ℕ) (cs : Cards) → GoodCards V1 cs → FitsPairs pairs → Bytes log → Apart (recovered pairs log (encode V1 cs) .number)
-unfolding recovered
-never-cards pairs log cs gc fp lb = go (goodLog log) refl
-  where
-    go : (g : Bool) → goodLog log ≡ g → Apart (recovered pairs log (encode V1 cs) .number)
-    go true e = rw e (never-all pairs (records log) cs gc fp (fits-log log lb e) (length (records log)) (omega arith))
-    go false e = rw e refl
+          (never-one pairs i (R pairs rs image i) (recordIn rs i) (fits-here pairs rs image ib fp fit i h))
 
 pub recovery-never : RecoveryNever
-recovery-never pairs log image fp lb ib e =
-    let back = soundReadsBack V1 image ib (to-T e) in
-    subst (λ (im : List ℕ). Apart (recovered pairs log im .number)) (back .same) (never-cards pairs log (decode V1 image) (back .good) fp lb)
+unfolding recovered
+recovery-never pairs log image fp lb ib = go (goodLog log) refl
+  where
+    go : (g : Bool) → goodLog log ≡ g → Apart (recovered pairs log image .number)
+    go true e = rw e (never-all pairs (records log) image ib fp (fits-log log lb e) (length (records log)) (omega arith))
+    go false e = rw e refl

@@ -3,7 +3,7 @@ use Prim.Native.Nat.{ℕ, zero, suc, _≤_, _<_}
 use native.Mathlib.Omega.{arith}
 use mathlib.Core.Path.{_≡_, refl, sym, ap, _∙_, subst}
 use mathlib.Core.Logic.{_⊎_, inl, inr}
-use mathlib.Core.List.{List}
+use mathlib.Core.List.{List, _∷_}
 use mathlib.Core.Bool.{Bool, true, false, cond}
 use borrow.Author.Tests.{ltb-true, ltb-false}
 use lib.ListN.{length, List·getD-eq-default}
@@ -19,12 +19,20 @@ use Rattle.model.specs.Serve.{serve}
 use Rattle.model.specs.Words.{Sent, imageAfter, history}
 use Rattle.model.proofs.Exact.{refusals}
 use Rattle.recovery_model.specs.Recovery.{Pairs, Recovery, recordIn, due, recoverySent, recoveryStep, recovering, recovered}
-use Rattle.recovery_model.specs.Claims.{AllTaken, StopsWith, Recovers, RecoversAll, FromRecovery, RecoveryListed}
+use Rattle.recovery_model.specs.Claims.{AllTaken, StopsWith, dueBelow, WritesOf, RefusedAt, Recovers, RecoversAll, FromRecovery, RecoveryListed}
 
 -- The store's numbers, 0 to 9 and 17, are below 23.
 at-most : {n : ℕ} → (n ≤ 9) ⊎ (n ≡ 17) → n ≤ 17
 at-most (inl h) = omega arith
 at-most (inr h) = omega arith
+
+-- A refused request leaves the image.
+refused-keeps : (image : List ℕ) (s : Sent) → (serve V1 image (s .command) (s .lent) .answer .number ≡ 0 → ⊥) → serve V1 image (s .command) (s .lent) .image ≡ image
+refused-keeps image s failed = go (serve V1 image (s .command) (s .lent) .answer .number) refl
+  where
+    go : (m : ℕ) → serve V1 image (s .command) (s .lent) .answer .number ≡ m → serve V1 image (s .command) (s .lent) .image ≡ image
+    go zero e = absurd (failed e)
+    go (suc m) e = refusals V1 image (s .command) (s .lent) .kept m e .0
 
 module _ (pairs : Pairs) (rs : List LogRecord) (image : List ℕ) where
   abbrev pub R : ℕ → Recovery
@@ -113,6 +121,87 @@ module _ (pairs : Pairs) (rs : List LogRecord) (image : List ℕ) where
       go (inl idle) t = told-same i (idle .same) t
       go (inr s) t = told-more i s t
 
+  -- The lines that are due, with one record more.
+  pub below-more : {d : Bool} (i : ℕ) → due rs i ≡ d → dueBelow rs (suc i) ≡ cond d (i ∷ dueBelow rs i) (dueBelow rs i)
+  unfolding dueBelow
+  below-more i e = ap (λ (b : Bool). cond b (i ∷ dueBelow rs i) (dueBelow rs i)) e
+
+  -- The writes of a run that was not refused are those of the updates that are due.
+  pub writes : (i : ℕ) → R i .number ≡ 0 → WritesOf pairs rs image (dueBelow rs i) (R i .sent)
+  unfolding recovering dueBelow recoveryStep
+  writes zero z = tt
+  writes (suc i) z = go (next i) (writes i)
+    where
+      go : Idle i ⊎ Sends i → (R i .number ≡ 0 → WritesOf pairs rs image (dueBelow rs i) (R i .sent)) → WritesOf pairs rs image (dueBelow rs (suc i)) (R (suc i) .sent)
+      go (inl idle) w =
+          let so-far : R i .number ≡ 0 = sym (ap (λ (r : Recovery). r .number) (idle .same)) ∙ z in
+          rw (below-more i (idle .why so-far), idle .same) (w so-far)
+      go (inr s) w = rw (below-more i (s .is-due), s .now) (ap (λ (im : List ℕ). recoverySent pairs im (recordIn rs i)) (stands i), w (s .so-far))
+
+  -- A run that was refused stopped at a write.
+  pub record Stop (n : ℕ) : Type 0 where
+    pub at : ℕ
+    pub below : at < n
+    pub sends : Sends at
+    pub here : R n ≡ recoveryStep at (S at) (R at)
+
+  pub stop : (n : ℕ) → (R n .number ≡ 0 → ⊥) → Stop n
+  unfolding recovering
+  stop zero failed = absurd (failed refl)
+  stop (suc n) failed = go (next n) (stop n)
+    where
+      go : Idle n ⊎ Sends n → ((R n .number ≡ 0 → ⊥) → Stop n) → Stop (suc n)
+      go (inl idle) more =
+          let s = more (λ z. failed (ap (λ (r : Recovery). r .number) (idle .same) ∙ z)) in
+          let below = s .below in
+          record { at = s .at; below = omega arith; sends = s .sends; here = idle .same ∙ s .here }
+      go (inr s) more = record { at = n; below = omega arith; sends = s; here = s .now }
+
+  pub stop-line : (n : ℕ) (failed : R n .number ≡ 0 → ⊥) → R n .line ≡ stop n failed .at
+  unfolding recoveryStep
+  stop-line n failed =
+      let s = stop n failed in
+      let at : ℕ = s .at in
+      ap (λ (r : Recovery). r .line) (s .here)
+      ∙ settled-old {n = serve V1 (R at .image) (S at .command) (S at .lent) .answer .number} 0 at (λ z. failed (ap (λ (r : Recovery). r .number) (s .here) ∙ z))
+
+  -- Its last request, which was refused, changed nothing.
+  pub stop-image : (n : ℕ) (failed : R n .number ≡ 0 → ⊥) → R n .image ≡ R (stop n failed .at) .image
+  unfolding recoveryStep
+  stop-image n failed =
+      let s = stop n failed in
+      ap (λ (r : Recovery). r .image) (s .here) ∙ refused-keeps (R (s .at) .image) (S (s .at)) (λ z. failed (ap (λ (r : Recovery). r .number) (s .here) ∙ z))
+
+  refused-at : (n : ℕ) → n ≤ length rs → (R n .number ≡ 0 → ⊥) → RefusedAt pairs rs image (R n)
+  unfolding recoveryStep
+  refused-at n h failed =
+      let s = stop n failed in
+      let at : ℕ = s .at in
+      let line : at ≡ R n .line = sym (stop-line n failed) in
+      let below = s .below in
+      let written : WritesOf pairs rs image (at ∷ dueBelow rs at) (R n .sent) =
+      subst (λ (r : Recovery). WritesOf pairs rs image (at ∷ dueBelow rs at) (r .sent)) (sym (s .here))
+      (ap (λ (im : List ℕ). recoverySent pairs im (recordIn rs at)) (stands at), writes at (s .sends .so-far)) in
+      record {
+        within = subst (λ (j : ℕ). j < length rs) line (omega arith);
+        is-due = subst (λ (j : ℕ). due rs j ≡ true) line (s .sends .is-due);
+        writes = subst (λ (j : ℕ). WritesOf pairs rs image (j ∷ dueBelow rs j) (R n .sent)) line written;
+      }
+
+  -- Where no request was refused the number is 0.
+  taken-zero : (n : ℕ) → AllTaken (history V1 image (R n .sent)) → R n .number ≡ 0
+  unfolding recoveryStep history
+  taken-zero n t = go (R n .number) refl
+    where
+      go : (m : ℕ) → R n .number ≡ m → R n .number ≡ 0
+      go zero e = e
+      go (suc m) e =
+          let s = stop n (λ z. absurd (omega arith)) in
+          let at : ℕ = s .at in
+          ap (λ (r : Recovery). r .number) (s .here)
+          ∙ ap (λ (im : List ℕ). serve V1 im (S at .command) (S at .lent) .answer .number) (stands at)
+          ∙ subst (λ (r : Recovery). AllTaken (history V1 image (r .sent))) (s .here) t .0
+
 -- Record 0 of a good log is no update: none is open yet.
 no-update : (k : ℕ) (b : List ℕ) → joins 0 false (record { kind = k; body = b }) ≡ true → eqb k updateKind ≡ false
 unfolding follows
@@ -146,6 +235,9 @@ recovers pairs log image = go (goodLog log) refl
           bad = rw e ((λ z. absurd (omega (arith, at-most (t .listed)))), (λ f. absurd (never-both refl f)));
           silent = λ f. absurd (never-both e f);
           line = rw e (line-out (R pairs (records log) image (length (records log)) .number) refl t, λ h. line-in t h);
+          accepts = λ f. rw e (t .accepted, taken-zero pairs (records log) image (length (records log)));
+          all-due = rw e (writes pairs (records log) image (length (records log)));
+          refused = λ f. rw e (refused-at pairs (records log) image (length (records log)) (omega arith));
         }
       where
         line-out : (n : ℕ) → R pairs (records log) image (length (records log)) .number ≡ n → Told pairs (records log) image (length (records log))
@@ -166,7 +258,15 @@ recovers pairs log image = go (goodLog log) refl
           bad = rw e ((λ z. refl), (λ f. refl));
           silent = λ f. rw e;
           line = rw e ((λ z. inr refl), (λ h. refl));
+          accepts = λ f. absurd (never-both f e);
+          all-due = rw e (λ z. absurd (omega (arith, z)));
+          refused = λ f. absurd (never-both f e);
         }
+
+-- A bad log leaves the image.
+pub bad-left : (pairs : Pairs) (log image : List ℕ) → goodLog log ≡ false → recovered pairs log image .image ≡ image
+unfolding recovered
+bad-left pairs log image e = rw e
 
 pub recovery-listed : RecoveryListed
 unfolding recovered

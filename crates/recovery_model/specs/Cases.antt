@@ -3,14 +3,15 @@
 use Prim.Native.Nat.{ℕ}
 use mathlib.Core.Path.{_≡_}
 use mathlib.Core.List.{List, [], _∷_}
-use lib.ListN.{length, take, replicate}
-use Rattle.formats.specs.Format.{V1}
+use lib.ListN.{length, take, drop, replicate}
+use Rattle.formats.specs.Format.{V1, V2}
 use Rattle.commands.specs.Command.{original, translation}
 use Rattle.commands.specs.Bytes.{commandBytes}
 use Rattle.stamps.specs.Stamp.{noPair}
 use Rattle.image.specs.Image.{fresh}
 use Rattle.model.specs.Serve.{serve}
 use Rattle.model.specs.Cases.{stamp1, text205, text401, writeOriginal}
+use Rattle.model.specs.Words.{imageAfter}
 use Rattle.redo_log.specs.Log.{LogRecord}
 use Rattle.redo_log_claims.specs.Claims.{cutAfter}
 use Rattle.redo_log_claims.specs.Cases.{beginOf, updateOf, commitOf, syncedOf, emptyLog}
@@ -101,9 +102,19 @@ recoveryCases =
     ∷ recoveryCase (beginOf 1 ∷ updateOf 9 1 text205 ∷ commitOf 1 ∷ []) (record { s = replicate 10 65536; x = replicate 10 65536 }) blankImage 2 1 [] []
     ∷ recoveryCase (beginOf 1 ∷ updateOf 0 1 text205 ∷ commitOf 1 ∷ []) pairs1 markedImage 3 1 [] []
     ∷ recoveryCase (beginOf 1 ∷ updateOf 0 1 text205 ∷ commitOf 1 ∷ []) pairs1 (take 143 blankImage) 9 1 [] []
+    -- an image of version 2: the first update that is due, here at line 3; and none
+    ∷ recoveryCase (beginOf 1 ∷ updateOf 0 1 text205 ∷ beginOf 2 ∷ updateOf 0 1 text401 ∷ commitOf 2 ∷ []) pairs1 (fresh V2 2 16) 9 3 [] []
+    ∷ recoveryCase (beginOf 1 ∷ updateOf 0 1 text205 ∷ []) pairs1 (fresh V2 2 16) 0 0 [] []
     -- a stored mark is expected and stays
     ∷ recoveryCase (beginOf 1 ∷ updateOf 0 1 text205 ∷ commitOf 1 ∷ []) pairs2 markedImage 0 0 text205 []
     ∷ []
+
+-- Both texts are due. Of the two writes only the first was made, under pairs1; then recovery runs again, under pairs2.
+abbrev pub bothTexts : List LogRecord
+bothTexts = beginOf 1 ∷ updateOf 0 1 text205 ∷ updateOf 0 2 text401 ∷ commitOf 1 ∷ []
+
+abbrev pub afterFirst : List ℕ
+afterFirst = imageAfter V1 blankImage (drop 1 (recovering pairs1 bothTexts blankImage 4 .sent))
 
 -- Two transactions appended one after the other. The first takes 16, 18 and 16 stores, the second 16, 18 and 16.
 abbrev pub twoTransactions : List LogRecord
@@ -124,5 +135,8 @@ pub record RecoveryCases : Type 0 where
   pub cut100 : (recoveredCut 100 .number ≡ 0) × (textIn (recoveredCut 100 .image) original 0 ≡ text401)
   -- a second run under the same pairs: no write is refused, and the original is one edition on
   pub again : recovered pairs1 (cutAfter 100 (emptyLog 64) twoTransactions) (recoveredCut 100 .image) .number ≡ 0
+  -- cut after its first write and run again
+  pub cut-first : (textIn afterFirst original 0 ≡ text205) × (textIn afterFirst (translation 0) 0 ≡ [])
+  pub run-again : RecoveryHolds (recoveryCase bothTexts pairs2 afterFirst 0 0 text205 text401)
   -- a bad log
   pub bad : recovered pairs1 (201 ∷ replicate 2200 0) blankImage ≡ record { number = 23; line = 0; image = blankImage; sent = [] }

@@ -1,4 +1,4 @@
--- A run of a stream where so many numbers can be written: which commands it judges, how many they are, and where it stops (rules 8.2 and 8.5).
+-- A run of a stream where so many numbers can be written: which commands it judges, how many they are, and where it stops (rules 8.2, 8.5 and 8.7).
 -- Assumes nothing.
 use Prim.Native.Nat.{ℕ, _/_}
 use mathlib.Core.Path.{_≡_}
@@ -22,7 +22,7 @@ ranOf f stream lent = record { count = length (judgedOf f stream lent); end = le
 abbrev pub lined : Run → List ℕ
 lined r = spread numbersOf (r .answers)
 
--- What a run comes to (rules 8.2 to 8.5): how far it goes, and the image, the reply buffer and the lines after it.
+-- What a run comes to (rules 8.2 to 8.5 and 8.7): how far it goes, and the image, the reply buffer and the lines after it.
 abbrev pub RunsTo : Format → List ℕ → List ℕ → List ℕ → List ℕ → Ran → List ℕ → List ℕ → List ℕ → Type 0
 RunsTo f image stream reply lines ran image′ reply′ lines′ =
     (ran ≡ ranOf f stream (length lines))

@@ -35,7 +35,7 @@ part-carry-out-end : tie.Need-part-carry-out-end
 part-carry-out-end c = search needs
 
 carry-out-requires : tie.Need-carry-out-requires
-carry-out-requires c κs = (sym (c .before .before .before .before .before .before .before .before .before .before .before .before .before .pre .0) ∙ not-false _ (c .before .before .before .before .before .before .before .before .if1 .left), write-length (c .before .before .before .before .before .before .before .before .before .before .before .before .before .args .image .now) (c .before .before .before .before .before .before .before .before .before .before .before .before .before .args .s .now) (c .before .before .before .before .before .before .before .before .before .before .before .before .before .args .x .now) (c .before .before .before .before .before .before .before .before .before .before .before .before .before .args .body .now) (c .before .before .before .before .before .before .before .before .before .before .before .before .before .args .ok) (c .before .before .before .before .before .before .before .before .before .before .before .before .before .pre .0) (c .before .before .before .before .before .before .before .read-u16 .ensures) (c .before .before .before .before .before .before .at-or-zero .ensures) (c .before .before .before .before .before .at-or-zero2 .ensures) (c .before .before .before .entry-for .ensures) (c .before .before .write-of .ensures), write-fits (c .before .before .before .before .before .before .before .before .before .before .before .before .before .args .image .now) (c .before .before .before .before .before .before .before .before .before .before .before .before .before .args .s .now) (c .before .before .before .before .before .before .before .before .before .before .before .before .before .args .x .now) (c .before .before .before .before .before .before .before .before .before .before .before .before .before .args .body .now) (c .before .before .before .before .before .before .before .before .before .before .before .before .before .args .ok) (c .before .before .before .before .before .before .before .before .before .before .before .before .before .pre .0) (c .before .before .before .before .before .before .before .read-u16 .ensures) (c .before .before .before .before .before .before .at-or-zero .ensures) (c .before .before .before .before .before .at-or-zero2 .ensures) (c .before .before .before .entry-for .ensures) (c .before .before .write-of .ensures) (sym (c .before .before .before .before .before .before .before .before .before .before .before .before .before .pre .0) ∙ not-false _ (c .before .before .before .before .before .before .before .before .if1 .left)) (λ j. c .before .before .before .before .before .before .before .before .before .before .before .before .slice-known .given j .fits) (λ j. c .before .before .before .before .before .before .before .before .before .before .before .shared-slice-known .given j .fits) (λ j. c .before .before .before .before .before .before .before .before .before .before .shared-slice-known2 .given j .fits) (λ j. c .before .before .before .before .before .before .before .before .before .shared-slice-known3 .given j .fits) (c .before .before .before .before .before .before .before .before .before .before .before .before .before .pre .2), write-names (c .before .before .before .before .before .before .before .before .before .before .before .before .before .args .image .now) (c .before .before .before .before .before .before .before .before .before .before .before .before .before .args .s .now) (c .before .before .before .before .before .before .before .before .before .before .before .before .before .args .x .now) (c .before .before .before .before .before .before .before .before .before .before .before .before .before .args .body .now) (c .before .before .before .before .before .before .before .before .before .before .before .before .before .args .ok) (c .before .before .before .before .before .before .before .before .before .before .before .before .before .pre .0) (c .before .before .before .before .before .before .before .read-u16 .ensures) (c .before .before .before .before .before .before .at-or-zero .ensures) (c .before .before .before .before .before .at-or-zero2 .ensures) (c .before .before .before .entry-for .ensures) (c .before .before .write-of .ensures))
+carry-out-requires c κs = (sym (c .before .before .before .before .before .before .before .before .before .before .before .before .before .pre .0) ∙ not-false _ (c .before .before .before .before .before .before .before .before .if1 .left), write-length (c .before .before .before .before .before .before .before .before .before .before .before .before .before .args .image .now) (c .before .before .before .before .before .before .before .before .before .before .before .before .before .args .s .now) (c .before .before .before .before .before .before .before .before .before .before .before .before .before .args .x .now) (c .before .before .before .before .before .before .before .before .before .before .before .before .before .args .body .now) (c .before .before .before .before .before .before .before .before .before .before .before .before .before .args .ok) (c .before .before .before .before .before .before .before .before .before .before .before .before .before .pre .0) (c .before .before .before .before .before .before .before .read-u16 .ensures) (c .before .before .before .before .before .before .at-or-zero .ensures) (c .before .before .before .before .before .at-or-zero2 .ensures) (c .before .before .before .entry-for .ensures) (c .before .before .write-of .ensures), write-fits (c .before .before .before .before .before .before .before .before .before .before .before .before .before .args .image .now) (c .before .before .before .before .before .before .before .before .before .before .before .before .before .args .s .now) (c .before .before .before .before .before .before .before .before .before .before .before .before .before .args .x .now) (c .before .before .before .before .before .before .before .before .before .before .before .before .before .args .body .now) (c .before .before .before .before .before .before .before .before .before .before .before .before .before .args .ok) (c .before .before .before .before .before .before .before .before .before .before .before .before .before .pre .0) (c .before .before .before .before .before .before .before .read-u16 .ensures) (c .before .before .before .before .before .before .at-or-zero .ensures) (c .before .before .before .before .before .at-or-zero2 .ensures) (c .before .before .before .entry-for .ensures) (c .before .before .write-of .ensures) (λ j. c .before .before .before .before .before .before .before .before .before .before .before .before .slice-known .given j .fits) (λ j. c .before .before .before .before .before .before .before .before .before .before .before .shared-slice-known .given j .fits) (λ j. c .before .before .before .before .before .before .before .before .before .before .shared-slice-known2 .given j .fits) (λ j. c .before .before .before .before .before .before .before .before .before .shared-slice-known3 .given j .fits) (c .before .before .before .before .before .before .before .before .before .before .before .before .before .pre .2), write-names (c .before .before .before .before .before .before .before .before .before .before .before .before .before .args .image .now) (c .before .before .before .before .before .before .before .before .before .before .before .before .before .args .s .now) (c .before .before .before .before .before .before .before .before .before .before .before .before .before .args .x .now) (c .before .before .before .before .before .before .before .before .before .before .before .before .before .args .body .now) (c .before .before .before .before .before .before .before .before .before .before .before .before .before .args .ok) (c .before .before .before .before .before .before .before .before .before .before .before .before .before .pre .0) (c .before .before .before .before .before .before .before .read-u16 .ensures) (c .before .before .before .before .before .before .at-or-zero .ensures) (c .before .before .before .before .before .at-or-zero2 .ensures) (c .before .before .before .entry-for .ensures) (c .before .before .write-of .ensures))
 
 same-length : tie.Need-same-length
 same-length c = search needs
