@@ -1,7 +1,7 @@
 -- A log of zeros is good and empty. Assumes nothing.
 use Prim.Native.Nat.{ℕ, zero, suc}
-use mathlib.Core.Path.{_≡_, refl}
-use mathlib.Core.Bool.{Bool, true, false, _&&_}
+use mathlib.Core.Path.{_≡_, refl, _∙_}
+use mathlib.Core.Bool.{true, _&&_, and-true}
 use lib.Dec.{leb}
 use lib.ListN.{replicate, length-replicate}
 use Rattle.lists.specs.Parts.{table, every}
@@ -12,14 +12,10 @@ none-counted : (n : ℕ) → recordCount (replicate n 0) ≡ 0
 none-counted zero = refl
 none-counted (suc n) = refl
 
-both-true : (b : Bool) → (b && true && true) ≡ b
-both-true true = refl
-both-true false = refl
-
 pub zero-logs : ZeroLogs
 unfolding goodLog records table every
 zero-logs n =
     record {
-      good = rw (none-counted n, length-replicate {A = ℕ} n 0) (both-true (leb bodiesFrom n && leb n mostLog));
+      good = rw (none-counted n, length-replicate {A = ℕ} n 0) (and-true (leb bodiesFrom n && leb n mostLog && true) ∙ and-true (leb bodiesFrom n && leb n mostLog));
       empty = rw (none-counted n);
     }

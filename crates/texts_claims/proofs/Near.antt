@@ -4,9 +4,10 @@ use native.Mathlib.Omega.{arith}
 use native.Mathlib.Nat.{add-comm, mul-comm, mul-pos}
 use mathlib.Core.Path.{_≡_, refl, sym, ap, subst, _∙_}
 use mathlib.Core.Logic.{_⊎_, inl, inr}
-use mathlib.Core.Bool.{Bool, true, false, cond, not, _&&_, _||_, Bool·beq, and-comm}
-use borrow.Author.Tests.{eqb-true, eqb-false, eq-eqb, ne-eqb, ltb-true, ltb-false}
+use mathlib.Core.Bool.{Bool, true, false, cond, not, _&&_, _||_, Bool·beq, and-comm, Bool·not-not}
+use borrow.Author.Tests.{eqb-true, ltb-true, ltb-false}
 use lib.Dec.{eqb, ltb, lit<}
+use Rattle.lists.proofs.Tests.{eqb-comm}
 use lib.IntN.{pos}
 use lib.Ieee.{Float, nan, inf, fin, Format, binary64, prec, emax, low, up, down, size, nearest, odd, units, round, neg, sum, add, sub, div, ofInt, below, level, lt, eq, le}
 use lib.Ieee.Fits.{down-pos, core, round-is}
@@ -19,15 +20,11 @@ use Rattle.texts_claims.specs.Claims.{NearBothWays, AgreeBothWays}
 
 -- ---- signs
 
-not-not : (s : Bool) → not (not s) ≡ s
-not-not true = refl
-not-not false = refl
-
 neg-neg : (x : Float) → neg (neg x) ≡ x
 unfolding neg
 neg-neg nan = refl
-neg-neg (inf s) = ap inf (not-not s)
-neg-neg (fin s m e) = ap (λ (t : Bool). fin t m e) (not-not s)
+neg-neg (inf s) = ap inf (Bool·not-not s)
+neg-neg (fin s m e) = ap (λ (t : Bool). fin t m e) (Bool·not-not s)
 
 -- Rounding does not look at the sign.
 neg-odd : (d : ℕ) (s : Bool) (q k l : ℕ) → neg (odd d s q k l) ≡ odd d (not s) q k l
@@ -54,13 +51,6 @@ neg-round s a c = ap neg (round-is binary64 s a c) ∙ neg-core (a * 2 ^ low bin
 
 -- ---- comparisons of numbers with both signs changed
 
-eqb-swap : (a b : ℕ) → eqb a b ≡ eqb b a
-eqb-swap a b = go (eqb a b) refl
-  where
-    go : (t : Bool) → eqb a b ≡ t → eqb a b ≡ eqb b a
-    go true e = let same = eqb-true a b e in e ∙ sym (eq-eqb b a (sym same))
-    go false e = e ∙ sym (ne-eqb b a (λ z. eqb-false a b e (sym z)))
-
 below-neg : (s t : Bool) (a b : ℕ) → below (not s) a (not t) b ≡ below t b s a
 below-neg false false a b = refl
 below-neg false true a b = ap (ltb 0) (add-comm a b)
@@ -78,7 +68,7 @@ level-neg s t a b = go (eqb a b) refl
 
     go : (q : Bool) → eqb a b ≡ q → level (not s) a (not t) b ≡ level t b s a
     go true e = let same = eqb-true a b e in rw (same, signs s t)
-    go false e = rw (e, sym (eqb-swap a b) ∙ e)
+    go false e = rw (e, eqb-comm b a ∙ e)
 
 le-neg : (x y : Float) → le (neg x) (neg y) ≡ le y x
 unfolding le lt eq neg
@@ -155,7 +145,7 @@ opposite (inf false) (inf false) = inl refl
 opposite (inf false) (inf true) = inl refl
 opposite (inf true) (inf false) = inl refl
 opposite (inf true) (inf true) = inl refl
-opposite (inf s) (fin t n d) = inl (ap inf (sym (not-not s)))
+opposite (inf s) (fin t n d) = inl (ap inf (sym (Bool·not-not s)))
 opposite (fin s m e) nan = inl refl
 opposite (fin s m e) (inf t) = inl refl
 opposite (fin s m e) (fin t n d) =
