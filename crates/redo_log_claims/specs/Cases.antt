@@ -60,6 +60,15 @@ appendCases =
     ∷ appendCase 8 [] (beginOf 0) 99 23 []
     ∷ appendCase 8 (beginOf 7 ∷ []) (beginOf 7) 99 23 (beginOf 7 ∷ [])
     ∷ appendCase 8 (beginOf 7 ∷ []) (beginOf 8) 99 0 (beginOf 7 ∷ beginOf 8 ∷ [])
+    -- a begin and a commit have 4 bytes, a synced record has 6, an update has 3 at least
+    ∷ appendCase 8 [] (record { kind = beginKind; body = 7 ∷ 0 ∷ 0 ∷ [] }) 99 23 []
+    ∷ appendCase 8 [] (record { kind = beginKind; body = 7 ∷ 0 ∷ 0 ∷ 0 ∷ 0 ∷ [] }) 99 23 []
+    ∷ appendCase 12 (beginOf 7 ∷ []) (record { kind = commitKind; body = 7 ∷ 0 ∷ 0 ∷ [] }) 99 23 (beginOf 7 ∷ [])
+    ∷ appendCase 12 (beginOf 7 ∷ []) (record { kind = commitKind; body = 7 ∷ 0 ∷ 0 ∷ 0 ∷ 0 ∷ [] }) 99 23 (beginOf 7 ∷ [])
+    ∷ appendCase 8 [] (record { kind = syncedKind; body = 3 ∷ 0 ∷ 9 ∷ 0 ∷ 0 ∷ [] }) 99 23 []
+    ∷ appendCase 8 [] (record { kind = syncedKind; body = 3 ∷ 0 ∷ 9 ∷ 0 ∷ 0 ∷ 0 ∷ 0 ∷ [] }) 99 23 []
+    ∷ appendCase 8 (beginOf 7 ∷ []) (record { kind = updateKind; body = 0 ∷ 0 ∷ [] }) 99 23 (beginOf 7 ∷ [])
+    ∷ appendCase 8 (beginOf 7 ∷ []) (updateOf 0 1 []) 15 0 (beginOf 7 ∷ updateOf 0 1 [] ∷ [])
     -- an update needs a transaction open, and side 1 or 2
     ∷ appendCase 8 [] (updateOf 0 1 (97 ∷ [])) 99 23 []
     ∷ appendCase 8 (beginOf 7 ∷ []) (updateOf 0 2 (97 ∷ [])) 99 0 (beginOf 7 ∷ updateOf 0 2 (97 ∷ []) ∷ [])
@@ -91,6 +100,26 @@ pub record LogCases : Type 0 where
   pub shortest : logNumber (emptyLog 0) ≡ 0
   pub short : logNumber (replicate 2200 0) ≡ 23
   pub many : logNumber (201 ∷ replicate 2200 0) ≡ 23
+  -- the longest log, and one byte more
+  pub longest : logNumber (replicate 65536 0) ≡ 0
+  pub long : logNumber (replicate 65537 0) ≡ 23
   -- the body is stored before its line: after four stores the line is still empty, after five its kind stands there
   pub stored4 : part 0 2 (appended 4 (emptyLog 8) (beginOf 7)) ≡ 0 ∷ 0 ∷ []
   pub stored5 : part 0 2 (appended 5 (emptyLog 8) (beginOf 7)) ≡ 0 ∷ 1 ∷ []
+
+-- ---- the last line of the table (rules 11.1 and 11.11)
+
+-- A synced record, and a log with so many of them; there is room for 216 bodies.
+abbrev pub oneSynced : LogRecord
+oneSynced = syncedOf 0 1
+
+abbrev pub syncedLog : ℕ → List ℕ
+syncedLog n = appendedAll (emptyLog 1300) (replicate n oneSynced)
+
+-- The 200th record is taken and reads back; one more finds the log full, however many stores it has, and changes nothing.
+pub record LastLine : Type 0 where
+  pub last : appendNumber 18 (syncedLog 199) oneSynced ≡ 0
+  pub back : readBack (syncedLog 200) ≡ replicate 200 oneSynced
+  pub full : appendNumber 18 (syncedLog 200) oneSynced ≡ 24
+  pub none-left : appendNumber 0 (syncedLog 200) oneSynced ≡ 24
+  pub kept : appended 18 (syncedLog 200) oneSynced ≡ syncedLog 200

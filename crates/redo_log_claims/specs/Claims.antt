@@ -4,12 +4,12 @@ use Prim.Native.Nat.{ℕ, suc, _+_, _-_, _≤_, _<_}
 use mathlib.Core.Path.{_≡_}
 use mathlib.Core.Logic.{_↔_}
 use mathlib.Core.List.{List, [], _∷_, _++_}
-use mathlib.Core.Bool.{true, cond}
-use lib.ListN.{length, take, getD}
-use lib.Dec.{T, ltb}
+use mathlib.Core.Bool.{true, cond, _&&_}
+use lib.ListN.{length, take, getD, replicate}
+use lib.Dec.{T, ltb, leb}
 use Rattle.lists.specs.Parts.{Bytes}
 use Rattle.lists.specs.Table.{applies, earlier, noRow, settled, listed}
-use Rattle.redo_log.specs.Log.{LogRecord, bodiesFrom, recordCount, goodLog, logNumber, records}
+use Rattle.redo_log.specs.Log.{LogRecord, beginKind, bodiesFrom, mostLog, recordTransaction, recordCount, recordAt, lastBegun, goodLog, logNumber, records}
 use Rattle.redo_log.specs.Append.{Store, stored, stores, appendRows, appendNumber, appended}
 
 -- ---- one append (rules 11.10 to 11.13)
@@ -50,6 +50,25 @@ appendNumbers = 23 ∷ 24 ∷ 26 ∷ []
 pub record LogListed : Type 0 where
   pub checked : (log : List ℕ) → T (listed checkNumbers (logNumber log))
   pub appends : (budget : ℕ) (log : List ℕ) (r : LogRecord) → T (listed appendNumbers (appendNumber budget log r))
+
+-- ---- transactions rise (rule 11.5)
+
+-- At each record of a good log, to be above the transaction begun last is to be above 0 and above every one begun before.
+abbrev pub AboveEvery : Type 0
+AboveEvery =
+    (log : List ℕ) → goodLog log ≡ true → (n : ℕ) → n ≤ recordCount log → (t : ℕ)
+    → (lastBegun (recordAt log) n < t)
+    ↔ ((0 < t) × ((i : ℕ) → i < n → recordAt log i .kind ≡ beginKind → recordTransaction (recordAt log i) < t))
+
+-- ---- a log of zeros (rule 11.1)
+
+-- It is good exactly if its length is within the limits, and it is empty.
+pub record OnlyZeros (n : ℕ) : Type 0 where
+  pub good : goodLog (replicate n 0) ≡ (leb bodiesFrom n && leb n mostLog)
+  pub empty : records (replicate n 0) ≡ []
+
+abbrev pub ZeroLogs : Type 0
+ZeroLogs = (n : ℕ) → OnlyZeros n
 
 -- ---- many appends, and one cut somewhere among all their stores (rule 11.14)
 

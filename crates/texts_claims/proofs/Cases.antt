@@ -12,7 +12,7 @@ use Rattle.floats.specs.Numbers.{wholeFloat, half}
 use Rattle.drops.specs.Drop.{degreesOf, dropOf, inFahrenheit, near}
 use Rattle.texts.specs.Text.{stepCount, stepBytes}
 use Rattle.texts.specs.Agree.{unmatchedStep, verdict}
-use Rattle.texts_claims.specs.Cases.{times, around, sample, textCases, TextsWorked, SampleWorked}
+use Rattle.texts_claims.specs.Cases.{times, around, sample, textCases, TextsWorked, SampleWorked, PlacesWorked}
 use Rattle.texts_claims.proofs.Deciding.{gotten, compared, all-gotten, each-compared, gets, reading, whole, saysSo, sameVerdict, alike, stepFits, readSection, readSteps, readStep, byKind, readDrop, ofScale, readWords}
 
 -- The sample cut before a byte, as the first text and as the second.
@@ -39,3 +39,6 @@ sample-worked = record {
   cut = λ k small. compared (take k sample) sample (verdict 18 0) (and-left (gotten (take k sample) sample (verdict 18 0)) (gotten sample (take k sample) (verdict 19 0)) (refused k small));
   cutSecond = λ k small. compared sample (take k sample) (verdict 19 0) (and-right (gotten (take k sample) sample (verdict 18 0)) (gotten sample (take k sample) (verdict 19 0)) (refused k small));
 }
+
+pub places-worked : PlacesWorked
+places-worked = record { drop-behind-words = refl; section-step = refl; inner-step = refl; inner-end = refl; whole-end = refl }

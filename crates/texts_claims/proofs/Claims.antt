@@ -1,7 +1,8 @@
 -- The claims of structured texts. Assumes nothing.
 use Prim.Native.Nat.{ℕ, _+_, _≤_}
 use native.Mathlib.Omega.{arith}
-use mathlib.Core.Path.{_≡_, refl, sym, ap, _∙_}
+use mathlib.Core.Path.{_≡_, refl, sym, ap, subst, _∙_}
+use mathlib.Core.Logic.{_⊎_}
 use mathlib.Core.List.{List, [], _++_, append-nil}
 use mathlib.Core.Option.{Option, none, some}
 use lib.Dec.{T}
@@ -10,8 +11,10 @@ use Rattle.lists.specs.Table.{listed}
 use Rattle.texts.specs.Text.{Section, stepsBytes, sectionBytes, Says, deepest}
 use Rattle.texts.specs.Agree.{unmatched, Verdict, placed, Compared, firstIll, secondIll, judged}
 use Rattle.texts.proofs.Once.{section-once}
-use Rattle.texts_claims.specs.Claims.{OneReading, NoneBehind, OneVerdict, Agreed, Disagreed, VerdictExactly, compareNumbers, TextClaims}
+use Rattle.texts_claims.specs.Claims.{OneReading, NoneBehind, OneVerdict, Agreed, Disagreed, AgreedBothWays, BeginsThere, EndsThere, VerdictExactly, compareNumbers, TextClaims}
 use Rattle.texts_claims.proofs.Agree.{matched-agree, place-inside}
+use Rattle.texts_claims.proofs.Near.{near-both-ways, agree-both-ways}
+use Rattle.texts_claims.proofs.Places.{tells-there}
 
 -- ---- readings
 
@@ -81,6 +84,7 @@ module _ (a b : List ℕ) (s t : Section) (p : Says a s) (q : Says b t) where
     secondRefused = ((λ z. absurd (omega (arith, z, number-of e))), (λ x. absurd (x .1 (t, q))));
     differing = ((λ z. absurd (omega (arith, z, number-of e))), (λ d. absurd (not-both (matched-agreed u) d)));
     inside = λ z. absurd (omega (arith, z, number-of e));
+    there = λ z. absurd (omega (arith, z, number-of e));
     placeless = λ z. place-of e;
   }
   both-exactly v (some place) u e = record {
@@ -89,8 +93,15 @@ module _ (a b : List ℕ) (s t : Section) (p : Says a s) (q : Says b t) where
     secondRefused = ((λ z. absurd (omega (arith, z, number-of e))), (λ x. absurd (x .1 (t, q))));
     differing = ((λ z. placed-disagreed place u), (λ d. number-of e));
     inside = λ z. (omega (arith, within place u .0, place-of e), omega (arith, within place u .1, place-of e));
+    there = λ z. subst (λ (n : ℕ). BeginsThere a n ⊎ EndsThere a n) (sym (place-of e)) (tells-there a s p t place u);
     placeless = λ z. absurd (z (number-of e));
   }
+
+pub agreed-both-ways : AgreedBothWays
+agreed-both-ways a b = (turn a b, turn b a)
+  where
+    turn : (a b : List ℕ) → Agreed a b → Agreed b a
+    turn a b (s, t, p, q, h) = (t, s, q, p, subst T (agree-both-ways s t) h)
 
 pub exactly : (a b : List ℕ) (v : Verdict) → Compared a b v → VerdictExactly a b v
 exactly a b v (firstIll x e) = record {
@@ -99,6 +110,7 @@ exactly a b v (firstIll x e) = record {
   secondRefused = ((λ z. absurd (omega (arith, z, number-of e))), (λ g. absurd (x (g .0))));
   differing = ((λ z. absurd (omega (arith, z, number-of e))), (λ g. absurd (x (g .0, g .2))));
   inside = λ z. absurd (omega (arith, z, number-of e));
+  there = λ z. absurd (omega (arith, z, number-of e));
   placeless = λ z. place-of e;
 }
 exactly a b v (secondIll g x e) = record {
@@ -107,6 +119,7 @@ exactly a b v (secondIll g x e) = record {
   secondRefused = ((λ z. (g, x)), (λ z. number-of e));
   differing = ((λ z. absurd (omega (arith, z, number-of e))), (λ h. absurd (x (h .1, h .3))));
   inside = λ z. absurd (omega (arith, z, number-of e));
+  there = λ z. absurd (omega (arith, z, number-of e));
   placeless = λ z. place-of e;
 }
 exactly a b v (judged s t p q e) = both-exactly a b s t p q v (unmatched s t 2) refl e
@@ -126,6 +139,9 @@ text-claims = record {
   noneBehind = none-behind;
   matchedAgree = matched-agree;
   placeInside = place-inside;
+  nearBothWays = near-both-ways;
+  agreeBothWays = agree-both-ways;
+  agreedBothWays = agreed-both-ways;
   oneVerdict = one-verdict;
   exactly = exactly;
   numbers = numbers;

@@ -1,4 +1,6 @@
+pub mod Near
 pub mod Agree
+pub mod Places
 pub mod Claims
 pub mod Deciding
 pub mod Cases

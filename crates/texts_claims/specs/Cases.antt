@@ -3,7 +3,7 @@
 use Prim.Native.Nat.{ℕ, zero, suc, _<_}
 use mathlib.Core.Path.{_≡_}
 use mathlib.Core.List.{List, [], _∷_, _++_}
-use lib.ListN.{length, take, replicate}
+use lib.ListN.{length, take, drop, replicate}
 use Rattle.texts.specs.Agree.{Verdict, verdict, Compared}
 
 -- One row of the table.
@@ -120,6 +120,14 @@ textCases =
     ∷ textCase (holding 1 (4 ∷ 2 ∷ 0 ∷ [])) (holding 0 []) 18 0
     ∷ textCase (holding 1 c205) (holding 1 (3 ∷ 67 ∷ 2 ∷ [])) 19 0
     ∷ []
+
+-- The places of four rows, in bytes: from 7, 4 and 5 on stands a step of the first text; up to 10 and up to 7 stands a section of it, behind its kind and as a whole.
+pub record PlacesWorked : Type 0 where
+  pub drop-behind-words : drop 7 (holding 2 (abc ++ c205)) ≡ c205
+  pub section-step : drop 4 (holding 2 (noWords ++ sectionStep 1 c205)) ≡ sectionStep 1 c205
+  pub inner-step : drop 5 (holding 1 (sectionStep 1 c205)) ≡ c205
+  pub inner-end : take 10 (holding 2 (sectionStep 1 abc ++ noWords)) ≡ (1 ∷ 2 ∷ 4 ∷ []) ++ holding 1 abc
+  pub whole-end : take 7 (holding 1 abc) ≡ holding 1 abc
 
 -- A statement of every row.
 unfoldable pub Each : (TextCase → Type 0) → List TextCase → Type 0
