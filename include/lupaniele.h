@@ -8,6 +8,202 @@
 #include <stddef.h>
 #include <stdint.h>
 
+/* numbers.txt: made by tools/numbers; change include/numbers.txt. */
+/* The numbers (docs/RULES.md, section 5). */
+enum lupaniele_number {
+    LUPANIELE_ACCEPTED = 0,            /* rule 5.1: accepted */
+    LUPANIELE_MALFORMED = 1,           /* rule 3.3: malformed */
+    LUPANIELE_NO_CARD = 2,             /* rule 4.1: no such card */
+    LUPANIELE_STALE = 3,               /* rule 4.2: stale */
+    LUPANIELE_MARK_DIFFERS = 4,        /* rule 4.3: commit mark does not pass */
+    LUPANIELE_PAYLOAD_LONG = 5,        /* rule 4.1: text longer than the room */
+    LUPANIELE_EDITION_WRONG = 6,       /* rule 4.6: translation behind */
+    LUPANIELE_EDITIONS_SPENT = 7,      /* rule 4.1: no edition left */
+    LUPANIELE_REPLY_SHORT = 8,         /* rule 4.1: buffer too short */
+    LUPANIELE_UNSOUND = 9,             /* rule 2.6: image not sound */
+    LUPANIELE_BAD_QUEUE = 10,          /* rule 7.4: bad queue */
+    LUPANIELE_PAIR_DENIED = 11,        /* rule 7.7: denied */
+    LUPANIELE_STANDS_ALREADY = 12,     /* rule 7.9: stands already */
+    LUPANIELE_QUEUE_FULL = 13,         /* rule 7.6: queue full */
+    LUPANIELE_NOT_MADE = 14,           /* rule 2.7: no such image can be made */
+    LUPANIELE_NOT_STANDING = 15,       /* rule 7.12: does not stand */
+    LUPANIELE_NO_STAMP_LEFT = 16,      /* rule 10.6: no stamp left */
+    LUPANIELE_TOO_FAR = 17,            /* rule 4.9: from too far ahead */
+    LUPANIELE_FIRST_ILL = 18,          /* rule 12.1: first text ill formed */
+    LUPANIELE_SECOND_ILL = 19,         /* rule 12.1: second text ill formed */
+    LUPANIELE_UNMATCHED = 20,          /* rule 12.10: texts differ */
+    LUPANIELE_LEASE_OUT_OF_RANGE = 21, /* rule 13.2: lease out of range */
+    LUPANIELE_HISTORY_FULL = 22,       /* rule 14.2: history full */
+    LUPANIELE_BAD_LOG = 23,            /* rule 11.6: bad log or record */
+    LUPANIELE_LOG_FULL = 24,           /* rule 11.11: log full */
+    LUPANIELE_LEASE_RUNS = 25,         /* rule 13.4: lease still runs */
+    LUPANIELE_APPEND_CUT = 26,         /* rule 11.11: append cut */
+    LUPANIELE_NUMBERS = 27             /* how many there are */
+};
+
+/* A number in a few words: lupaniele_name(LUPANIELE_STALE) is "stale". */
+static inline const char *lupaniele_name(uint8_t number) {
+    static const char *const words[LUPANIELE_NUMBERS] = {
+        "accepted",
+        "malformed",
+        "no such card",
+        "stale",
+        "commit mark does not pass",
+        "text longer than the room",
+        "translation behind",
+        "no edition left",
+        "buffer too short",
+        "image not sound",
+        "bad queue",
+        "denied",
+        "stands already",
+        "queue full",
+        "no such image can be made",
+        "does not stand",
+        "no stamp left",
+        "from too far ahead",
+        "first text ill formed",
+        "second text ill formed",
+        "texts differ",
+        "lease out of range",
+        "history full",
+        "bad log or record",
+        "log full",
+        "lease still runs",
+        "append cut",
+    };
+    return number < LUPANIELE_NUMBERS ? words[number] : "no number of the store";
+}
+
+/* The rule of docs/RULES.md that says when the number is given. */
+static inline const char *lupaniele_rule(uint8_t number) {
+    static const char *const words[LUPANIELE_NUMBERS] = {
+        "5.1",
+        "3.3",
+        "4.1",
+        "4.2",
+        "4.3",
+        "4.1",
+        "4.6",
+        "4.1",
+        "4.1",
+        "2.6",
+        "7.4",
+        "7.7",
+        "7.9",
+        "7.6",
+        "2.7",
+        "7.12",
+        "10.6",
+        "4.9",
+        "12.1",
+        "12.1",
+        "12.10",
+        "13.2",
+        "14.2",
+        "11.6",
+        "11.11",
+        "13.4",
+        "11.11",
+    };
+    return number < LUPANIELE_NUMBERS ? words[number] : "5.1";
+}
+
+/* What the number means, as a sentence. */
+static inline const char *lupaniele_meaning(uint8_t number) {
+    static const char *const words[LUPANIELE_NUMBERS] = {
+        "What was asked for is done.",
+        "What was sent breaks its layout, or lacks a mode, a desk or a stamp that it must have.",
+        "The image has no card of that number.",
+        "A command with a newer pair was accepted first, so the pair that this one relies on is too old.",
+        "The stored commit mark is another desk's, or of a later transaction than the one expected.",
+        "The text is longer than the room that the image has for one.",
+        "The translation was not made from the original as it stands, or names another edition than the stored one.",
+        "The original was written 65,535 times, and its edition can grow no further.",
+        "The text is longer than the lent reply buffer, or a length is beyond its buffer.",
+        "The bytes are no sound image of the version that was called.",
+        "The queue has too few or too many places, or a count, an entry or a largest pair that no requests leave.",
+        "A newer pair was accepted in this queue.",
+        "The desk stands in the queue, and this is no upgrade from shared to exclusive.",
+        "Every place of the queue is taken.",
+        "The number of cards, the room or the length of the lent bytes is none that an image has.",
+        "This desk, with this start, does not stand in the queue.",
+        "A new stamp of this desk would need a T above the largest there is.",
+        "A stamp's T is more than 1,000,000 above the stored one, as from a broken clock.",
+        "The first text is not one whole section, as a structured text is.",
+        "The second text is not one whole section, as a structured text is.",
+        "A step of one text has no match in the other: its kind, its drop or its place differs.",
+        "The lease's period or drift, or one of the two times, is outside its limits or no number.",
+        "With one more accepted command the history would have more commands or payload bytes than it keeps.",
+        "The log breaks its layout or its order, or the record to append would.",
+        "The log has all its records, or no room for this one behind the last.",
+        "The desk's lease, lengthened by the drift of clocks, is not over.",
+        "The stores ended before the append was whole, and the log reads back as before it.",
+    };
+    return number < LUPANIELE_NUMBERS ? words[number] : "The store has no such number.";
+}
+
+/* What a desk that gets the number may do now, as a sentence. */
+static inline const char *lupaniele_advice(uint8_t number) {
+    static const char *const words[LUPANIELE_NUMBERS] = {
+        "Go on, and learn the pair that came with the answer, if one did.",
+        "Mend what built it: the same again gets the same answer.",
+        "Name a card below the image's number of cards.",
+        "Learn the pair of the answer, propose a new one, read the card again, and decide anew.",
+        "Read the card under the mark of the answer, and expect that mark if you send again.",
+        "Shorten the text, or keep the card in an image with more room.",
+        "Show no translation; translate the original of the answer's edition, and write that.",
+        "Keep its texts on a card that has editions left.",
+        "Lend as many bytes as the image has room for a text, and ask again.",
+        "Serve nothing from it: call the functions of its own version, or go back to a copy that is sound.",
+        "Begin again with an empty queue.",
+        "Learn the largest pair of the answer, propose again, and ask with that.",
+        "Use the place that it has, or leave it first.",
+        "Ask again once a desk has left.",
+        "Choose numbers within the limits, and lend exactly the bytes that they need.",
+        "Nothing: it has no place to give back.",
+        "Keep the texts on a card whose stamps are not spent.",
+        "Begin again under a new start number, learn the pair of the answer, and propose from that.",
+        "Mend the first text, then compare.",
+        "Mend the second text, then compare.",
+        "Look at the step at the place of the answer, and mend the text that is wrong.",
+        "Mend the lease or the clock: until then nobody leaves by it.",
+        "Send it to a store with an image, which has no such limit.",
+        "Mend the record; where the log itself is bad, recover from a copy that is good.",
+        "Write every committed update to its card, then begin a new log.",
+        "Wait, and try again at a later time.",
+        "Append the record again, with stores enough for all of it.",
+    };
+    return number < LUPANIELE_NUMBERS ? words[number] : "Look for another program between you and the store.";
+}
+/* numbers.txt: end */
+
+/* What a command does (rule 3.2). */
+enum lupaniele_act {
+    LUPANIELE_READ_ORIGINAL = 1,     /* commands::READ_ORIGINAL */
+    LUPANIELE_READ_TRANSLATION = 2,  /* commands::READ_TRANSLATION */
+    LUPANIELE_WRITE_ORIGINAL = 3,    /* commands::WRITE_ORIGINAL */
+    LUPANIELE_WRITE_TRANSLATION = 4, /* commands::WRITE_TRANSLATION */
+    LUPANIELE_VERIFY = 5             /* commands::VERIFY: carries its stamps and does nothing else */
+};
+
+/* The mode of a command and of an ask (rule 1.4). */
+enum lupaniele_mode {
+    LUPANIELE_SHARED = 1,   /* stamps::SHARED */
+    LUPANIELE_EXCLUSIVE = 2 /* stamps::EXCLUSIVE */
+};
+
+/* The kinds of records in a log (rule 11.3). */
+enum lupaniele_kind {
+    LUPANIELE_BEGIN = 1,  /* redo_log::BEGIN */
+    LUPANIELE_UPDATE = 2, /* redo_log::UPDATE */
+    LUPANIELE_COMMIT = 3, /* redo_log::COMMIT */
+    LUPANIELE_SYNCED = 4  /* redo_log::SYNCED */
+};
+
+/* The languages of version 2 are 0 to this one (rule 15.1). */
+#define LUPANIELE_LAST_LANGUAGE 3 /* commands::MOST_LANGUAGE */
+
 /* Makes a fresh image of `cards` cards (N) with room `room` (C) in the whole of image (rules 2.2 and 2.7): 0; or 14, and
    nothing is written. */
 uint8_t lupaniele_make(uint8_t *image, size_t image_length, uint64_t cards, uint64_t room);
