@@ -2,7 +2,8 @@
 //! pointer and a length, an array or a number that is written is a pointer; the names are those of the sources. What each
 //! answers is said in `include/lupaniele.h`. Safe calls of all of them are in [`crate::raw`].
 
-extern "C" {
+#[allow(unsafe_code)]
+unsafe extern "C" {
     pub fn lupaniele_make(image: *mut u8, image_length: usize, cards: u64, room: u64) -> u8;
 
     pub fn lupaniele_sound(image: *const u8, image_length: usize) -> bool;
