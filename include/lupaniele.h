@@ -8,7 +8,7 @@
 
    - Pointers. A pointer and the length behind it are a lent buffer. With length 0 it may be NULL, since nothing is read
      or written there (the gate tries it; the proofs speak of buffers that have an address). Arrays of a fixed size and
-     numbers that are written are never NULL. Numbers of 64 bits are aligned.
+     numbers that are written are never NULL. A buffer of 64-bit numbers is aligned, and its length counts numbers.
    - Overlap. What is written overlaps nothing else that is lent to the same call. What is only read may overlap.
    - Threads. Nobody else writes what is lent, and nobody reads what is written, until the call returns. That is all:
      calls on different buffers may run at the same time.
@@ -770,15 +770,22 @@ static inline struct lupaniele_entry lupaniele_line_entry(const uint64_t *lines,
 
 /* ---- Images, to look at ---- */
 
+/* Where the parts of an image's header stand. */
+enum lupaniele_image_place {
+    LUPANIELE_AT_VERSION = 4, /* image::VERSION_AT */
+    LUPANIELE_AT_CARDS = 6,   /* image::CARDS_AT */
+    LUPANIELE_AT_ROOM = 8     /* image::ROOM_AT */
+};
+
 /* The version, the cards and the room that an image's header says: zeros where it is too short for a header. */
 static inline uint16_t lupaniele_image_version(const uint8_t *image, size_t image_length) {
-    return image_length < LUPANIELE_IMAGE_HEADER ? 0 : (uint16_t)lupaniele_get(image + 4, 2);
+    return image_length < LUPANIELE_IMAGE_HEADER ? 0 : (uint16_t)lupaniele_get(image + LUPANIELE_AT_VERSION, 2);
 }
 static inline uint16_t lupaniele_image_cards(const uint8_t *image, size_t image_length) {
-    return image_length < LUPANIELE_IMAGE_HEADER ? 0 : (uint16_t)lupaniele_get(image + 6, 2);
+    return image_length < LUPANIELE_IMAGE_HEADER ? 0 : (uint16_t)lupaniele_get(image + LUPANIELE_AT_CARDS, 2);
 }
 static inline uint16_t lupaniele_image_room(const uint8_t *image, size_t image_length) {
-    return image_length < LUPANIELE_IMAGE_HEADER ? 0 : (uint16_t)lupaniele_get(image + 8, 2);
+    return image_length < LUPANIELE_IMAGE_HEADER ? 0 : (uint16_t)lupaniele_get(image + LUPANIELE_AT_ROOM, 2);
 }
 
 /* What stands on a card: its entry, its original, and its translation in one language. */

@@ -5,8 +5,8 @@
 
 #include <lupaniele.h>
 
-enum { CARDS = 1, ROOM = 16, CARD = 0, T = 1, DESK = 1, START = 0, ONE = LUPANIELE_FIRST_LANGUAGE };
-enum { TWO = LUPANIELE_SECOND_LANGUAGE };
+enum { CARDS = 1, ROOM = 16, CARD = 0, T = 1, DESK = 1, START = 0, EDITION = 1 };
+enum { ONE = LUPANIELE_FIRST_LANGUAGE, TWO = LUPANIELE_SECOND_LANGUAGE };
 
 static uint8_t image[LUPANIELE_IMAGE_SIZE(CARDS, ROOM)], target[LUPANIELE_IMAGE_SIZE_V2(CARDS, ROOM)], reply[ROOM];
 static bool converted;
@@ -37,13 +37,13 @@ int main(void) {
         return 1;
     }
     request(lupaniele_write_original(CARD, "205", strlen("205")));
-    request(lupaniele_write_translation(CARD, ONE, 1, "401", strlen("401")));
+    request(lupaniele_write_translation(CARD, ONE, EDITION, "401", strlen("401")));
     printf("one byte short: %u\n", lupaniele_convert(image, sizeof image, target, sizeof target - 1));
     printf("converted: %u\n", lupaniele_convert(image, sizeof image, target, sizeof target));
     converted = true;
     request(lupaniele_read_translation(CARD, ONE)); /* what was the translation is the first language */
     request(lupaniele_read_translation(CARD, TWO)); /* the second is behind */
-    request(lupaniele_write_translation(CARD, TWO, 1, "402", strlen("402"))); /* until it is written */
+    request(lupaniele_write_translation(CARD, TWO, EDITION, "402", strlen("402"))); /* until it is written */
     request(lupaniele_read_translation(CARD, TWO));
     request(lupaniele_write_original(CARD, "206", strlen("206"))); /* the original again */
     request(lupaniele_read_translation(CARD, ONE));                /* puts both behind */

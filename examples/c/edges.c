@@ -5,11 +5,22 @@
 
 #include <lupaniele.h>
 
-enum { CARDS = 3, ROOM = 1024, CARD = 2, T = 5, DESK = 600, START = 700, SHORT = 255, LONG = 256 };
+enum {
+    CARDS = 3,
+    ROOM = 1024,
+    CARD = 2,
+    T = 5,
+    DESK = 600,
+    START = 700,
+    SHORT = 255,
+    LONG = 256,
+    MANY = 70000,
+    OTHER = 900
+};
 enum { MOST = LUPANIELE_MOST_TEXT, MOST_UPDATE = LUPANIELE_MOST_TEXT - LUPANIELE_UPDATE_BODY(0) };
 
 static uint8_t text[MOST + 1], bytes[LUPANIELE_COMMAND_SIZE_V2 + MOST], image[LUPANIELE_IMAGE_SIZE(CARDS, ROOM)];
-static uint8_t reply[ROOM];
+static uint8_t larger[LUPANIELE_IMAGE_SIZE_V2(CARDS, ROOM)], reply[ROOM];
 static uint64_t fields[LUPANIELE_FIELDS];
 
 /* The sizes of a write in both versions. */
@@ -19,46 +30,76 @@ static void sizes(const char *what, size_t length, uint8_t language) {
            (unsigned)lupaniele_command_size_v2(&command));
 }
 
-/* Writes a text of so many bytes and reads it back. */
-static void written(const char *what, size_t length) {
-    uint64_t stamp = lupaniele_stamp(T, DESK, START);
-    struct lupaniele_pair pair = lupaniele_pair_of(stamp, stamp);
-    struct lupaniele_command write = lupaniele_exclusive(lupaniele_write_original(CARD, text, length), pair), back;
-    struct lupaniele_command read = lupaniele_exclusive(lupaniele_read_original(CARD), pair);
-    size_t size = lupaniele_command_bytes(&write, bytes, sizeof bytes);
-    uint8_t number = lupaniele_answer(image, sizeof image, bytes, size, NULL, 0, fields);
-    bool same = lupaniele_command_read(bytes, size, &back) && back.length == length && back.verifier.x == stamp &&
-                back.act == write.act && back.card == write.card &&
-                (length == 0 || memcmp(back.text, text, length) == 0);
-    struct lupaniele_card card;
-    printf("%s: %s, %s\n", what, lupaniele_name(number), same ? "reads back as itself" : "READS BACK AS ANOTHER");
-    size = lupaniele_command_bytes(&read, bytes, sizeof bytes);
-    number = lupaniele_answer(image, sizeof image, bytes, size, reply, sizeof reply, fields);
-    same = lupaniele_card_at(image, sizeof image, CARD, LUPANIELE_FIRST_LANGUAGE, &card) &&
-           card.original_length == lupaniele_entry_of(fields).length &&
-           memcmp(card.original, reply, card.original_length) == 0 && card.pair.s == stamp;
-    printf("    %s, %u bytes, %s\n", lupaniele_name(number), lupaniele_entry_of(fields).length,
-           same ? "as the card has them" : "NOT AS THE CARD HAS THEM");
+/* A command with everything in it reads back as itself. */
+static bool same(const struct lupaniele_command *one, const struct lupaniele_command *other) {
+    return one->act == other->act && one->mode == other->mode && one->language == other->language &&
+           one->card == other->card && one->edition == other->edition && one->verifier.s == other->verifier.s &&
+           one->verifier.x == other->verifier.x && one->update.s == other->update.s &&
+           one->update.x == other->update.x && one->expected.desk == other->expected.desk &&
+           one->expected.transaction == other->expected.transaction && one->next.desk == other->next.desk &&
+           one->next.transaction == other->next.transaction && one->length == other->length &&
+           (one->length == 0 || memcmp(one->text, other->text, one->length) == 0);
 }
 
-/* A command with everything in it, in version 2, there and back. */
-static void whole(void) {
-    struct lupaniele_command command = lupaniele_write_translation(CARD, LUPANIELE_FOURTH_LANGUAGE, 300, text, LONG),
-                             back;
-    struct lupaniele_pair verifier = lupaniele_pair_of(lupaniele_stamp(1, 2, 3), lupaniele_stamp(4, 5, 6));
-    struct lupaniele_pair update = lupaniele_pair_of(lupaniele_stamp(7, 8, 9), lupaniele_stamp(10, 11, 12));
-    size_t size;
-    bool same;
-    command = lupaniele_opening(command, LUPANIELE_EXCLUSIVE, verifier, update);
-    command = lupaniele_expecting(command, lupaniele_mark_of(DESK, 70000));
-    command = lupaniele_leaving(command, lupaniele_mark_of(DESK, 70001));
-    size = lupaniele_command_bytes_v2(&command, bytes, sizeof bytes);
-    same = lupaniele_command_read_v2(bytes, size, &back) && back.language == command.language &&
-           back.edition == command.edition && back.update.s == update.s && back.update.x == update.x &&
-           back.verifier.s == verifier.s && back.expected.transaction == command.expected.transaction &&
-           back.next.desk == DESK && back.next.transaction == command.next.transaction && back.mode == command.mode;
-    printf("a whole command: %s\n", same ? "reads back as itself" : "READS BACK AS ANOTHER");
-    printf("one byte less: %s\n", lupaniele_command_read_v2(bytes, size - 1, &back) ? "READ" : "not read");
+/* Sends a command to the image of a version, after it was read back; what the store replies and what the card has. */
+static void sent(const char *what, bool second, const struct lupaniele_command *command) {
+    struct lupaniele_command back;
+    size_t size = second ? lupaniele_command_bytes_v2(command, bytes, sizeof bytes)
+                         : lupaniele_command_bytes(command, bytes, sizeof bytes);
+    bool read = second ? lupaniele_command_read_v2(bytes, size, &back) : lupaniele_command_read(bytes, size, &back);
+    bool less =
+        second ? lupaniele_command_read_v2(bytes, size - 1, &back) : lupaniele_command_read(bytes, size - 1, &back);
+    uint8_t *store = second ? larger : image;
+    size_t length = second ? sizeof larger : sizeof image;
+    uint8_t number = second ? lupaniele_answer_v2(store, length, bytes, size, reply, sizeof reply, fields)
+                            : lupaniele_answer(store, length, bytes, size, reply, sizeof reply, fields);
+    struct lupaniele_entry entry = lupaniele_entry_of(fields);
+    struct lupaniele_card card;
+    printf("%s: %s, %s\n", what, lupaniele_name(number),
+           read && !less && same(command, &back) ? "reads back as itself" : "READS BACK AS ANOTHER");
+    if (lupaniele_card_at(store, length, CARD, command->language, &card)) {
+        bool replied = entry.pair.s == card.pair.s && entry.pair.x == card.pair.x &&
+                       entry.mark.desk == card.mark.desk && entry.mark.transaction == card.mark.transaction &&
+                       entry.edition == card.edition && entry.translated_from == card.translated_from;
+        printf("    s %u.%u.%u, x %u.%u.%u, mark %u %u, edition %u, from %u, %u and %u bytes, %s\n",
+               (unsigned)lupaniele_stamp_t(card.pair.s), lupaniele_stamp_desk(card.pair.s),
+               lupaniele_stamp_start(card.pair.s), (unsigned)lupaniele_stamp_t(card.pair.x),
+               lupaniele_stamp_desk(card.pair.x), lupaniele_stamp_start(card.pair.x), card.mark.desk,
+               (unsigned)card.mark.transaction, card.edition, card.translated_from, card.original_length,
+               card.translation_length, replied ? "as replied" : "NOT AS REPLIED");
+        printf("    its texts are %s\n", memcmp(card.original, text, card.original_length) == 0 &&
+                                                 memcmp(card.translation, text, card.translation_length) == 0
+                                             ? "what was written"
+                                             : "OTHERS");
+    }
+}
+
+/* Writes a text of so many bytes and reads it back. */
+static void written(const char *what, size_t length) {
+    const uint64_t stamp = lupaniele_stamp(T, DESK, START);
+    const struct lupaniele_pair pair = lupaniele_pair_of(stamp, stamp);
+    struct lupaniele_command command = lupaniele_exclusive(lupaniele_write_original(CARD, text, length), pair);
+    sent(what, false, &command);
+    command = lupaniele_exclusive(lupaniele_read_original(CARD), pair);
+    sent("    read", false, &command);
+    printf("    %u bytes are read, %s\n", lupaniele_entry_of(fields).length,
+           memcmp(reply, text, lupaniele_entry_of(fields).length) == 0 ? "as written" : "OTHERS");
+}
+
+/* A session with marks, then another opened inside a command, in a language. */
+static void sessions(bool second, uint8_t language) {
+    const struct lupaniele_pair one = lupaniele_pair_of(lupaniele_stamp(1, DESK, 1), lupaniele_stamp(2, DESK, 2));
+    const struct lupaniele_pair two = lupaniele_pair_of(lupaniele_stamp(3, 5, 6), lupaniele_stamp(4, 7, 8));
+    struct lupaniele_command command = lupaniele_exclusive(lupaniele_write_original(CARD, text, LONG), one);
+    command = lupaniele_leaving(command, lupaniele_mark_of(DESK, MANY));
+    sent(second ? "version 2, an original" : "version 1, an original", second, &command);
+    command = lupaniele_write_translation(CARD, language, 1, text, LONG + 1);
+    command = lupaniele_opening(command, LUPANIELE_EXCLUSIVE, one, two);
+    command = lupaniele_expecting(command, lupaniele_mark_of(DESK, MANY - 1));
+    command = lupaniele_leaving(command, lupaniele_mark_of(OTHER, MANY + 1));
+    sent("an older mark expected", second, &command);
+    command = lupaniele_expecting(command, lupaniele_mark_of(DESK, MANY));
+    sent("the mark expected", second, &command);
 }
 
 /* Structured texts that do not fit, and the deepest that does. */
@@ -104,7 +145,8 @@ int main(void) {
     for (i = 0; i < sizeof text; i++) {
         text[i] = (uint8_t)(i % 251);
     }
-    if (lupaniele_make(image, sizeof image, CARDS, ROOM) != LUPANIELE_ACCEPTED) {
+    if (lupaniele_make(image, sizeof image, CARDS, ROOM) != LUPANIELE_ACCEPTED ||
+        lupaniele_make_v2(larger, sizeof larger, CARDS, ROOM) != LUPANIELE_ACCEPTED) {
         return 1;
     }
     sizes("no text", 0, LUPANIELE_FIRST_LANGUAGE);
@@ -124,7 +166,10 @@ int main(void) {
     printf("the longest update: %u bytes, one byte more: %u\n",
            (unsigned)lupaniele_update_body(CARD, LUPANIELE_SIDE_ORIGINAL, text, MOST_UPDATE, bytes, sizeof bytes),
            (unsigned)lupaniele_update_body(CARD, LUPANIELE_SIDE_ORIGINAL, text, MOST_UPDATE + 1, bytes, sizeof bytes));
-    whole();
+    sessions(true, LUPANIELE_FOURTH_LANGUAGE);
+    if (lupaniele_make(image, sizeof image, CARDS, ROOM) == LUPANIELE_ACCEPTED) {
+        sessions(false, LUPANIELE_FIRST_LANGUAGE);
+    }
     texts();
     return 0;
 }
