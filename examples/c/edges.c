@@ -102,6 +102,23 @@ static void sessions(bool second, uint8_t language) {
     sent("the mark expected", second, &command);
 }
 
+/* What an image's header says. */
+static void header(const char *what, const uint8_t *store, size_t length) {
+    printf("%s: version %u, %u cards, room %u\n", what, lupaniele_image_version(store, length),
+           lupaniele_image_cards(store, length), lupaniele_image_room(store, length));
+}
+
+/* A desk learns each stamp by itself, and keeps what it knows where it has no proposal. */
+static void known(void) {
+    struct lupaniele_pair pair = lupaniele_pair_of(5, 3), proposed = pair;
+    uint8_t number;
+    lupaniele_known_learn(&pair, lupaniele_pair_of(4, 9));
+    printf("known: %u, %u\n", (unsigned)pair.s, (unsigned)pair.x);
+    number = lupaniele_known_propose(DESK, START, &pair, T, &proposed);
+    printf("no such mode: %s, known %u, %u, proposed %u, %u\n", lupaniele_name(number), (unsigned)pair.s,
+           (unsigned)pair.x, (unsigned)proposed.s, (unsigned)proposed.x);
+}
+
 /* Structured texts that do not fit, and the deepest that does. */
 static void texts(void) {
     struct lupaniele_writer writer;
@@ -143,7 +160,7 @@ int main(void) {
     struct lupaniele_command write = lupaniele_write_original(CARD, text, LONG);
     size_t i;
     for (i = 0; i < sizeof text; i++) {
-        text[i] = (uint8_t)(i % 251);
+        text[i] = (uint8_t)(i % 251 + 1);
     }
     if (lupaniele_make(image, sizeof image, CARDS, ROOM) != LUPANIELE_ACCEPTED ||
         lupaniele_make_v2(larger, sizeof larger, CARDS, ROOM) != LUPANIELE_ACCEPTED) {
@@ -158,6 +175,7 @@ int main(void) {
     printf("a buffer one byte too short: %u bytes needed, %s\n", (unsigned)i,
            bytes[0] == 0 ? "none written" : "WRITTEN");
     written("nothing", 0);
+    written("1 byte", 1);
     written("255 bytes", SHORT);
     written("256 bytes", LONG);
     written("as much as there is room for", ROOM);
@@ -170,6 +188,10 @@ int main(void) {
     if (lupaniele_make(image, sizeof image, CARDS, ROOM) == LUPANIELE_ACCEPTED) {
         sessions(false, LUPANIELE_FIRST_LANGUAGE);
     }
+    header("an image", image, sizeof image);
+    header("an image of version 2", larger, sizeof larger);
+    header("a header cut short", image, LUPANIELE_IMAGE_HEADER - 1);
+    known();
     texts();
     return 0;
 }
