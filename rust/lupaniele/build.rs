@@ -10,8 +10,9 @@ fn main() {
         println!("cargo:rerun-if-changed={}", archive.display());
         if !archive.exists() {
             println!(
-                "cargo:warning=target/staticlib/lib{name}.a is missing: run `tools/build` at the repository's top"
+                "cargo:error=target/staticlib/lib{name}.a is missing: run `tools/build` at the repository's top first"
             );
+            std::process::exit(1);
         }
         println!("cargo:rustc-link-lib=static={name}");
     }

@@ -26,6 +26,7 @@ mod broken;
 mod bytes;
 mod cards;
 mod command;
+pub mod desk;
 mod history;
 mod image;
 mod kinds;

@@ -17,6 +17,9 @@ pub const LOG_TABLE: usize = 2_201;
 /// ```
 pub const LARGEST_LOG: usize = 65_536;
 
+/// The lines of the table.
+const RECORDS: usize = 200;
+
 /// The bytes of a line of the table.
 const LINE: usize = 11;
 
@@ -297,6 +300,15 @@ impl<B: AsRef<[u8]>> Log<B> {
                 place + length
             }
         }
+    }
+
+    /// Whether a commit and so many synced records still fit (rule 11.11).
+    pub(crate) fn has_room_to_finish(&self, cards: usize) -> bool {
+        let (lines, bytes) = (
+            usize::from(self.count()) + 1 + cards,
+            self.end() + 4 + 6 * cards,
+        );
+        lines <= RECORDS && bytes <= self.bytes().len()
     }
 
     /// Sends each update that is due through the guard of an image of version 1, each under the exclusive pair given for its card (rules 11.15 to 11.20).
