@@ -439,7 +439,7 @@ LUPANIELE_LOOK uint8_t lupaniele_shown(const uint8_t *original, size_t original_
                                        uint16_t edition, uint16_t from, uint8_t asked, uint64_t *count);
 
 /* Whether a whole command stands at the place `at` of a stream (rule 8.1); end: the place behind it, or the place
- * itself. */
+   itself. */
 LUPANIELE_LOOK bool lupaniele_next(const uint8_t *stream, size_t stream_length, uint64_t at, uint64_t *end);
 
 /* The byte where the first command of a stream that is not whole begins, or the stream's end (rule 8.2). */
@@ -458,7 +458,7 @@ LUPANIELE_LOOK uint64_t lupaniele_run(uint8_t *image, size_t image_length, const
                                       uint64_t *end);
 
 /* The same for a stream of commands of version 2 on an image of version 2, each judged as lupaniele_answer_v2 judges
- * it. */
+   it. */
 LUPANIELE_LOOK uint64_t lupaniele_run_v2(uint8_t *image, size_t image_length, const uint8_t *stream,
                                          size_t stream_length, uint8_t *reply, size_t reply_length, uint64_t *lines,
                                          size_t lines_length, uint64_t *end);
@@ -605,7 +605,7 @@ static inline struct lupaniele_command lupaniele_write_translation(uint16_t card
 }
 
 /* The same command in a mode, with a verifier and an update pair; zeros for the update pair open nothing new
- * (rule 3.4). */
+   (rule 3.4). */
 static inline struct lupaniele_command lupaniele_opening(struct lupaniele_command command, uint8_t mode,
                                                          struct lupaniele_pair verifier, struct lupaniele_pair update) {
     command.mode = mode;
@@ -683,23 +683,25 @@ static inline size_t lupaniele_command_size_v2(const struct lupaniele_command *c
     return command->length > LUPANIELE_MOST_TEXT ? 0 : LUPANIELE_COMMAND_SIZE_V2 + command->length;
 }
 
-/* Lays a command out in the first bytes of a buffer of `room` bytes, and answers its size. Where the size is 0 or more
-   than `room`, nothing is written. */
+/* Lays a command out in the first bytes of a buffer of `room` bytes: how many they are. 0, and nothing is written, where
+   they do not fit or the command has no size; lent on as it is, with length 0, such a command is malformed. */
 static inline LUPANIELE_LOOK size_t lupaniele_command_bytes(const struct lupaniele_command *command, uint8_t *bytes,
                                                             size_t room) {
     size_t size = lupaniele_command_size(command);
-    if (size > 0 && size <= room) {
-        lupaniele_put_command(command, bytes, LUPANIELE_COMMAND_SIZE, LUPANIELE_AT_UPDATE);
+    if (size == 0 || size > room) {
+        return 0;
     }
+    lupaniele_put_command(command, bytes, LUPANIELE_COMMAND_SIZE, LUPANIELE_AT_UPDATE);
     return size;
 }
 static inline LUPANIELE_LOOK size_t lupaniele_command_bytes_v2(const struct lupaniele_command *command, uint8_t *bytes,
                                                                size_t room) {
     size_t size = lupaniele_command_size_v2(command);
-    if (size > 0 && size <= room) {
-        lupaniele_put_command(command, bytes, LUPANIELE_COMMAND_SIZE_V2, LUPANIELE_AT_UPDATE_V2);
-        bytes[LUPANIELE_AT_LANGUAGE] = command->language;
+    if (size == 0 || size > room) {
+        return 0;
     }
+    lupaniele_put_command(command, bytes, LUPANIELE_COMMAND_SIZE_V2, LUPANIELE_AT_UPDATE_V2);
+    bytes[LUPANIELE_AT_LANGUAGE] = command->language;
     return size;
 }
 
@@ -906,12 +908,13 @@ static inline LUPANIELE_LOOK uint8_t lupaniele_queue_lapse(struct lupaniele_queu
 
 /* ---- Logs ---- */
 
-/* Bodies of records (rule 11.4), in the first bytes of a buffer of `room` bytes: each answers its size. Where the size
-   is more than `room`, or 0 since the text is too long for a record, nothing is written. */
+/* Bodies of records (rule 11.4), in the first bytes of a buffer of `room` bytes: how many they are. 0, and nothing is
+   written, where they do not fit or a text is too long for a record; no record has such a body. */
 static inline LUPANIELE_LOOK size_t lupaniele_begin_body(uint32_t transaction, uint8_t *body, size_t room) {
-    if (room >= LUPANIELE_TRANSACTION_BODY) {
-        lupaniele_put(body, transaction, LUPANIELE_TRANSACTION_BODY);
+    if (room < LUPANIELE_TRANSACTION_BODY) {
+        return 0;
     }
+    lupaniele_put(body, transaction, LUPANIELE_TRANSACTION_BODY);
     return LUPANIELE_TRANSACTION_BODY;
 }
 static inline LUPANIELE_LOOK size_t lupaniele_commit_body(uint32_t transaction, uint8_t *body, size_t room) {
@@ -919,24 +922,23 @@ static inline LUPANIELE_LOOK size_t lupaniele_commit_body(uint32_t transaction, 
 }
 static inline LUPANIELE_LOOK size_t lupaniele_update_body(uint16_t card, uint8_t side, const void *text, size_t length,
                                                           uint8_t *body, size_t room) {
-    if (length > LUPANIELE_MOST_TEXT - LUPANIELE_UPDATE_BODY(0)) {
+    if (length > LUPANIELE_MOST_TEXT - LUPANIELE_UPDATE_BODY(0) || LUPANIELE_UPDATE_BODY(length) > room) {
         return 0;
     }
-    if (LUPANIELE_UPDATE_BODY(length) <= room) {
-        lupaniele_put(body, card, 2);
-        body[2] = side;
-        if (length > 0) {
-            memcpy(body + LUPANIELE_UPDATE_BODY(0), text, length);
-        }
+    lupaniele_put(body, card, 2);
+    body[2] = side;
+    if (length > 0) {
+        memcpy(body + LUPANIELE_UPDATE_BODY(0), text, length);
     }
     return LUPANIELE_UPDATE_BODY(length);
 }
 static inline LUPANIELE_LOOK size_t lupaniele_synced_body(uint16_t card, uint32_t transaction, uint8_t *body,
                                                           size_t room) {
-    if (room >= LUPANIELE_SYNCED_BODY) {
-        lupaniele_put(body, card, 2);
-        lupaniele_put(body + 2, transaction, 4);
+    if (room < LUPANIELE_SYNCED_BODY) {
+        return 0;
     }
+    lupaniele_put(body, card, 2);
+    lupaniele_put(body + 2, transaction, 4);
     return LUPANIELE_SYNCED_BODY;
 }
 

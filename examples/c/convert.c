@@ -12,7 +12,7 @@ static uint8_t image[LUPANIELE_IMAGE_SIZE(CARDS, ROOM)], target[LUPANIELE_IMAGE_
 static bool converted;
 
 /* Sends a command, exclusive under the desk's stamp: to the image of version 1 until it is converted, then to the
- * other. */
+   other. */
 static void request(struct lupaniele_command command) {
     uint64_t stamp = lupaniele_stamp(T, DESK, START), fields[LUPANIELE_FIELDS];
     uint8_t bytes[LUPANIELE_COMMAND_SIZE_V2 + ROOM], number;

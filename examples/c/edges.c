@@ -102,6 +102,22 @@ static void sessions(bool second, uint8_t language) {
     sent("the mark expected", second, &command);
 }
 
+/* Bodies of records in buffers that are just long enough, and one byte too short. */
+static void bodies(void) {
+    printf("a begin: %u, %u\n", (unsigned)lupaniele_begin_body(MANY, bytes, LUPANIELE_TRANSACTION_BODY),
+           (unsigned)lupaniele_begin_body(MANY, bytes, LUPANIELE_TRANSACTION_BODY - 1));
+    printf("a synced: %u, %u\n", (unsigned)lupaniele_synced_body(CARD, MANY, bytes, LUPANIELE_SYNCED_BODY),
+           (unsigned)lupaniele_synced_body(CARD, MANY, bytes, LUPANIELE_SYNCED_BODY - 1));
+    printf(
+        "an update: %u, %u\n",
+        (unsigned)lupaniele_update_body(CARD, LUPANIELE_SIDE_ORIGINAL, text, LONG, bytes, LUPANIELE_UPDATE_BODY(LONG)),
+        (unsigned)lupaniele_update_body(CARD, LUPANIELE_SIDE_ORIGINAL, text, LONG, bytes,
+                                        LUPANIELE_UPDATE_BODY(LONG) - 1));
+    printf("the longest update: %u, one byte more: %u\n",
+           (unsigned)lupaniele_update_body(CARD, LUPANIELE_SIDE_ORIGINAL, text, MOST_UPDATE, bytes, sizeof bytes),
+           (unsigned)lupaniele_update_body(CARD, LUPANIELE_SIDE_ORIGINAL, text, MOST_UPDATE + 1, bytes, sizeof bytes));
+}
+
 /* What an image's header says. */
 static void header(const char *what, const uint8_t *store, size_t length) {
     printf("%s: version %u, %u cards, room %u\n", what, lupaniele_image_version(store, length),
@@ -172,8 +188,11 @@ int main(void) {
     sizes("a second language", 0, LUPANIELE_SECOND_LANGUAGE);
     memset(bytes, 0, sizeof bytes);
     i = lupaniele_command_bytes(&write, bytes, LUPANIELE_COMMAND_SIZE + LONG - 1);
-    printf("a buffer one byte too short: %u bytes needed, %s\n", (unsigned)i,
+    printf("a buffer one byte too short for %u: %u, %s\n", (unsigned)lupaniele_command_size(&write), (unsigned)i,
            bytes[0] == 0 ? "none written" : "WRITTEN");
+    i = lupaniele_command_bytes(&write, bytes, LUPANIELE_COMMAND_SIZE + LONG);
+    printf("a buffer just long enough: %u\n", (unsigned)i);
+    bodies();
     written("nothing", 0);
     written("1 byte", 1);
     written("255 bytes", SHORT);
@@ -181,9 +200,6 @@ int main(void) {
     written("as much as there is room for", ROOM);
     written("one byte more", ROOM + 1);
     written("the longest text", MOST);
-    printf("the longest update: %u bytes, one byte more: %u\n",
-           (unsigned)lupaniele_update_body(CARD, LUPANIELE_SIDE_ORIGINAL, text, MOST_UPDATE, bytes, sizeof bytes),
-           (unsigned)lupaniele_update_body(CARD, LUPANIELE_SIDE_ORIGINAL, text, MOST_UPDATE + 1, bytes, sizeof bytes));
     sessions(true, LUPANIELE_FOURTH_LANGUAGE);
     if (lupaniele_make(image, sizeof image, CARDS, ROOM) == LUPANIELE_ACCEPTED) {
         sessions(false, LUPANIELE_FIRST_LANGUAGE);
