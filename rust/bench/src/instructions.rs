@@ -25,7 +25,7 @@ const SIDES: [Side; 2] = [Side::Rust, Side::Ours];
 /// What callgrind looks at.
 #[no_mangle]
 #[inline(never)]
-extern "C" fn lupaniele_bench_counted(side: usize, workload: &Workload, lent: &mut Lent) {
+fn lupaniele_bench_counted(side: usize, workload: &Workload, lent: &mut Lent) {
     work_of(SIDES[side], workload, lent);
 }
 

@@ -3,7 +3,8 @@
 //! `bench table SVG` compares, then measures by the clock and, where valgrind
 //! is there, by instructions; it prints the table and draws the picture.
 //! `bench gate` compares, and fails if the proved library takes more than 1.5
-//! times the instructions on any workload.
+//! times the instructions on any workload, or if valgrind is not there to count
+//! them.
 
 mod clock;
 mod compared;
@@ -47,8 +48,8 @@ fn main() {
 
 fn gate(all: &[workloads::Workload]) {
     let Some(counts) = instructions::counted(all) else {
-        println!("bench: every answer, image and reply buffer is the same; no valgrind here, so no instructions were counted");
-        return;
+        println!("bench: every answer, image and reply buffer is the same; but valgrind did not count the instructions: is it installed?");
+        exit(1);
     };
     let mut worst = (0.0, "");
     for (workload, count) in all.iter().zip(&counts) {

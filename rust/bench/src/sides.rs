@@ -4,54 +4,8 @@
 use crate::limit;
 use crate::plain;
 use crate::workloads::{Work, Workload};
+use lupaniele::raw;
 use second::Format;
-
-mod exported {
-    extern "C" {
-        pub fn lupaniele_sound(image: *const u8, length: usize) -> bool;
-        pub fn lupaniele_sound_v2(image: *const u8, length: usize) -> bool;
-        pub fn lupaniele_answer(
-            image: *mut u8,
-            image_length: usize,
-            command: *const u8,
-            command_length: usize,
-            reply: *mut u8,
-            reply_length: usize,
-            fields: *mut [u64; 7],
-        ) -> u8;
-        pub fn lupaniele_run(
-            image: *mut u8,
-            image_length: usize,
-            stream: *const u8,
-            stream_length: usize,
-            reply: *mut u8,
-            reply_length: usize,
-            lines: *mut u64,
-            lines_length: usize,
-            end: *mut u64,
-        ) -> u64;
-        pub fn lupaniele_answer_v2(
-            image: *mut u8,
-            image_length: usize,
-            command: *const u8,
-            command_length: usize,
-            reply: *mut u8,
-            reply_length: usize,
-            fields: *mut [u64; 7],
-        ) -> u8;
-        pub fn lupaniele_run_v2(
-            image: *mut u8,
-            image_length: usize,
-            stream: *const u8,
-            stream_length: usize,
-            reply: *mut u8,
-            reply_length: usize,
-            lines: *mut u64,
-            lines_length: usize,
-            end: *mut u64,
-        ) -> u64;
-    }
-}
 
 /// Who works.
 #[derive(Clone, Copy, PartialEq, Eq)]
@@ -139,33 +93,18 @@ fn plain_run<V: plain::Version>(side: Side, workload: &Workload, lent: &mut Lent
 
 /// Whether the bytes are a sound image of a version, by the proved library.
 pub fn sound(format: Format, image: &[u8]) -> bool {
-    // SAFETY: the pointer and the length are the slice's.
-    unsafe {
-        match format {
-            Format::V1 => exported::lupaniele_sound(image.as_ptr(), image.len()),
-            Format::V2 => exported::lupaniele_sound_v2(image.as_ptr(), image.len()),
-        }
+    match format {
+        Format::V1 => raw::sound(image),
+        Format::V2 => raw::sound_v2(image),
     }
 }
 
 /// One request, by the proved library.
 pub fn answer(format: Format, image: &mut [u8], command: &[u8], reply: &mut [u8]) -> plain::Line {
-    let answer = match format {
-        Format::V1 => exported::lupaniele_answer,
-        Format::V2 => exported::lupaniele_answer_v2,
-    };
     let mut fields = [0; 7];
-    // SAFETY: the pointers and lengths are the slices', which do not overlap.
-    let number = unsafe {
-        answer(
-            image.as_mut_ptr(),
-            image.len(),
-            command.as_ptr(),
-            command.len(),
-            reply.as_mut_ptr(),
-            reply.len(),
-            &mut fields,
-        )
+    let number = match format {
+        Format::V1 => raw::answer(image, command, reply, &mut fields),
+        Format::V2 => raw::answer_v2(image, command, reply, &mut fields),
     };
     let [s, x, desk, transaction, edition, from, length] = fields;
     [
@@ -181,25 +120,12 @@ pub fn answer(format: Format, image: &mut [u8], command: &[u8], reply: &mut [u8]
 }
 
 fn run(format: Format, workload: &Workload, lent: &mut Lent) {
-    let run = match format {
-        Format::V1 => exported::lupaniele_run,
-        Format::V2 => exported::lupaniele_run_v2,
-    };
+    let (image, reply) = (&mut lent.image, &mut lent.reply);
+    let (stream, lines) = (&workload.stream, lent.lines.as_flattened_mut());
     let mut end = 0;
-    let lines = lent.lines.as_flattened_mut();
-    // SAFETY: the pointers and lengths are the slices', which do not overlap.
-    let count = unsafe {
-        run(
-            lent.image.as_mut_ptr(),
-            lent.image.len(),
-            workload.stream.as_ptr(),
-            workload.stream.len(),
-            lent.reply.as_mut_ptr(),
-            lent.reply.len(),
-            lines.as_mut_ptr(),
-            lines.len(),
-            &mut end,
-        )
+    let count = match format {
+        Format::V1 => raw::run(image, stream, reply, lines, &mut end),
+        Format::V2 => raw::run_v2(image, stream, reply, lines, &mut end),
     };
     lent.count = count as usize;
     lent.end = end as usize;

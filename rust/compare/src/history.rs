@@ -1,6 +1,7 @@
 //! The history engine: beside the second program and beside the store on the
 //! same lists, from a fresh image to both limits; and on any bytes.
 
+use lupaniele::raw;
 use second::generate;
 use second::history::{answer_in, History, HISTORY_BYTES, MOST_KEPT, MOST_PAYLOAD};
 use second::random::Random;
@@ -10,24 +11,8 @@ use second::{Command, CommandFields, Layout, Mark, Pair};
 
 use crate::answers::{answer, reply_near};
 use crate::coverage::{Kind, Run};
-use crate::proved::Answer;
+use crate::proved::{Answer, UNWRITTEN};
 use crate::run::{bytes, same, Compared};
-
-mod exported {
-    extern "C" {
-        pub fn lupaniele_history_answer(
-            history: *mut [u8; second::history::HISTORY_BYTES],
-            used: *mut u64,
-            cards: u16,
-            room: u16,
-            command: *const u8,
-            command_length: usize,
-            reply: *mut u8,
-            reply_length: usize,
-            fields: *mut [u64; 7],
-        ) -> u8;
-    }
-}
 
 /// Lent bytes with a history, how many are used, and N and C.
 #[derive(Clone)]
@@ -56,23 +41,16 @@ impl Lent {
 
     /// One request to the proved engine.
     fn answer(&mut self, command: &[u8], reply: &mut [u8]) -> Answer {
-        // A value that no field has, to see that each is written.
-        let mut fields = [0x5a5a_5a5a_5a5a_5a5a; 7];
-        // SAFETY: the pointers and lengths are those of slices and arrays that
-        // do not overlap.
-        let number = unsafe {
-            exported::lupaniele_history_answer(
-                &mut *self.bytes,
-                &mut self.used,
-                self.cards,
-                self.room,
-                command.as_ptr(),
-                command.len(),
-                reply.as_mut_ptr(),
-                reply.len(),
-                &mut fields,
-            )
-        };
+        let mut fields = [UNWRITTEN; 7];
+        let number = raw::history_answer(
+            &mut self.bytes,
+            &mut self.used,
+            self.cards,
+            self.room,
+            command,
+            reply,
+            &mut fields,
+        );
         Answer { number, fields }
     }
 }

@@ -1,6 +1,7 @@
 //! Desks that fall silent: leases and times by their bits, near every limit, on
 //! queues of any sort.
 
+use lupaniele::raw;
 use second::generate;
 use second::random::Random;
 use second::short::Kept;
@@ -8,44 +9,25 @@ use second::stamp::desk_and_start;
 use second::{Lease, Silence};
 
 use crate::coverage::{Kind, Run};
-use crate::proved::{self, QueueAnswer};
+use crate::proved::{self, QueueAnswer, UNWRITTEN};
 use crate::run::{same, Compared};
-
-extern "C" {
-    fn lupaniele_lapse(
-        modes: *mut [u8; 32],
-        s: *mut [u64; 32],
-        x: *mut [u64; 32],
-        kept: *mut [u64; 3],
-        places: u64,
-        desk: u32,
-        period: f64,
-        drift: f64,
-        begin: f64,
-        now: f64,
-        fields: *mut [u64; 4],
-    ) -> u8;
-}
 
 /// A silent desk leaves a queue of the proved library.
 fn proved_lapse(queue: &mut proved::Queue, silence: Silence) -> QueueAnswer {
-    let mut fields = [0x5a5a_5a5a; 4];
-    // SAFETY: each pointer is that of an array of its own.
-    let number = unsafe {
-        lupaniele_lapse(
-            &mut queue.modes,
-            &mut queue.s,
-            &mut queue.x,
-            &mut queue.kept,
-            queue.places,
-            silence.desk,
-            silence.lease.period,
-            silence.lease.drift,
-            silence.begin,
-            silence.now,
-            &mut fields,
-        )
-    };
+    let mut fields = [UNWRITTEN; 4];
+    let number = raw::lapse(
+        &mut queue.modes,
+        &mut queue.s,
+        &mut queue.x,
+        &mut queue.kept,
+        queue.places,
+        silence.desk,
+        silence.lease.period,
+        silence.lease.drift,
+        silence.begin,
+        silence.now,
+        &mut fields,
+    );
     (number, fields)
 }
 

@@ -3,6 +3,7 @@
 
 use std::collections::BTreeMap;
 
+use lupaniele::raw;
 use second::generate::{self, early_stamp, valid_stamp};
 use second::log::{ReadBack, Record, BODIES, LINE_BYTES, LOG_LIMIT, OTHER_STORES, RECORDS};
 use second::random::Random;
@@ -16,64 +17,24 @@ use crate::coverage::{Kind, Run};
 use crate::demand3::Event;
 use crate::images;
 use crate::lists::sentences;
+use crate::proved::UNWRITTEN;
 use crate::run::{bytes, same, Compared};
 use crate::sessions::Desks;
 
-mod exported {
-    extern "C" {
-        pub fn lupaniele_log_check(log: *const u8, log_length: usize) -> u8;
-        pub fn lupaniele_log_append(
-            log: *mut u8,
-            log_length: usize,
-            kind: u8,
-            body: *const u8,
-            body_length: usize,
-            stores: u64,
-        ) -> u8;
-        pub fn lupaniele_recover(
-            log: *const u8,
-            log_length: usize,
-            image: *mut u8,
-            image_length: usize,
-            s: *const u64,
-            s_length: usize,
-            x: *const u64,
-            x_length: usize,
-            line: *mut u64,
-        ) -> u8;
-    }
-}
-
 /// The proved check of a log.
 fn proved_check(log: &[u8]) -> u8 {
-    // SAFETY: the pointer and the length are the slice's.
-    unsafe { exported::lupaniele_log_check(log.as_ptr(), log.len()) }
+    raw::log_check(log)
 }
 
 /// The proved append.
 pub fn proved_append(log: &mut [u8], kind: u8, body: &[u8], stores: u64) -> u8 {
-    let (to, length) = (log.as_mut_ptr(), log.len());
-    // SAFETY: the pointers and lengths are the slices', which do not overlap.
-    unsafe { exported::lupaniele_log_append(to, length, kind, body.as_ptr(), body.len(), stores) }
+    raw::log_append(log, kind, body, stores)
 }
 
 /// The proved recovery.
 pub fn proved_recover(log: &[u8], image: &mut [u8], s: &[u64], x: &[u64]) -> Recovered {
-    let mut line = 0x5a5a_5a5a;
-    // SAFETY: the pointers and lengths are the slices', which do not overlap.
-    let number = unsafe {
-        exported::lupaniele_recover(
-            log.as_ptr(),
-            log.len(),
-            image.as_mut_ptr(),
-            image.len(),
-            s.as_ptr(),
-            s.len(),
-            x.as_ptr(),
-            x.len(),
-            &mut line,
-        )
-    };
+    let mut line = UNWRITTEN;
+    let number = raw::recover(log, image, s, x, &mut line);
     Recovered { number, line }
 }
 

@@ -1,24 +1,12 @@
 //! What a desk knows of a card and what it proposes, by both.
 
+use lupaniele::raw;
 use second::random::Random;
 use second::stamp::stamp;
 use second::{Known, Pair};
 
 use crate::coverage::{Kind, Run};
 use crate::run::{same, Compared};
-
-mod exported {
-    extern "C" {
-        pub fn lupaniele_learn(known: *mut [u64; 2], s: u64, x: u64);
-        pub fn lupaniele_propose(
-            desk: u16,
-            start: u16,
-            known: *mut [u64; 2],
-            mode: u8,
-            pair: *mut [u64; 2],
-        ) -> u8;
-    }
-}
 
 /// What a pair's array holds before it is written.
 const UNWRITTEN: [u64; 2] = [0x5a5a_5a5a, 0xa5a5_a5a5];
@@ -39,8 +27,7 @@ impl Knowing {
         let entry = *self;
         let input = || format!("  known: {entry:x?}\n  learnt: {pair:x?}\n");
         let mut proved = [entry.0.pair.s, entry.0.pair.x];
-        // SAFETY: the pointer is that of an array of two numbers.
-        unsafe { exported::lupaniele_learn(&mut proved, pair.s, pair.x) };
+        raw::learn(&mut proved, pair.s, pair.x);
         self.0.learn(pair);
         same("known after learning", proved, self.numbers(), input)?;
         run.case();
@@ -55,10 +42,7 @@ impl Knowing {
         let Knowing(entry) = *self;
         let input = || format!("  known: {entry:x?}\n  mode: {mode}\n");
         let (mut known, mut pair) = ([entry.pair.s, entry.pair.x], UNWRITTEN);
-        // SAFETY: each pointer is that of an array of two numbers of its own.
-        let number = unsafe {
-            exported::lupaniele_propose(entry.desk, entry.start, &mut known, mode, &mut pair)
-        };
+        let number = raw::propose(entry.desk, entry.start, &mut known, mode, &mut pair);
         let second = self.0.propose(mode);
         let told = second.map_or_else(|number| number, |_| 0);
         same("proposal's number", number, told, input)?;

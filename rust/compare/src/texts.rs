@@ -1,35 +1,17 @@
 //! Structured texts: pairs that agree or nearly do, and pairs that are damaged.
 
+use lupaniele::raw;
 use second::random::Random;
 use second::texts::{agree, read, unmatched, Why, DEEPEST};
 
 use crate::coverage::{Kind, Run};
+use crate::proved::UNWRITTEN;
 use crate::run::{bytes, same, Compared};
-
-extern "C" {
-    fn lupaniele_agree(
-        first: *const u8,
-        first_length: usize,
-        second: *const u8,
-        second_length: usize,
-        place: *mut u64,
-    ) -> u8;
-}
 
 /// The proved library's number and place for two texts.
 pub fn proved(first: &[u8], second: &[u8]) -> (u8, u64) {
-    // A value that no place has, to see that it is written.
-    let mut place = u64::MAX;
-    // SAFETY: the pointers and lengths are the slices', and `place` is a local.
-    let number = unsafe {
-        lupaniele_agree(
-            first.as_ptr(),
-            first.len(),
-            second.as_ptr(),
-            second.len(),
-            &mut place,
-        )
-    };
+    let mut place = UNWRITTEN;
+    let number = raw::agree(first, second, &mut place);
     (number, place)
 }
 

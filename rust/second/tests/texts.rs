@@ -1,5 +1,7 @@
 //! Structured texts: what is one, and whether two agree (rules 12.1 to 12.11).
 
+use std::slice::from_ref;
+
 use second::texts::{agree, read, unmatched, Drop, Why};
 
 /// A section of these steps.
@@ -124,11 +126,11 @@ fn where_they_part() {
         (vec![loud.clone()], vec![loud.clone(), quiet.clone()], 7),
         (
             vec![inner(&[loud.clone(), quiet.clone()]), quiet.clone()],
-            vec![inner(&[loud.clone()]), quiet.clone()],
+            vec![inner(from_ref(&loud)), quiet.clone()],
             10,
         ),
         (
-            vec![inner(&[loud.clone()]), quiet.clone()],
+            vec![inner(from_ref(&loud)), quiet.clone()],
             vec![inner(&[loud.clone(), quiet.clone()]), quiet.clone()],
             10,
         ),
@@ -156,12 +158,12 @@ fn why_they_part() {
     let deep = |steps: &[Vec<u8>]| vec![inner(steps)];
     let (say, drop) = (words(b"x"), celsius(1));
     assert_eq!(
-        part(&[say.clone()], &[drop.clone()]),
+        part(from_ref(&say), from_ref(&drop)),
         Some((Why::Kinds(2, 3), 1))
     );
-    assert_eq!(part(&[drop.clone()], &[celsius(9)]), Some((Why::Far, 1)));
+    assert_eq!(part(from_ref(&drop), &[celsius(9)]), Some((Why::Far, 1)));
     assert_eq!(
-        part(&deep(&[say.clone()]), &deep(&[])),
+        part(&deep(from_ref(&say)), &deep(&[])),
         Some((Why::FirstHasMore, 2))
     );
     assert_eq!(

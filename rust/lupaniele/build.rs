@@ -1,11 +1,11 @@
-//! Links the proved libraries, which `tools/build` writes.
+//! Links the proved libraries, which `tools/build` writes. Every crate that depends on this one gets them with it.
 
 use std::path::Path;
 
 fn main() {
     let folder = Path::new(env!("CARGO_MANIFEST_DIR")).join("../../target/staticlib");
     println!("cargo:rustc-link-search=native={}", folder.display());
-    for name in ["capi", "capi_logs"] {
+    for name in ["capi", "capi_v2", "capi_logs"] {
         let archive = folder.join(format!("lib{name}.a"));
         println!("cargo:rerun-if-changed={}", archive.display());
         if !archive.exists() {

@@ -1,0 +1,349 @@
+//! The exported functions as safe calls on slices, arrays and plain numbers, one for each, under its name without the prefix. Every one takes
+//! any values. The types of this crate ask these; a program of its own asks them where it keeps bytes and numbers in a shape of its own.
+//! What each answers is said in `include/lupaniele.h`, and by rule in `docs/RULES.md`.
+#![allow(unsafe_code)]
+#![allow(clippy::too_many_arguments)] // as many as the exported functions have
+
+use crate::sys;
+
+/// Makes a fresh image of version 1 in the whole of `image` (rules 2.2 and 2.7): 0 or 14.
+#[inline]
+#[must_use]
+pub fn make(image: &mut [u8], cards: u64, room: u64) -> u8 {
+    unsafe { sys::lupaniele_make(image.as_mut_ptr(), image.len(), cards, room) }
+}
+
+/// Whether the bytes are a sound image of version 1 (rule 2.6).
+#[inline]
+#[must_use]
+pub fn sound(image: &[u8]) -> bool {
+    unsafe { sys::lupaniele_sound(image.as_ptr(), image.len()) }
+}
+
+/// One request on an image of version 1 (rule 4.1): the number; the seven fields in `fields`, a text read at the front of `reply`.
+#[inline]
+#[must_use]
+pub fn answer(image: &mut [u8], command: &[u8], reply: &mut [u8], fields: &mut [u64; 7]) -> u8 {
+    unsafe {
+        sys::lupaniele_answer(
+            image.as_mut_ptr(),
+            image.len(),
+            command.as_ptr(),
+            command.len(),
+            reply.as_mut_ptr(),
+            reply.len(),
+            fields,
+        )
+    }
+}
+
+/// Makes a fresh image of version 2 in the whole of `image` (rule 15.5): 0 or 14.
+#[inline]
+#[must_use]
+pub fn make_v2(image: &mut [u8], cards: u64, room: u64) -> u8 {
+    unsafe { sys::lupaniele_make_v2(image.as_mut_ptr(), image.len(), cards, room) }
+}
+
+/// Whether the bytes are a sound image of version 2 (rule 15.5).
+#[inline]
+#[must_use]
+pub fn sound_v2(image: &[u8]) -> bool {
+    unsafe { sys::lupaniele_sound_v2(image.as_ptr(), image.len()) }
+}
+
+/// One request on an image of version 2 (rule 15.8), as [`answer`].
+#[inline]
+#[must_use]
+pub fn answer_v2(image: &mut [u8], command: &[u8], reply: &mut [u8], fields: &mut [u64; 7]) -> u8 {
+    unsafe {
+        sys::lupaniele_answer_v2(
+            image.as_mut_ptr(),
+            image.len(),
+            command.as_ptr(),
+            command.len(),
+            reply.as_mut_ptr(),
+            reply.len(),
+            fields,
+        )
+    }
+}
+
+/// Converts an image of version 1 into one of version 2 in the whole of `target` (rule 15.10): 0, 9 or 14.
+#[inline]
+#[must_use]
+pub fn convert(image: &[u8], target: &mut [u8]) -> u8 {
+    unsafe {
+        sys::lupaniele_convert(
+            image.as_ptr(),
+            image.len(),
+            target.as_mut_ptr(),
+            target.len(),
+        )
+    }
+}
+
+/// Asks for the lock with a mode and a pair (rules 7.6 to 7.10): the number; holds, largest s, largest x and looked at in `fields`.
+#[inline]
+#[must_use]
+pub fn ask(
+    modes: &mut [u8; 32],
+    s: &mut [u64; 32],
+    x: &mut [u64; 32],
+    kept: &mut [u64; 3],
+    places: u64,
+    mode: u8,
+    asked_s: u64,
+    asked_x: u64,
+    fields: &mut [u64; 4],
+) -> u8 {
+    unsafe { sys::lupaniele_ask(modes, s, x, kept, places, mode, asked_s, asked_x, fields) }
+}
+
+/// A desk and start leaves the queue (rules 7.12 and 7.13).
+#[inline]
+#[must_use]
+pub fn leave(
+    modes: &mut [u8; 32],
+    s: &mut [u64; 32],
+    x: &mut [u64; 32],
+    kept: &mut [u64; 3],
+    places: u64,
+    desk: u32,
+    fields: &mut [u64; 4],
+) -> u8 {
+    unsafe { sys::lupaniele_leave(modes, s, x, kept, places, desk, fields) }
+}
+
+/// A desk that fell silent leaves once its lease is over (rules 13.1 to 13.8).
+#[inline]
+#[must_use]
+pub fn lapse(
+    modes: &mut [u8; 32],
+    s: &mut [u64; 32],
+    x: &mut [u64; 32],
+    kept: &mut [u64; 3],
+    places: u64,
+    desk: u32,
+    period: f64,
+    drift: f64,
+    begin: f64,
+    time: f64,
+    fields: &mut [u64; 4],
+) -> u8 {
+    unsafe {
+        sys::lupaniele_lapse(
+            modes, s, x, kept, places, desk, period, drift, begin, time, fields,
+        )
+    }
+}
+
+/// A desk learns a pair (rule 10.2).
+#[inline]
+pub fn learn(known: &mut [u64; 2], s: u64, x: u64) {
+    unsafe { sys::lupaniele_learn(known, s, x) }
+}
+
+/// A desk proposes a pair (rules 10.3 to 10.7): 0, 1 or 16.
+#[inline]
+#[must_use]
+pub fn propose(desk: u16, start: u16, known: &mut [u64; 2], mode: u8, pair: &mut [u64; 2]) -> u8 {
+    unsafe { sys::lupaniele_propose(desk, start, known, mode, pair) }
+}
+
+/// The text that a desk shows (rules 6.1 to 6.3): the number, and in `count` how many first bytes of the buffer asked for.
+#[inline]
+#[must_use]
+pub fn shown(
+    original: &[u8],
+    translation: &[u8],
+    original_length: u64,
+    translation_length: u64,
+    edition: u16,
+    from: u16,
+    asked: u8,
+    count: &mut u64,
+) -> u8 {
+    unsafe {
+        sys::lupaniele_shown(
+            original.as_ptr(),
+            original.len(),
+            translation.as_ptr(),
+            translation.len(),
+            original_length,
+            translation_length,
+            edition,
+            from,
+            asked,
+            count,
+        )
+    }
+}
+
+/// Whether a whole command of version 1 stands at `at` (rule 8.1), and in `end` the place behind it.
+#[inline]
+#[must_use]
+pub fn next(stream: &[u8], at: u64, end: &mut u64) -> bool {
+    unsafe { sys::lupaniele_next(stream.as_ptr(), stream.len(), at, end) }
+}
+
+/// Where the whole commands of a stream of version 1 end (rule 8.2).
+#[inline]
+#[must_use]
+pub fn end(stream: &[u8]) -> u64 {
+    unsafe { sys::lupaniele_end(stream.as_ptr(), stream.len()) }
+}
+
+/// Whether a whole command of version 2 stands at `at` (rule 15.6), and in `end` the place behind it.
+#[inline]
+#[must_use]
+pub fn next_v2(stream: &[u8], at: u64, end: &mut u64) -> bool {
+    unsafe { sys::lupaniele_next_v2(stream.as_ptr(), stream.len(), at, end) }
+}
+
+/// Where the whole commands of a stream of version 2 end (rule 15.6).
+#[inline]
+#[must_use]
+pub fn end_v2(stream: &[u8]) -> u64 {
+    unsafe { sys::lupaniele_end_v2(stream.as_ptr(), stream.len()) }
+}
+
+/// A run over a stream of version 1 (rule 8.5): how many commands were judged; eight numbers for each in `lines`, where it stopped in `end`.
+#[inline]
+#[must_use]
+pub fn run(
+    image: &mut [u8],
+    stream: &[u8],
+    reply: &mut [u8],
+    lines: &mut [u64],
+    end: &mut u64,
+) -> u64 {
+    unsafe {
+        sys::lupaniele_run(
+            image.as_mut_ptr(),
+            image.len(),
+            stream.as_ptr(),
+            stream.len(),
+            reply.as_mut_ptr(),
+            reply.len(),
+            lines.as_mut_ptr(),
+            lines.len(),
+            end,
+        )
+    }
+}
+
+/// A run over a stream of version 2, as [`run`].
+#[inline]
+#[must_use]
+pub fn run_v2(
+    image: &mut [u8],
+    stream: &[u8],
+    reply: &mut [u8],
+    lines: &mut [u64],
+    end: &mut u64,
+) -> u64 {
+    unsafe {
+        sys::lupaniele_run_v2(
+            image.as_mut_ptr(),
+            image.len(),
+            stream.as_ptr(),
+            stream.len(),
+            reply.as_mut_ptr(),
+            reply.len(),
+            lines.as_mut_ptr(),
+            lines.len(),
+            end,
+        )
+    }
+}
+
+/// What the program prints for these bytes (rule 8.6): how many bytes, at the front of `out`; 0 if `out` is too short.
+#[inline]
+#[must_use]
+pub fn output(input: &[u8], out: &mut [u8]) -> u64 {
+    unsafe { sys::lupaniele_output(input.as_ptr(), input.len(), out.as_mut_ptr(), out.len()) }
+}
+
+/// Whether two structured texts say the same drops (rule 12.9): 0, 18, 19 or 20, and in `place` where they part (rule 12.10).
+#[inline]
+#[must_use]
+pub fn agree(first: &[u8], second: &[u8], place: &mut u64) -> u8 {
+    unsafe {
+        sys::lupaniele_agree(
+            first.as_ptr(),
+            first.len(),
+            second.as_ptr(),
+            second.len(),
+            place,
+        )
+    }
+}
+
+/// One request to the history engine (rules 14.1 to 14.9).
+#[inline]
+#[must_use]
+pub fn history_answer(
+    kept: &mut [u8; 43168],
+    used: &mut u64,
+    cards: u16,
+    room: u16,
+    command: &[u8],
+    reply: &mut [u8],
+    fields: &mut [u64; 7],
+) -> u8 {
+    unsafe {
+        sys::lupaniele_history_answer(
+            kept,
+            used,
+            cards,
+            room,
+            command.as_ptr(),
+            command.len(),
+            reply.as_mut_ptr(),
+            reply.len(),
+            fields,
+        )
+    }
+}
+
+/// Whether the bytes are a good log (rule 11.8): 0 or 23.
+#[inline]
+#[must_use]
+pub fn log_check(log: &[u8]) -> u8 {
+    unsafe { sys::lupaniele_log_check(log.as_ptr(), log.len()) }
+}
+
+/// Appends a record as far as `stores` stores of one byte go (rules 11.9 to 11.12): 0, 23, 24 or 26.
+#[inline]
+#[must_use]
+pub fn log_append(log: &mut [u8], kind: u8, body: &[u8], stores: u64) -> u8 {
+    unsafe {
+        sys::lupaniele_log_append(
+            log.as_mut_ptr(),
+            log.len(),
+            kind,
+            body.as_ptr(),
+            body.len(),
+            stores,
+        )
+    }
+}
+
+/// Recovery (rules 11.15 to 11.20): the number, and in `line` the line of a refused write.
+#[inline]
+#[must_use]
+pub fn recover(log: &[u8], image: &mut [u8], s: &[u64], x: &[u64], line: &mut u64) -> u8 {
+    unsafe {
+        sys::lupaniele_recover(
+            log.as_ptr(),
+            log.len(),
+            image.as_mut_ptr(),
+            image.len(),
+            s.as_ptr(),
+            s.len(),
+            x.as_ptr(),
+            x.len(),
+            line,
+        )
+    }
+}
