@@ -27,6 +27,7 @@ mod bytes;
 mod cards;
 mod command;
 pub mod desk;
+pub mod files;
 mod history;
 mod image;
 mod kinds;

@@ -1,6 +1,7 @@
 use std::fmt;
 
 use crate::bytes::{slice_at, u8_at, u16_at, u32_at};
+use crate::desk::due::due;
 use crate::{Image, Number, Pair, raw};
 
 /// The bytes of a log in front of its bodies (rule 11.1), the fewest that a log has.
@@ -299,6 +300,33 @@ impl<B: AsRef<[u8]>> Log<B> {
                 let (_, place, length) = self.line(last);
                 place + length
             }
+        }
+    }
+
+    /// A log of the same length that begins again, if nothing of this one is due (rule 11.15): it has no record but the begin of the last transaction that
+    /// began here, so that transactions go on rising.
+    ///
+    /// ```
+    /// use lupaniele::{Log, Record, Side};
+    /// let mut log = Log::empty(4_096)?;
+    /// log.append(&Record::Begin(7))?;
+    /// log.append(&Record::Update { card: 0, side: Side::Original, text: b"205" })?;
+    /// log.append(&Record::Commit(7))?;
+    /// assert_eq!(log.begun_again(), None);
+    /// log.append(&Record::Synced { card: 0, transaction: 7 })?;
+    /// let new = log.begun_again().ok_or("something is due")?;
+    /// assert!(new.records().eq([Record::Begin(7)]));
+    /// # Ok::<(), Box<dyn std::error::Error>>(())
+    /// ```
+    #[must_use]
+    pub fn begun_again(&self) -> Option<Log> {
+        if !due(self).is_empty() {
+            return None;
+        }
+        let mut log = Log::empty(self.bytes().len()).ok()?;
+        match self.last_begun() {
+            0 => Some(log),
+            last => log.append(&Record::Begin(last)).ok().map(|()| log),
         }
     }
 

@@ -6,7 +6,7 @@
 //! - [`Transaction`]: several cards, all or nothing.
 //! - [`Failed`], [`Refusal`], [`NotShown`]: why not, as types.
 
-mod due;
+pub(crate) mod due;
 mod kept;
 mod refused;
 mod session;
@@ -141,7 +141,7 @@ impl Locks for [Queue] {
     }
 }
 
-/// A desk's log, wherever it is kept. A [`Log`] is one, in memory; a log in a file is one that survives a power cut.
+/// A desk's log, wherever it is kept. A [`Log`] is one, in memory; [`LogFile`](crate::files::LogFile) is one that survives a power cut.
 ///
 /// ```
 /// use lupaniele::desk::Journal;
@@ -210,7 +210,7 @@ pub struct Desk {
 
 impl Desk {
     /// A desk starts, and knows nothing. Its start is one that this desk never had before (rule 10.9), as
-    /// a file of its own would give them.
+    /// [`files::next_start`](crate::files::next_start) gives them.
     #[must_use]
     pub fn start(id: DeskId) -> Desk {
         Desk {
