@@ -1,7 +1,8 @@
 # make run: the program's example. make test: exactly what the gate runs. make soak N=..: the comparison with a new seed, N cases
 # (2,000,000 at the least). make sim N=..: the town of desks with a new seed, N steps (1,000,000 at the least). make pictures: the pictures of
 # docs/pictures, from their texts. make kills: a desk with its files is killed 4,000 times. make bench: the store against a straightforward Rust version, and the picture of docs/PERFORMANCE.md. make audit: the further must-fail edits.
-.PHONY: run test soak sim kills pictures bench audit
+# make install PREFIX=.. DESTDIR=..: the header, the library, its page and its file for pkg-config, under PREFIX (/usr/local) in DESTDIR (none); make uninstall takes them away.
+.PHONY: run test soak sim kills pictures bench audit install uninstall
 N = 20000000
 SHELL = /bin/bash
 .SHELLFLAGS = -o pipefail -c
@@ -37,3 +38,27 @@ bench:
 
 audit:
 	tools/audit
+
+PREFIX = /usr/local
+DESTDIR =
+VERSION := $(shell sed -n 's/^\#define LUPANIELE_VERSION  *"\(.*\)"$$/\1/p' include/lupaniele.h)
+SHARED := liblupaniele.so.$(VERSION)
+SONAME := liblupaniele.so.$(firstword $(subst ., ,$(VERSION)))
+TO = $(DESTDIR)$(PREFIX)
+
+target/lib/liblupaniele.a:
+	tools/build
+
+install: target/lib/liblupaniele.a
+	install -d "$(TO)/include" "$(TO)/lib/pkgconfig" "$(TO)/share/man/man3"
+	install -m 644 include/lupaniele.h "$(TO)/include/lupaniele.h"
+	install -m 644 target/lib/liblupaniele.a "$(TO)/lib/liblupaniele.a"
+	install -m 755 "target/lib/$(SHARED)" "$(TO)/lib/$(SHARED)"
+	ln -sf "$(SHARED)" "$(TO)/lib/$(SONAME)"
+	ln -sf "$(SONAME)" "$(TO)/lib/liblupaniele.so"
+	sed 's|@PREFIX@|$(PREFIX)|; s|@VERSION@|$(VERSION)|' include/lupaniele.pc.in > "$(TO)/lib/pkgconfig/lupaniele.pc"
+	sed 's|@VERSION@|$(VERSION)|' docs/lupaniele.3 > "$(TO)/share/man/man3/lupaniele.3"
+	chmod 644 "$(TO)/lib/pkgconfig/lupaniele.pc" "$(TO)/share/man/man3/lupaniele.3"
+
+uninstall:
+	cd "$(TO)" && rm -f include/lupaniele.h lib/liblupaniele.a lib/$(SHARED) lib/$(SONAME) lib/liblupaniele.so lib/pkgconfig/lupaniele.pc share/man/man3/lupaniele.3

@@ -1,51 +1,55 @@
-/* An image of version 1 with one card is converted to version 2, and gets a second translation (rules 15.1 to 15.13). */
+/* An image of version 1 with one card is converted to version 2, and gets a second translation (rules 15.1 to 15.13).
+ */
 #include <stdio.h>
 #include <string.h>
 
-#include "lupaniele.h"
+#include <lupaniele.h>
 
-static uint8_t image[80], target[144], reply[16];
+enum { CARDS = 1, ROOM = 16, CARD = 0, T = 1, DESK = 1, START = 0, EDITION = 1 };
+enum { ONE = LUPANIELE_FIRST_LANGUAGE, TWO = LUPANIELE_SECOND_LANGUAGE };
 
-/* A command of desk 1 under the stamp 1.1.0, exclusive: in version 1 of 52 bytes, in version 2 of 68 with a language. */
-static void send(int version, uint8_t act, uint8_t language, uint8_t edition, const char *text) {
-    const uint8_t stamp[8] = {0, 0, 1, 0, 1, 0, 0, 0};
-    uint8_t command[84] = {act, 2};
-    size_t fixed = version == 1 ? 52 : 68;
-    uint64_t fields[7];
-    uint8_t number;
-    memcpy(command + 4, stamp, 8);
-    memcpy(command + 12, stamp, 8);
-    command[20] = language; /* 0 in version 1, where the update pair stands here */
-    command[48] = edition;
-    command[50] = (uint8_t)strlen(text);
-    memcpy(command + fixed, text, strlen(text));
-    if (version == 1) {
-        number = lupaniele_answer(image, sizeof image, command, fixed + strlen(text), reply, sizeof reply, fields);
+static uint8_t image[LUPANIELE_IMAGE_SIZE(CARDS, ROOM)], target[LUPANIELE_IMAGE_SIZE_V2(CARDS, ROOM)], reply[ROOM];
+static bool converted;
+
+/* Sends a command, exclusive under the desk's stamp: to the image of version 1 until it is converted, then to the
+   other. */
+static void request(struct lupaniele_command command) {
+    uint64_t stamp = lupaniele_stamp(T, DESK, START), fields[LUPANIELE_FIELDS];
+    uint8_t bytes[LUPANIELE_COMMAND_SIZE_V2 + ROOM], number;
+    struct lupaniele_entry entry;
+    size_t size;
+    command = lupaniele_exclusive(command, lupaniele_pair_of(stamp, stamp));
+    if (converted) {
+        size = lupaniele_command_bytes_v2(&command, bytes, sizeof bytes);
+        number = lupaniele_answer_v2(target, sizeof target, bytes, size, reply, sizeof reply, fields);
     } else {
-        number = lupaniele_answer_v2(target, sizeof target, command, fixed + strlen(text), reply, sizeof reply, fields);
+        size = lupaniele_command_bytes(&command, bytes, sizeof bytes);
+        number = lupaniele_answer(image, sizeof image, bytes, size, reply, sizeof reply, fields);
     }
-    printf("act %u, language %u: %u, from edition %u, \"%.*s\"\n", act, language, number, (unsigned)fields[5],
-           (int)fields[6], (const char *)reply);
+    entry = lupaniele_entry_of(fields);
+    printf("act %u, language %u: %u, from edition %u, \"%.*s\"\n", command.act, command.language, number,
+           entry.translated_from, (int)entry.length, (const char *)reply);
 }
 
 int main(void) {
-    uint64_t fields[7];
-    if (lupaniele_make(image, sizeof image, 1, 16) != 0) {
+    uint64_t fields[LUPANIELE_FIELDS];
+    if (lupaniele_make(image, sizeof image, CARDS, ROOM) != LUPANIELE_ACCEPTED) {
         return 1;
     }
-    send(1, 3, 0, 0, "205"); /* the original */
-    send(1, 4, 0, 1, "401"); /* its translation */
+    request(lupaniele_write_original(CARD, "205", strlen("205")));
+    request(lupaniele_write_translation(CARD, ONE, EDITION, "401", strlen("401")));
     printf("one byte short: %u\n", lupaniele_convert(image, sizeof image, target, sizeof target - 1));
     printf("converted: %u\n", lupaniele_convert(image, sizeof image, target, sizeof target));
-    send(2, 2, 0, 0, "");    /* what was the translation is language 0 */
-    send(2, 2, 1, 0, "");    /* language 1 is behind */
-    send(2, 4, 1, 1, "402"); /* until it is written */
-    send(2, 2, 1, 0, "");
-    send(2, 3, 0, 0, "206"); /* the original again */
-    send(2, 2, 0, 0, "");    /* puts both behind */
-    send(2, 2, 1, 0, "");
+    converted = true;
+    request(lupaniele_read_translation(CARD, ONE)); /* what was the translation is the first language */
+    request(lupaniele_read_translation(CARD, TWO)); /* the second is behind */
+    request(lupaniele_write_translation(CARD, TWO, EDITION, "402", strlen("402"))); /* until it is written */
+    request(lupaniele_read_translation(CARD, TWO));
+    request(lupaniele_write_original(CARD, "206", strlen("206"))); /* the original again */
+    request(lupaniele_read_translation(CARD, ONE));                /* puts both behind */
+    request(lupaniele_read_translation(CARD, TWO));
     printf("version 1 asked about version 2: %u\n",
-           lupaniele_answer(target, sizeof target, target, 52, reply, sizeof reply, fields));
+           lupaniele_answer(target, sizeof target, NULL, 0, reply, sizeof reply, fields));
     printf("version 2 converted: %u\n", lupaniele_convert(target, sizeof target, image, sizeof image));
     return 0;
 }

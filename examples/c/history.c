@@ -2,37 +2,35 @@
 #include <stdio.h>
 #include <string.h>
 
-#include "lupaniele.h"
+#include <lupaniele.h>
 
-/* A command of desk 1 under the stamp 1.1.0 for card 0, exclusive, with its payload. */
-static size_t command(uint8_t *bytes, uint8_t act, const char *text) {
-    const uint8_t stamp[8] = {0, 0, 1, 0, 1, 0, 0, 0};
-    size_t length = strlen(text);
-    memset(bytes, 0, 52);
-    bytes[0] = act;
-    bytes[1] = 2;
-    memcpy(bytes + 4, stamp, 8);
-    memcpy(bytes + 12, stamp, 8);
-    bytes[50] = (uint8_t)length;
-    memcpy(bytes + 52, text, length);
-    return 52 + length;
+enum { CARDS = 1, ROOM = 16, CARD = 0, T = 1, DESK = 1, START = 0 };
+
+static uint8_t kept[LUPANIELE_HISTORY_SIZE], reply[ROOM];
+static uint64_t used;
+
+/* Sends a command of the desk, exclusive under its stamp, to the engine: the number, and the reply fields by name. */
+static uint8_t request(struct lupaniele_command command, struct lupaniele_entry *entry) {
+    uint64_t stamp = lupaniele_stamp(T, DESK, START), fields[LUPANIELE_FIELDS];
+    uint8_t bytes[LUPANIELE_COMMAND_SIZE + ROOM], number;
+    size_t size;
+    command = lupaniele_exclusive(command, lupaniele_pair_of(stamp, stamp));
+    size = lupaniele_command_bytes(&command, bytes, sizeof bytes);
+    number = lupaniele_history_answer(kept, &used, CARDS, ROOM, bytes, size, reply, sizeof reply, fields);
+    *entry = lupaniele_entry_of(fields);
+    return number;
 }
 
 int main(void) {
-    static uint8_t history[43168];
-    uint8_t bytes[68], reply[16];
-    uint64_t used = 0, fields[7];
-    size_t length = command(bytes, 3, "205");
-    uint8_t number = lupaniele_history_answer(history, &used, 1, 16, bytes, length, reply, 0, fields);
-    printf("write: %u, edition %u, used %u\n", number, (unsigned)fields[4], (unsigned)used);
-    length = command(bytes, 1, "");
-    number = lupaniele_history_answer(history, &used, 1, 16, bytes, length, reply, sizeof reply, fields);
-    printf("read: %u, %.*s, used %u\n", number, (int)fields[6], (const char *)reply, (unsigned)used);
-    unsigned kept = 2;
-    length = command(bytes, 5, "");
-    while ((number = lupaniele_history_answer(history, &used, 1, 16, bytes, length, reply, 0, fields)) == 0) {
-        kept++;
+    struct lupaniele_entry entry;
+    unsigned count = 2;
+    uint8_t number = request(lupaniele_write_original(CARD, "205", strlen("205")), &entry);
+    printf("write: %u, edition %u, used %u\n", number, entry.edition, (unsigned)used);
+    number = request(lupaniele_read_original(CARD), &entry);
+    printf("read: %u, %.*s, used %u\n", number, (int)entry.length, (const char *)reply, (unsigned)used);
+    while ((number = request(lupaniele_verify(CARD), &entry)) == LUPANIELE_ACCEPTED) {
+        count++;
     }
-    printf("full: %u after %u commands, edition %u, used %u\n", number, kept, (unsigned)fields[4], (unsigned)used);
+    printf("full: %u after %u commands, edition %u, used %u\n", number, count, entry.edition, (unsigned)used);
     return 0;
 }

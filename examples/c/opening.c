@@ -1,42 +1,41 @@
-/* A desk opens a session inside a command: the verifier is the pair that it relies on, the update pair the one that it opens (rule 3.4). */
+/* A desk opens a session inside a command: the verifier is the pair that it relies on, the update pair the one that it
+   opens (rule 3.4). */
 #include <stdio.h>
 
-#include "lupaniele.h"
+#include <lupaniele.h>
 
-static uint8_t image[80];
+enum { CARDS = 1, ROOM = 16, CARD = 0, START = 0 };
 
-/* The stamp T.desk.0. */
-static uint64_t stamp(uint64_t t, uint64_t desk) {
-    return t << 32 | desk << 16;
+static uint8_t image[LUPANIELE_IMAGE_SIZE(CARDS, ROOM)];
+
+/* An exclusive verify of the card: it relies on one pair and opens another. */
+static void verify(const char *what, struct lupaniele_pair verifier, struct lupaniele_pair update) {
+    struct lupaniele_command command = lupaniele_opening(lupaniele_verify(CARD), LUPANIELE_EXCLUSIVE, verifier, update);
+    uint8_t bytes[LUPANIELE_COMMAND_SIZE], number;
+    size_t size = lupaniele_command_bytes(&command, bytes, sizeof bytes);
+    uint64_t fields[LUPANIELE_FIELDS], x;
+    number = lupaniele_answer(image, sizeof image, bytes, size, NULL, 0, fields);
+    x = lupaniele_entry_of(fields).pair.x;
+    printf("%s: %u, stored x %u.%u.%u\n", what, number, (unsigned)lupaniele_stamp_t(x), lupaniele_stamp_desk(x),
+           lupaniele_stamp_start(x));
 }
 
-static void put(uint8_t *bytes, uint64_t number) {
-    for (int i = 0; i < 8; i++) {
-        bytes[i] = (uint8_t)(number >> 8 * i);
-    }
-}
-
-/* An exclusive verify of card 0: it relies on (s, x) and opens (new_s, new_x); zeros open nothing new. */
-static void verify(const char *what, uint64_t s, uint64_t x, uint64_t new_s, uint64_t new_x) {
-    uint8_t command[52] = {5, 2}, reply[1];
-    uint64_t fields[7];
-    put(command + 4, s);
-    put(command + 12, x);
-    put(command + 20, new_s);
-    put(command + 28, new_x);
-    uint8_t number = lupaniele_answer(image, sizeof image, command, sizeof command, reply, 0, fields);
-    printf("%s: %u, stored x %u.%u.0\n", what, number, (unsigned)(fields[1] >> 32), (unsigned)(fields[1] >> 16 & 65535));
+/* Both stamps of a pair the same: of this T and desk. */
+static struct lupaniele_pair both(uint32_t t, uint16_t desk) {
+    uint64_t stamp = lupaniele_stamp(t, desk, START);
+    return lupaniele_pair_of(stamp, stamp);
 }
 
 int main(void) {
-    uint64_t one = stamp(1, 1), two = stamp(2, 2);
-    if (lupaniele_make(image, sizeof image, 1, 16) != 0) {
+    const struct lupaniele_pair none = lupaniele_pair_of(LUPANIELE_NO_STAMP, LUPANIELE_NO_STAMP);
+    const struct lupaniele_pair one = both(1, 1), two = both(2, 2);
+    if (lupaniele_make(image, sizeof image, CARDS, ROOM) != LUPANIELE_ACCEPTED) {
         return 1;
     }
-    verify("desk 1 opens a session out of nothing", 0, 0, one, one);
-    verify("desk 1 goes on in it", one, one, 0, 0);
-    verify("desk 2 opens one out of what it was told", one, one, two, two);
-    verify("desk 1 comes late, whatever it would open", one, one, stamp(3, 1), stamp(3, 1));
-    verify("desk 2 opens a pair below its own", two, two, two, one);
+    verify("desk 1 opens a session out of nothing", none, one);
+    verify("desk 1 goes on in it", one, none);
+    verify("desk 2 opens one out of what it was told", one, two);
+    verify("desk 1 comes late, whatever it would open", one, both(3, 1));
+    verify("desk 2 opens a pair below its own", two, lupaniele_pair_of(two.s, one.x));
     return 0;
 }

@@ -1,16 +1,19 @@
-/* What the program prints, without the program: a fresh image, a command of zeros, which is malformed, and five bytes more. */
+/* What the program prints, without the program: a fresh image, a command of zeros, which is malformed, and some bytes
+   more. It takes LUPANIELE_STACK_OUTPUT bytes of stack. */
 #include <stdio.h>
-#include <string.h>
 
-#include "lupaniele.h"
+#include <lupaniele.h>
 
-static uint8_t out[238518]; /* as many bytes as the longest output can have */
+enum { CARDS = 1, ROOM = 16, LEFT_OVER = 5 };
+
+static uint8_t input[LUPANIELE_IMAGE_SIZE(CARDS, ROOM) + LUPANIELE_COMMAND_SIZE + LEFT_OVER];
+static uint8_t out[LUPANIELE_OUTPUT_SIZE];
 
 int main(void) {
-    uint8_t input[80 + 52 + 5];
     uint64_t count;
-    memset(input, 0, sizeof input);
-    lupaniele_make(input, 80, 1, 16);
+    if (lupaniele_make(input, LUPANIELE_IMAGE_SIZE(CARDS, ROOM), CARDS, ROOM) != LUPANIELE_ACCEPTED) {
+        return 1;
+    }
     count = lupaniele_output(input, sizeof input, out, sizeof out);
     fwrite(out, 1, count, stdout);
     printf("%u with one byte too few\n", (unsigned)lupaniele_output(input, sizeof input, out, sizeof out - 1));

@@ -2,37 +2,34 @@
 #include <stdio.h>
 #include <string.h>
 
-#include "lupaniele.h"
+#include <lupaniele.h>
+
+enum { CARDS = 1, ROOM = 16, CARD = 0, T = 1, DESK = 1, START = 0, LEFT_OVER = 5 };
 
 static uint8_t stream[256];
 static size_t length;
 
-/* One command more, of desk 1 under the stamp 1.1.0, exclusive. */
-static void put(uint8_t act, const char *text) {
-    const uint8_t stamp[8] = {0, 0, 1, 0, 1, 0, 0, 0};
-    uint8_t *command = stream + length;
-    command[0] = act;
-    command[1] = 2;
-    memcpy(command + 4, stamp, 8);
-    memcpy(command + 12, stamp, 8);
-    command[50] = (uint8_t)strlen(text);
-    memcpy(command + 52, text, strlen(text));
-    length += 52 + strlen(text);
+/* One command more at the stream's end. */
+static void put(struct lupaniele_command command) {
+    length += lupaniele_command_bytes(&command, stream + length, sizeof stream - length);
 }
 
 int main(void) {
-    uint8_t image[80], reply[16];
-    uint64_t fields[7], at = 0, end;
-    if (lupaniele_make(image, sizeof image, 1, 16) != 0) {
+    const uint64_t stamp = lupaniele_stamp(T, DESK, START);
+    const struct lupaniele_pair pair = lupaniele_pair_of(stamp, stamp);
+    uint8_t image[LUPANIELE_IMAGE_SIZE(CARDS, ROOM)], reply[ROOM];
+    uint64_t fields[LUPANIELE_FIELDS], at = 0, end;
+    if (lupaniele_make(image, sizeof image, CARDS, ROOM) != LUPANIELE_ACCEPTED) {
         return 1;
     }
-    put(3, "205"); /* a write of the original */
-    put(9, "no");  /* no act: answered, and passed over by its length */
-    put(1, "");    /* a read */
-    length += 5;   /* and five bytes that are no whole command */
+    put(lupaniele_exclusive(lupaniele_write_original(CARD, "205", strlen("205")), pair));
+    /* a write that is not exclusive: malformed, so it is answered and passed over by its length */
+    put(lupaniele_shared(lupaniele_write_original(CARD, "no", strlen("no")), pair));
+    put(lupaniele_exclusive(lupaniele_read_original(CARD), pair));
+    length += LEFT_OVER; /* and some bytes that are no whole command */
     while (lupaniele_next(stream, length, at, &end)) {
         uint8_t number = lupaniele_answer(image, sizeof image, stream + at, end - at, reply, sizeof reply, fields);
-        printf("at %u: %u, edition %u\n", (unsigned)at, number, (unsigned)fields[4]);
+        printf("at %u: %u, edition %u\n", (unsigned)at, number, lupaniele_entry_of(fields).edition);
         at = end;
     }
     printf("cut at %u of %u, as one call says: %u\n", (unsigned)at, (unsigned)length,

@@ -1,54 +1,64 @@
 /* Tells an editor which step of a card disagrees with its translation. */
 #include <stdio.h>
+#include <string.h>
 
-#include "lupaniele.h"
+#include <lupaniele.h>
 
-/* English: words, a drop of 190.0 C, and a section of words and a drop of 205.0 C. */
-static const uint8_t english[] = {1, 3, 2, 6, 'C', 'h', 'a', 'r', 'g', 'e', 3, 'C', 108, 7,
-                                  4, 1, 2, 2, 4, 'D', 'r', 'o', 'p', 3, 'C', 2, 8};
-/* Norwegian: the same, with 374.0 F and, at the end, 402.0 F. */
-static uint8_t norwegian[] = {1, 3, 2, 4, 'F', 'y', 'l', 'l', 3, 'F', 156, 14,
-                              4, 1, 2, 2, 3, 'T', 'o', 'm', 3, 'F', 180, 15};
+enum { ROOM = 64 };
 
-/* Walks the steps of the section whose first byte is at `at`, says where the step at `place` stands, and returns the byte behind the section. The text is
-   well formed, since it was compared. */
-static size_t find(const uint8_t *text, size_t at, uint64_t place, const char *above) {
-    unsigned count = text[at + 1], step;
-    char path[64];
-    at += 2;
-    for (step = 1; step <= count; step++) {
-        snprintf(path, sizeof path, "%s%u", above, step);
-        if (at == place && text[at] == 3) {
-            unsigned tenths = text[at + 2] + 256u * text[at + 3];
-            printf("step %s is a drop of %u.%u %c\n", path, tenths / 10, tenths % 10, text[at + 1]);
-        } else if (at == place) {
-            printf("see step %s: of another kind, one too many, or one is missing before it\n", path);
-        }
-        if (text[at] == 2) {
-            at += 2 + (size_t)text[at + 1];
-        } else if (text[at] == 3) {
-            at += 4;
-        } else {
-            snprintf(path, sizeof path, "%s%u.", above, step);
-            at = find(text, at + 1, place, path);
-        }
-    }
-    return at;
+static uint8_t english[ROOM], norwegian[ROOM];
+
+/* Words, a drop, and a section of words and a drop: the text's length. */
+static size_t card(uint8_t *bytes, const char *first, const char *then, uint8_t unit, uint16_t charge, uint16_t drop) {
+    struct lupaniele_writer writer;
+    lupaniele_text_start(&writer, bytes, ROOM);
+    lupaniele_text_words(&writer, first, strlen(first));
+    lupaniele_text_drop(&writer, unit, charge);
+    lupaniele_text_open(&writer);
+    lupaniele_text_words(&writer, then, strlen(then));
+    lupaniele_text_drop(&writer, unit, drop);
+    lupaniele_text_close(&writer);
+    return lupaniele_text_finish(&writer);
 }
 
-static void compare(const uint8_t *first, size_t first_length, const uint8_t *second, size_t second_length) {
+/* Says what stands at the place of the first text where the two part. */
+static void tell(const uint8_t *text, size_t length, uint64_t place) {
+    struct lupaniele_reader reader;
+    struct lupaniele_step step;
+    unsigned i;
+    lupaniele_reader_start(&reader, text, length);
+    while (lupaniele_reader_next(&reader, &step)) {
+        if (step.place == place) {
+            printf("step ");
+            for (i = 0; i < step.depth; i++) {
+                printf(i == 0 ? "%u" : ".%u", step.path[i]);
+            }
+            if (step.kind == LUPANIELE_DROP) {
+                printf(" is a drop of %u.%u %c\n", step.tenths / 10, step.tenths % 10, step.unit);
+            } else {
+                printf(" is of another kind, one too many, or one is missing before it\n");
+            }
+            return;
+        }
+    }
+    printf("the translation goes on where the card ends\n");
+}
+
+static void compare(size_t first_length, size_t second_length) {
     uint64_t place;
-    uint8_t number = lupaniele_agree(first, first_length, second, second_length, &place);
+    uint8_t number = lupaniele_agree(english, first_length, norwegian, second_length, &place);
     printf("%u, byte %u\n", number, (unsigned)place);
-    if (number == 20 && find(first, 0, place, "") == place) {
-        printf("the translation goes on where the card ends\n");
+    if (number == LUPANIELE_UNMATCHED) {
+        tell(english, first_length, place);
     }
 }
 
 int main(void) {
-    compare(english, sizeof english, norwegian, sizeof norwegian);
-    norwegian[sizeof norwegian - 2] = 170; /* 401.0 F */
-    compare(english, sizeof english, norwegian, sizeof norwegian);
-    compare(english, sizeof english - 1, norwegian, sizeof norwegian);
+    size_t first = card(english, "Charge", "Drop", LUPANIELE_CELSIUS, 1900, 2050);
+    size_t second = card(norwegian, "Fyll", "Tom", LUPANIELE_FAHRENHEIT, 3740, 4020);
+    compare(first, second);
+    second = card(norwegian, "Fyll", "Tom", LUPANIELE_FAHRENHEIT, 3740, 4010);
+    compare(first, second);
+    compare(first - 1, second);
     return 0;
 }

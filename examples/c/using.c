@@ -2,33 +2,33 @@
 #include <stdio.h>
 #include <string.h>
 
-#include "lupaniele.h"
+#include <lupaniele.h>
 
-/* A command of desk 1 under the stamp 1.1.0, exclusive, with its payload. */
-static size_t command(uint8_t *bytes, uint8_t act, const char *text) {
-    const uint8_t stamp[8] = {0, 0, 1, 0, 1, 0, 0, 0};
-    size_t length = strlen(text);
-    memset(bytes, 0, 52);
-    bytes[0] = act;
-    bytes[1] = 2;
-    memcpy(bytes + 4, stamp, 8);
-    memcpy(bytes + 12, stamp, 8);
-    bytes[50] = (uint8_t)length;
-    memcpy(bytes + 52, text, length);
-    return 52 + length;
+enum { CARDS = 1, ROOM = 16, CARD = 0, T = 1, DESK = 1, START = 0 };
+
+static uint8_t image[LUPANIELE_IMAGE_SIZE(CARDS, ROOM)], bytes[LUPANIELE_COMMAND_SIZE + ROOM], reply[ROOM];
+
+/* Sends a command of the desk, exclusive under its stamp, to the store: the number, and the reply fields by name. */
+static uint8_t request(struct lupaniele_command command, struct lupaniele_entry *entry) {
+    uint64_t stamp = lupaniele_stamp(T, DESK, START), fields[LUPANIELE_FIELDS];
+    uint8_t number;
+    size_t size;
+    command = lupaniele_exclusive(command, lupaniele_pair_of(stamp, stamp));
+    size = lupaniele_command_bytes(&command, bytes, sizeof bytes);
+    number = lupaniele_answer(image, sizeof image, bytes, size, reply, sizeof reply, fields);
+    *entry = lupaniele_entry_of(fields);
+    return number;
 }
 
 int main(void) {
-    uint8_t image[80], bytes[68], reply[16];
-    uint64_t fields[7];
-    if (lupaniele_make(image, sizeof image, 1, 16) != 0) {
+    struct lupaniele_entry entry;
+    uint8_t number;
+    if (lupaniele_make(image, sizeof image, CARDS, ROOM) != LUPANIELE_ACCEPTED) {
         return 1;
     }
-    size_t length = command(bytes, 3, "205");
-    uint8_t number = lupaniele_answer(image, sizeof image, bytes, length, reply, 0, fields);
-    printf("write: %u, edition %u\n", number, (unsigned)fields[4]);
-    length = command(bytes, 1, "");
-    number = lupaniele_answer(image, sizeof image, bytes, length, reply, sizeof reply, fields);
-    printf("read: %u, %.*s\n", number, (int)fields[6], (const char *)reply);
+    number = request(lupaniele_write_original(CARD, "205", strlen("205")), &entry);
+    printf("write: %u, edition %u\n", number, entry.edition);
+    number = request(lupaniele_read_original(CARD), &entry);
+    printf("read: %u, %.*s\n", number, (int)entry.length, (const char *)reply);
     return 0;
 }
