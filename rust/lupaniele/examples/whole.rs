@@ -1,5 +1,6 @@
-//! One day of a card: an image is made, both languages are written, late and outdated things are refused and say why in words, two desks queue up,
-//! the power fails in the middle of an append, recovery brings the texts back, two texts are compared, and the store gets four languages.
+//! One day of a card: an image is made, both languages are written, late and outdated things are refused and say why in
+//! words, two desks queue up, the power fails in the middle of an append, recovery brings the texts back, two texts are
+//! compared, and the store gets four languages.
 
 use std::error::Error;
 
@@ -120,7 +121,8 @@ fn queue() -> Done {
     Ok(())
 }
 
-/// A desk logs a change of both languages; the power fails while it appends its next record; started again, it recovers.
+/// A desk logs a change of both languages; the power fails while it appends its next record; started again, it
+/// recovers.
 fn power_cut(store: &mut Image) -> Done {
     let mut log = Log::empty(8_192)?;
     let (original, translation) = (

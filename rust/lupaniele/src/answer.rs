@@ -31,7 +31,8 @@ pub struct Answer {
 }
 
 impl Answer {
-    /// From a number and fields as an exported function gives them; each field is within its type, since it was read from one.
+    /// From a number and fields as an exported function gives them; each field is within its type, since it was read
+    /// from one.
     pub(crate) fn given(number: u8, fields: [u64; 7]) -> Answer {
         let [s, x, desk, transaction, edition, from, length] = fields;
         Answer {

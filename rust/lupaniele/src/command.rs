@@ -112,7 +112,8 @@ impl<'a> Draft<'a> {
         }
     }
 
-    /// A command that opens a session (rule 3.4): it relies on one pair, the verifier, and raises what is stored by another.
+    /// A command that opens a session (rule 3.4): it relies on one pair, the verifier, and raises what is stored by
+    /// another.
     ///
     /// ```
     /// use lupaniele::{Command, Mode, Pair, Stamp};
@@ -130,7 +131,8 @@ impl<'a> Draft<'a> {
     }
 }
 
-/// A command to the store, before it is bytes (rules 3.1 to 3.4, 15.6). Whether it is well formed is for the store to say.
+/// A command to the store, before it is bytes (rules 3.1 to 3.4, 15.6). Whether it is well formed is for the store to
+/// say.
 ///
 /// ```
 /// use lupaniele::{Command, Mark, Pair, Stamp, Version};
@@ -247,7 +249,8 @@ impl<'a> Command<'a> {
     ///
     /// # Errors
     ///
-    /// Where the bytes of that version cannot say it: a text of more than 65,535 bytes, or a language that version 1 does not have.
+    /// Where the bytes of that version cannot say it: a text of more than 65,535 bytes, or a language that version 1
+    /// does not have.
     ///
     /// ```
     /// use lupaniele::{BuildError, Command, Pair, Version};
@@ -309,8 +312,8 @@ impl<'a> Command<'a> {
         Ok(())
     }
 
-    /// The command in some bytes. What this reads is what [`to_bytes`](Command::to_bytes) writes, no more and no less; the store may still find
-    /// it malformed, for its stamps or its marks.
+    /// The command in some bytes. What this reads is what [`to_bytes`](Command::to_bytes) writes, no more and no less;
+    /// the store may still find it malformed, for its stamps or its marks.
     ///
     /// # Errors
     ///

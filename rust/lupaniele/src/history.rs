@@ -3,8 +3,8 @@ use crate::{Answer, BuildError, Command, Stream, Version, raw};
 /// The bytes in which a history keeps its commands (rule 14.3).
 const KEPT: usize = 43_168;
 
-/// The history engine (section 14 of the rules): it keeps the commands that it accepts, and answers as a store of version 1 with so many cards and
-/// this room does, until it is full.
+/// The history engine (section 14 of the rules): it keeps the commands that it accepts, and answers as a store of
+/// version 1 with so many cards and this room does, until it is full.
 ///
 /// ```
 /// use lupaniele::{Command, History, Number, Pair, Stamp};

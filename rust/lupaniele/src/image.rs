@@ -9,8 +9,8 @@ use crate::{Answer, Broken, BuildError, Command, Number, Version, raw};
 /// ```
 pub const LARGEST_IMAGE: usize = 65_536;
 
-/// A sound image: the store's cards in bytes (sections 2, 4 and 15 of the rules), owned or lent. It is sound when it is made or checked, and every
-/// request leaves it so.
+/// A sound image: the store's cards in bytes (sections 2, 4 and 15 of the rules), owned or lent. It is sound when it is
+/// made or checked, and every request leaves it so.
 ///
 /// ```
 /// use lupaniele::{Command, Image, Language, Number, Pair, Stamp, Version};
@@ -46,7 +46,8 @@ impl Image {
     /// # Ok::<(), Number>(())
     /// ```
     pub fn make(version: Version, cards: u16, room: u16) -> Result<Image, Number> {
-        // More bytes than any image has are not taken from the system: nothing is lent then, and the answer is the same.
+        // More bytes than any image has are not taken from the system: nothing is lent then, and the answer is the
+        // same.
         let length = version.image_bytes(cards.into(), room.into());
         let length = length.filter(|length| *length <= LARGEST_IMAGE);
         Image::make_in(version, cards, room, vec![0; length.unwrap_or(0)])
@@ -147,7 +148,8 @@ impl<B: AsRef<[u8]>> Image<B> {
     ///
     /// # Errors
     ///
-    /// [`Number::Unsound`] where this is version 2 already, [`Number::NotMade`] where four translations of each card are too many.
+    /// [`Number::Unsound`] where this is version 2 already, [`Number::NotMade`] where four translations of each card
+    /// are too many.
     ///
     /// ```
     /// use lupaniele::{Image, Number, Version};
@@ -239,7 +241,8 @@ impl<B: AsMut<[u8]>> Image<B> {
         Answer::given(number, fields)
     }
 
-    /// A run (rule 8.5): every whole command of a stream in its order, with the image checked once; the answers and the byte where it stopped.
+    /// A run (rule 8.5): every whole command of a stream in its order, with the image checked once; the answers and the
+    /// byte where it stopped.
     ///
     /// ```
     /// use lupaniele::{Command, Image, Pair, Stamp, Version};
@@ -263,8 +266,8 @@ impl<B: AsMut<[u8]>> Image<B> {
         (answers.collect(), end)
     }
 
-    /// The same, into lent lines of eight numbers each, as many commands as there are lines: how many were judged, and the byte where it
-    /// stopped, from which a caller goes on.
+    /// The same, into lent lines of eight numbers each, as many commands as there are lines: how many were judged, and
+    /// the byte where it stopped, from which a caller goes on.
     ///
     /// ```
     /// use lupaniele::{Answer, Image, Number, Version};

@@ -41,8 +41,8 @@ impl Version {
         }
     }
 
-    /// The bytes of an image of so many cards with this room (rules 2.2 and 15.2), whether one can be made or not; no number where
-    /// it is too large to count.
+    /// The bytes of an image of so many cards with this room (rules 2.2 and 15.2), whether one can be made or not; no
+    /// number where it is too large to count.
     ///
     /// ```
     /// use lupaniele::Version;

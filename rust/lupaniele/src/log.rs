@@ -303,8 +303,8 @@ impl<B: AsRef<[u8]>> Log<B> {
         }
     }
 
-    /// A log of the same length that begins again, if nothing of this one is due (rule 11.15): it has no record but the begin of the last transaction that
-    /// began here, so that transactions go on rising.
+    /// A log of the same length that begins again, if nothing of this one is due (rule 11.15): it has no record but the
+    /// begin of the last transaction that began here, so that transactions go on rising.
     ///
     /// ```
     /// use lupaniele::{Log, Record, Side};
@@ -339,7 +339,8 @@ impl<B: AsRef<[u8]>> Log<B> {
         lines <= RECORDS && bytes <= self.bytes().len()
     }
 
-    /// Sends each update that is due through the guard of an image of version 1, each under the exclusive pair given for its card (rules 11.15 to 11.20).
+    /// Sends each update that is due through the guard of an image of version 1, each under the exclusive pair given
+    /// for its card (rules 11.15 to 11.20).
     ///
     /// # Errors
     ///
@@ -375,12 +376,14 @@ impl<B: AsRef<[u8]> + AsMut<[u8]>> Log<B> {
     ///
     /// # Errors
     ///
-    /// [`Number::BadLog`] where the record may not stand next (rules 11.4 and 11.5), [`Number::LogFull`] where there is no room for it.
+    /// [`Number::BadLog`] where the record may not stand next (rules 11.4 and 11.5), [`Number::LogFull`] where there is
+    /// no room for it.
     pub fn append(&mut self, record: &Record) -> Result<(), Number> {
         self.append_cut(record, u64::MAX).done()
     }
 
-    /// Appends a record as far as the first so many stores of one byte go (rules 11.9 to 11.12): for tests of a power cut.
+    /// Appends a record as far as the first so many stores of one byte go (rules 11.9 to 11.12): for tests of a power
+    /// cut.
     ///
     /// ```
     /// use lupaniele::{Log, Number, Record};
@@ -399,13 +402,14 @@ impl<B: AsRef<[u8]> + AsMut<[u8]>> Log<B> {
         ))
     }
 
-    /// Appends a record in three steps, and has each written out before the next: its body, its line, the count (rule 11.10). If the
-    /// power fails in between, what was written out reads back as the log before. `write` puts the bytes at their place in whatever
-    /// keeps the log, and sees to it that they are kept before it returns.
+    /// Appends a record in three steps, and has each written out before the next: its body, its line, the count (rule
+    /// 11.10). If the power fails in between, what was written out reads back as the log before. `write` puts the bytes
+    /// at their place in whatever keeps the log, and sees to it that they are kept before it returns.
     ///
     /// # Errors
     ///
-    /// Why nothing was appended, or, after a fault of the last write, that it is not known: then the log is to be read back.
+    /// Why nothing was appended, or, after a fault of the last write, that it is not known: then the log is to be read
+    /// back.
     ///
     /// ```
     /// use lupaniele::{Log, LogPart, Record};

@@ -1,6 +1,7 @@
-//! The exported functions as safe calls on slices, arrays and plain numbers, one for each, under its name without the prefix. Every one takes
-//! any values. The types of this crate ask these; a program of its own asks them where it keeps bytes and numbers in a shape of its own.
-//! What each answers is said in `include/lupaniele.h`, and by rule in `docs/RULES.md`.
+//! The exported functions as safe calls on slices, arrays and plain numbers, one for each, under its name without the
+//! prefix. Every one takes any values. The types of this crate ask these; a program of its own asks them where it keeps
+//! bytes and numbers in a shape of its own. What each answers is said in `include/lupaniele.h`, and by rule in
+//! `docs/RULES.md`.
 #![allow(unsafe_code)]
 #![allow(clippy::too_many_arguments)] // as many as the exported functions have
 
@@ -20,7 +21,8 @@ pub fn sound(image: &[u8]) -> bool {
     unsafe { sys::lupaniele_sound(image.as_ptr(), image.len()) }
 }
 
-/// One request on an image of version 1 (rule 4.1): the number; the seven fields in `fields`, a text read at the front of `reply`.
+/// One request on an image of version 1 (rule 4.1): the number; the seven fields in `fields`, a text read at the front
+/// of `reply`.
 #[inline]
 #[must_use]
 pub fn answer(image: &mut [u8], command: &[u8], reply: &mut [u8], fields: &mut [u64; 7]) -> u8 {
@@ -82,7 +84,8 @@ pub fn convert(image: &[u8], target: &mut [u8]) -> u8 {
     }
 }
 
-/// Asks for the lock with a mode and a pair (rules 7.6 to 7.10): the number; holds, largest s, largest x and looked at in `fields`.
+/// Asks for the lock with a mode and a pair (rules 7.6 to 7.10): the number; holds, largest s, largest x and looked at
+/// in `fields`.
 #[inline]
 #[must_use]
 pub fn ask(
@@ -150,7 +153,8 @@ pub fn propose(desk: u16, start: u16, known: &mut [u64; 2], mode: u8, pair: &mut
     unsafe { sys::lupaniele_propose(desk, start, known, mode, pair) }
 }
 
-/// The text that a desk shows (rules 6.1 to 6.3): the number, and in `count` how many first bytes of the buffer asked for.
+/// The text that a desk shows (rules 6.1 to 6.3): the number, and in `count` how many first bytes of the buffer asked
+/// for.
 #[inline]
 #[must_use]
 pub fn shown(
@@ -207,7 +211,8 @@ pub fn end_v2(stream: &[u8]) -> u64 {
     unsafe { sys::lupaniele_end_v2(stream.as_ptr(), stream.len()) }
 }
 
-/// A run over a stream of version 1 (rule 8.5): how many commands were judged; eight numbers for each in `lines`, where it stopped in `end`.
+/// A run over a stream of version 1 (rule 8.5): how many commands were judged; eight numbers for each in `lines`, where
+/// it stopped in `end`.
 #[inline]
 #[must_use]
 pub fn run(
@@ -264,7 +269,8 @@ pub fn output(input: &[u8], out: &mut [u8]) -> u64 {
     unsafe { sys::lupaniele_output(input.as_ptr(), input.len(), out.as_mut_ptr(), out.len()) }
 }
 
-/// Whether two structured texts say the same drops (rule 12.9): 0, 18, 19 or 20, and in `place` where they part (rule 12.10).
+/// Whether two structured texts say the same drops (rule 12.9): 0, 18, 19 or 20, and in `place` where they part (rule
+/// 12.10).
 #[inline]
 #[must_use]
 pub fn agree(first: &[u8], second: &[u8], place: &mut u64) -> u8 {

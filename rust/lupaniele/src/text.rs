@@ -190,8 +190,8 @@ impl Text {
         2 + self.steps.iter().map(Step::length).sum::<usize>()
     }
 
-    /// The step that begins at a byte of the text: its path, counted from 1 in each section, and the step. None begins at the end of the text,
-    /// nor within a step.
+    /// The step that begins at a byte of the text: its path, counted from 1 in each section, and the step. None begins
+    /// at the end of the text, nor within a step.
     #[must_use]
     pub fn step_at(&self, place: usize) -> Option<(Vec<usize>, &Step)> {
         let (mut path, mut section, mut at) = (Vec::new(), self, 2);
@@ -310,7 +310,8 @@ pub enum Disagreement {
     SecondIll,
     /// They part.
     Parted {
-        /// The byte of the first text where its first step without a match begins, or just past the section in which the second has a step more.
+        /// The byte of the first text where its first step without a match begins, or just past the section in which
+        /// the second has a step more.
         place: usize,
     },
 }

@@ -1,5 +1,6 @@
-//! Desks over a line that loses, delays and repeats commands, with logs that are cut at any store, going down and starting again: what is accepted
-//! is what a store would show in which a commit is one step, sessions are isolated, and in the end everything is finished.
+//! Desks over a line that loses, delays and repeats commands, with logs that are cut at any store, going down and
+//! starting again: what is accepted is what a store would show in which a commit is one step, sessions are isolated,
+//! and in the end everything is finished.
 
 use std::cell::RefCell;
 use std::collections::{BTreeMap, BTreeSet};
@@ -367,7 +368,8 @@ impl Town {
         })
     }
 
-    /// Puts a sign behind an original: nobody comes between, whether it was read in the same session or in one that is upgraded.
+    /// Puts a sign behind an original: nobody comes between, whether it was read in the same session or in one that is
+    /// upgraded.
     fn edit(&mut self, at: usize, card: u16) -> Result<(), Failed<&'static str>> {
         let (desk, _) = &mut self.desks[at];
         let written = match self.random.one_in(2) {

@@ -1,5 +1,6 @@
-//! A desk with its image and its log in files is killed at random points, again and again: what is read back is whole, nothing that was told of is lost, and
-//! both cards always say the same. `cargo test` kills some times, `make kills` some thousand times.
+//! A desk with its image and its log in files is killed at random points, again and again: what is read back is whole,
+//! nothing that was told of is lost, and both cards always say the same. `cargo test` kills some times, `make kills`
+//! some thousand times.
 
 use std::fs;
 use std::io::{Read, Write};
@@ -134,7 +135,8 @@ fn kill(times: u32, folder: &Path) -> u32 {
     last
 }
 
-/// A folder of its own; in memory where there is such a place, since a killed process loses nothing that it has written, and syncing takes long.
+/// A folder of its own; in memory where there is such a place, since a killed process loses nothing that it has
+/// written, and syncing takes long.
 fn folder(name: &str) -> PathBuf {
     let memory = PathBuf::from("/dev/shm");
     let top = if memory.is_dir() {

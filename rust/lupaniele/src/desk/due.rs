@@ -11,8 +11,8 @@ pub(crate) struct Update<'a> {
     pub(crate) text: &'a [u8],
 }
 
-/// The updates of a log that are due, in its order: those of committed transactions for whose card no synced record names theirs or a
-/// higher one (rule 11.15). Held to the store's own recovery by a test.
+/// The updates of a log that are due, in its order: those of committed transactions for whose card no synced record
+/// names theirs or a higher one (rule 11.15). Held to the store's own recovery by a test.
 pub(crate) fn due<'a, B: AsRef<[u8]>>(log: &'a Log<B>) -> Vec<Update<'a>> {
     let (mut open, mut updates) = (0, Vec::new());
     let mut committed = BTreeSet::new();

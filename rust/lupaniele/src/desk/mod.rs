@@ -1,8 +1,9 @@
-//! A desk that keeps the rules by itself: it knows and proposes (rules 10.1 to 10.9), sends under its own pairs, learns from every answer, shows
-//! what may be shown (section 6), and changes several cards at once by its log.
+//! A desk that keeps the rules by itself: it knows and proposes (rules 10.1 to 10.9), sends under its own pairs, learns
+//! from every answer, shows what may be shown (section 6), and changes several cards at once by its log.
 //!
 //! - [`Desk`]: reads and writes cards; [`Session`]: several commands that nobody else comes between.
-//! - [`Store`], [`Locks`], [`Journal`]: what the caller brings: the way to the store, to the lock managers, and the desk's log.
+//! - [`Store`], [`Locks`], [`Journal`]: what the caller brings: the way to the store, to the lock managers, and the
+//!   desk's log.
 //! - [`Transaction`]: several cards, all or nothing.
 //! - [`Failed`], [`Refusal`], [`NotShown`]: why not, as types.
 
@@ -71,7 +72,8 @@ pub trait Store {
     /// The room of its texts, C.
     fn room(&self) -> u16;
 
-    /// Takes a command to the store and brings its answer back; the text of an accepted read stands in front of `reply` then.
+    /// Takes a command to the store and brings its answer back; the text of an accepted read stands in front of `reply`
+    /// then.
     ///
     /// # Errors
     ///
@@ -141,7 +143,8 @@ impl Locks for [Queue] {
     }
 }
 
-/// A desk's log, wherever it is kept. A [`Log`] is one, in memory; [`LogFile`](crate::files::LogFile) is one that survives a power cut.
+/// A desk's log, wherever it is kept. A [`Log`] is one, in memory; [`LogFile`](crate::files::LogFile) is one that
+/// survives a power cut.
 ///
 /// ```
 /// use lupaniele::desk::Journal;
@@ -274,7 +277,8 @@ impl Desk {
         self.cards.entry(card).or_insert_with(|| Kept::nothing(id))
     }
 
-    /// Sends a command, and learns from its answer whatever it is. The text that was read stands in front of the returned bytes.
+    /// Sends a command, and learns from its answer whatever it is. The text that was read stands in front of the
+    /// returned bytes.
     fn send<S: Store>(
         &mut self,
         store: &mut S,
@@ -292,8 +296,9 @@ impl Desk {
         Ok((answer, reply))
     }
 
-    /// Does some work in a session on a card, and does it again from its beginning, under a new pair, if the session was lost (number 3): so often
-    /// as [`trying`](Desk::trying) says, and then it says so. What an earlier try wrote stands.
+    /// Does some work in a session on a card, and does it again from its beginning, under a new pair, if the session
+    /// was lost (number 3): so often as [`trying`](Desk::trying) says, and then it says so. What an earlier try wrote
+    /// stands.
     ///
     /// # Errors
     ///
@@ -385,8 +390,8 @@ impl Desk {
     ///
     /// # Errors
     ///
-    /// Why not: [`Refusal::Behind`] where the original is no longer that one. It is then to be read and translated again, so this is not
-    /// tried again.
+    /// Why not: [`Refusal::Behind`] where the original is no longer that one. It is then to be read and translated
+    /// again, so this is not tried again.
     pub fn write_translation<S: Store>(
         &mut self,
         store: &mut S,
@@ -403,8 +408,8 @@ impl Desk {
         )
     }
 
-    /// Asks for the lock of a card. What is denied is asked for again with what was learnt (rule 10.10). Sessions in that mode then go under the
-    /// pair that was accepted, until one of them is lost.
+    /// Asks for the lock of a card. What is denied is asked for again with what was learnt (rule 10.10). Sessions in
+    /// that mode then go under the pair that was accepted, until one of them is lost.
     ///
     /// # Errors
     ///

@@ -42,8 +42,8 @@ impl InMode for Exclusive {
     const MODE: Mode = Mode::Exclusive;
 }
 
-/// An original that a store gave or took: its card, its edition, its text. Only answers make one, so a translation never names an edition that
-/// nobody read.
+/// An original that a store gave or took: its card, its edition, its text. Only answers make one, so a translation
+/// never names an edition that nobody read.
 ///
 /// ```
 /// use lupaniele::desk::Desk;
@@ -80,10 +80,11 @@ impl Original {
     }
 }
 
-/// A session of a desk on one card. In a shared one all commands go under one pair, and between two that are accepted nobody else's exclusive
-/// command is (rule 9.6). In an exclusive one each command relies on what the one before it left, so that it is stale if anybody else's was
-/// accepted since; and each write goes under a new pair, so that it is accepted once, however often the transport brings it. A session opens inside its first
-/// command (rule 3.4). [`Desk::session`] makes one.
+/// A session of a desk on one card. In a shared one all commands go under one pair, and between two that are accepted
+/// nobody else's exclusive command is (rule 9.6). In an exclusive one each command relies on what the one before it
+/// left, so that it is stale if anybody else's was accepted since; and each write goes under a new pair, so that it is
+/// accepted once, however often the transport brings it. A session opens inside its first command (rule 3.4).
+/// [`Desk::session`] makes one.
 ///
 /// ```
 /// use lupaniele::desk::{Desk, Session, Shared};
@@ -196,8 +197,8 @@ impl<'a, S: Store, M: InMode> Session<'a, S, M> {
 }
 
 impl<'a, S: Store> Session<'a, S, Shared> {
-    /// An exclusive session, which opens inside its first command and relies there on this one: if somebody else came in between, that command
-    /// is stale.
+    /// An exclusive session, which opens inside its first command and relies there on this one: if somebody else came
+    /// in between, that command is stale.
     ///
     /// # Errors
     ///

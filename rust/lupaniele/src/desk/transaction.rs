@@ -5,9 +5,9 @@ use crate::{Action, AppendError, Command, Language, Log, Mark, Mode, Number, Rec
 use super::due::{due, updated};
 use super::{Desk, Failed, Journal, Original, Refusal, Store};
 
-/// Several cards that are changed at once, all or nothing, whatever is cut (after 003, section 3.4.2): the updates go to the desk's log, the cards get its mark, a commit is
-/// appended, and then the cards are written one by one; who reads one of them meanwhile is turned away by the mark. [`Desk::transaction`] makes
-/// one. Of version 1, as logs are.
+/// Several cards that are changed at once, all or nothing, whatever is cut (after 003, section 3.4.2): the updates go
+/// to the desk's log, the cards get its mark, a commit is appended, and then the cards are written one by one; who
+/// reads one of them meanwhile is turned away by the mark. [`Desk::transaction`] makes one. Of version 1, as logs are.
 ///
 /// ```
 /// use lupaniele::desk::Desk;
@@ -148,9 +148,9 @@ impl Desk {
         })
     }
 
-    /// Finishes what stands in the log: each committed update that is due is written if its card still bears this desk's mark; where it does not,
-    /// the card was finished before and may have been changed since, and is only noted as synced. Cards that a transaction marked which was given
-    /// up are released.
+    /// Finishes what stands in the log: each committed update that is due is written if its card still bears this
+    /// desk's mark; where it does not, the card was finished before and may have been changed since, and is only noted
+    /// as synced. Cards that a transaction marked which was given up are released.
     ///
     /// # Errors
     ///
@@ -189,7 +189,8 @@ impl Desk {
         Ok(recovered)
     }
 
-    /// Finishes one card: looks at it, writes what is due and releases it if it bears the mark, and notes it as synced if something was due.
+    /// Finishes one card: looks at it, writes what is due and releases it if it bears the mark, and notes it as synced
+    /// if something was due.
     fn finish<S: Store, J: Journal>(
         &mut self,
         store: &mut S,
@@ -250,8 +251,8 @@ impl Desk {
         }
     }
 
-    /// A command with a mark, and the mark that the card then bears. It opens a session of its own, and relies on what the guard last showed of the card: so it is accepted at most once,
-    /// and only while nobody else was.
+    /// A command with a mark, and the mark that the card then bears. It opens a session of its own, and relies on what
+    /// the guard last showed of the card: so it is accepted at most once, and only while nobody else was.
     fn order<S: Store>(
         &mut self,
         store: &mut S,
@@ -289,7 +290,8 @@ impl<S: Store, J: Journal> Transaction<'_, S, J> {
         self.number
     }
 
-    /// Reads an original on which the transaction relies: if it is changed by somebody else before the commit, nothing is.
+    /// Reads an original on which the transaction relies: if it is changed by somebody else before the commit, nothing
+    /// is.
     ///
     /// # Errors
     ///
@@ -315,7 +317,8 @@ impl<S: Store, J: Journal> Transaction<'_, S, J> {
         self.update(card, Side::Original, None, text)
     }
 
-    /// It is to write the translation of an original that was read. If that is no longer the original when it commits, it is given up.
+    /// It is to write the translation of an original that was read. If that is no longer the original when it commits,
+    /// it is given up.
     ///
     /// # Errors
     ///
@@ -450,7 +453,8 @@ impl<S: Store, J: Journal> Transaction<'_, S, J> {
         }
     }
 
-    /// Whether what is to be written on a card will be accepted, by its edition, which nobody changes while it bears the mark, and the room.
+    /// Whether what is to be written on a card will be accepted, by its edition, which nobody changes while it bears
+    /// the mark, and the room.
     fn writable(&mut self, card: u16) -> Result<(), Number> {
         let mut edition = self.desk.kept(card).edition;
         for planned in self.updates.iter().filter(|planned| planned.card == card) {

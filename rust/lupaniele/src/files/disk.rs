@@ -1,4 +1,5 @@
-//! What the files of this module are made of: a lock beside a file, a file that is replaced whole, parts that are written in place.
+//! What the files of this module are made of: a lock beside a file, a file that is replaced whole, parts that are
+//! written in place.
 
 use std::ffi::OsString;
 use std::fs::{self, File, OpenOptions, TryLockError};
@@ -35,8 +36,8 @@ impl Lock {
     }
 }
 
-/// Replaces a file, or makes it: the whole of the new bytes or what was there before, whenever the power fails. A new file is written and synced, takes
-/// the name, and the folder is synced.
+/// Replaces a file, or makes it: the whole of the new bytes or what was there before, whenever the power fails. A new
+/// file is written and synced, takes the name, and the folder is synced.
 pub(super) fn replace(path: &Path, bytes: &[u8]) -> Result<(), FileError> {
     let new = beside(path, ".new");
     let written = File::create(&new).and_then(|mut file| {

@@ -6,8 +6,8 @@ use super::disk::{Lock, replace};
 use crate::desk::Store;
 use crate::{Answer, Image, Version};
 
-/// An image in a file, with one writer. Each change is saved whole before it is told of, or not at all. It is a [`Store`] for desks: an answer is
-/// given when the image that it left is saved.
+/// An image in a file, with one writer. Each change is saved whole before it is told of, or not at all. It is a
+/// [`Store`] for desks: an answer is given when the image that it left is saved.
 ///
 /// ```
 /// use lupaniele::desk::Desk;

@@ -8,8 +8,8 @@ use super::disk::{Lock, replace};
 use crate::desk::Journal;
 use crate::{AppendError, Log, LogPart, Record};
 
-/// A desk's log in a file, with one writer. An append returns when its record is kept; if the power fails before, the log reads back with the record or
-/// without it.
+/// A desk's log in a file, with one writer. An append returns when its record is kept; if the power fails before, the
+/// log reads back with the record or without it.
 ///
 /// ```
 /// use lupaniele::files::LogFile;
@@ -180,7 +180,8 @@ mod tests {
     use crate::{Number, Side};
     use second::random::Random;
 
-    /// A disk that keeps, of the bytes written since the last sync, any when the power fails; it fails after so many writes and syncs.
+    /// A disk that keeps, of the bytes written since the last sync, any when the power fails; it fails after so many
+    /// writes and syncs.
     struct Forgetful {
         kept: Vec<u8>,
         written: Vec<(usize, u8)>,

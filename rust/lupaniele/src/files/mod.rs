@@ -1,5 +1,5 @@
-//! Images, logs and start numbers in files: one writer at a time, an image that is saved whole or not at all, an append that survives a cut. What
-//! is promised of them and what is not stands in docs/FILES.md. For systems with Unix files.
+//! Images, logs and start numbers in files: one writer at a time, an image that is saved whole or not at all, an append
+//! that survives a cut. What is promised of them and what is not stands in docs/FILES.md. For systems with Unix files.
 
 mod disk;
 mod image_file;

@@ -4,12 +4,13 @@ use std::path::Path;
 use super::FileError;
 use super::disk::{Lock, replace};
 
-/// The next start number of a desk, from a file that has the last one in decimal; 0 where there is none yet. It is kept before it is given, so that no
-/// start is given twice (rule 10.9).
+/// The next start number of a desk, from a file that has the last one in decimal; 0 where there is none yet. It is kept
+/// before it is given, so that no start is given twice (rule 10.9).
 ///
 /// # Errors
 ///
-/// Where the file is in use or cannot be written, has something else, or where 65,535 was given: the desk then needs another number.
+/// Where the file is in use or cannot be written, has something else, or where 65,535 was given: the desk then needs
+/// another number.
 ///
 /// ```
 /// use lupaniele::files::next_start;
