@@ -72,6 +72,12 @@ impl Answer {
     }
 
     /// The answer in eight numbers, if they are one.
+    ///
+    /// ```
+    /// use lupaniele::{Answer, Number};
+    /// let answer = Answer::from_line([3, 0, 0, 0, 0, 7, 0, 0]).unwrap();
+    /// assert_eq!((answer.number, answer.edition), (Number::Stale, 7));
+    /// ```
     #[must_use]
     pub fn from_line(line: [u64; 8]) -> Option<Answer> {
         let [number, s, x, desk, transaction, edition, from, length] = line;
@@ -86,6 +92,11 @@ impl Answer {
     }
 
     /// Whether the command was accepted.
+    ///
+    /// ```
+    /// use lupaniele::Answer;
+    /// assert!(Answer::from_line([0; 8]).is_some_and(|answer| answer.is_accepted()));
+    /// ```
     #[must_use]
     pub fn is_accepted(&self) -> bool {
         self.number == Number::Accepted

@@ -82,18 +82,37 @@ impl<B: AsRef<[u8]>> Image<B> {
     }
 
     /// Its version.
+    ///
+    /// ```
+    /// use lupaniele::{Image, Version};
+    /// assert_eq!(Image::make(Version::Two, 1, 16)?.version(), Version::Two);
+    /// # Ok::<(), lupaniele::Number>(())
+    /// ```
     #[must_use]
     pub fn version(&self) -> Version {
         self.version
     }
 
     /// Its bytes.
+    ///
+    /// ```
+    /// use lupaniele::{Image, Version};
+    /// assert_eq!(Image::make(Version::One, 1, 16)?.bytes().len(), 80);
+    /// # Ok::<(), lupaniele::Number>(())
+    /// ```
     #[must_use]
     pub fn bytes(&self) -> &[u8] {
         self.bytes.as_ref()
     }
 
     /// Its bytes, as they were lent.
+    ///
+    /// ```
+    /// use lupaniele::{Image, Version};
+    /// let bytes = Image::make(Version::One, 1, 16)?.into_bytes();
+    /// assert!(Image::check(bytes).is_ok());
+    /// # Ok::<(), lupaniele::Number>(())
+    /// ```
     #[must_use]
     pub fn into_bytes(self) -> B {
         self.bytes
@@ -113,6 +132,12 @@ impl<B: AsRef<[u8]>> Image<B> {
     }
 
     /// The room of each text, C.
+    ///
+    /// ```
+    /// use lupaniele::{Image, Version};
+    /// assert_eq!(Image::make(Version::One, 1, 16)?.room(), 16);
+    /// # Ok::<(), lupaniele::Number>(())
+    /// ```
     #[must_use]
     pub fn room(&self) -> u16 {
         u16_at(self.bytes(), 8)
@@ -219,6 +244,14 @@ impl<B: AsMut<[u8]>> Image<B> {
     /// # Errors
     ///
     /// Where the command has no bytes in this version. A refusal is an answer, not an error.
+    ///
+    /// ```
+    /// use lupaniele::{Command, Image, Pair, Stamp, Version};
+    /// let mut image = Image::make(Version::One, 1, 16)?;
+    /// let command = Command::verify(0).shared(Pair::new(Stamp::new(1, 1, 0), Stamp::NONE));
+    /// assert!(image.answer(&command, &mut [])?.is_accepted());
+    /// # Ok::<(), Box<dyn std::error::Error>>(())
+    /// ```
     pub fn answer(&mut self, command: &Command, reply: &mut [u8]) -> Result<Answer, BuildError> {
         let bytes = command.to_bytes(self.version)?;
         Ok(self.answer_bytes(&bytes, reply))

@@ -41,12 +41,21 @@ pub enum Side {
 
 impl Side {
     /// Its number.
+    ///
+    /// ```
+    /// assert_eq!(lupaniele::Side::Translation.number(), 2);
+    /// ```
     #[must_use]
     pub const fn number(self) -> u8 {
         self as u8
     }
 
     /// The side with this number.
+    ///
+    /// ```
+    /// use lupaniele::Side;
+    /// assert_eq!((Side::from_number(1), Side::from_number(3)), (Some(Side::Original), None));
+    /// ```
     #[must_use]
     pub const fn from_number(number: u8) -> Option<Side> {
         match number {
@@ -91,6 +100,11 @@ pub enum Record<'a> {
 
 impl<'a> Record<'a> {
     /// The number of its kind.
+    ///
+    /// ```
+    /// use lupaniele::Record;
+    /// assert_eq!(Record::Commit(7).kind(), 3);
+    /// ```
     #[must_use]
     pub const fn kind(&self) -> u8 {
         match self {
@@ -102,6 +116,11 @@ impl<'a> Record<'a> {
     }
 
     /// Its body, in bytes.
+    ///
+    /// ```
+    /// use lupaniele::Record;
+    /// assert_eq!(Record::Synced { card: 1, transaction: 7 }.body(), [1, 0, 7, 0, 0, 0]);
+    /// ```
     #[must_use]
     pub fn body(&self) -> Vec<u8> {
         match self {
@@ -226,12 +245,24 @@ impl<B: AsRef<[u8]>> Log<B> {
     }
 
     /// Its bytes.
+    ///
+    /// ```
+    /// assert_eq!(lupaniele::Log::empty(4_096)?.bytes(), [0; 4_096]);
+    /// # Ok::<(), lupaniele::Number>(())
+    /// ```
     #[must_use]
     pub fn bytes(&self) -> &[u8] {
         self.bytes.as_ref()
     }
 
     /// Its bytes, as they were lent.
+    ///
+    /// ```
+    /// use lupaniele::Log;
+    /// let bytes = Log::empty(4_096)?.into_bytes();
+    /// assert!(Log::check(bytes).is_ok());
+    /// # Ok::<(), lupaniele::Number>(())
+    /// ```
     #[must_use]
     pub fn into_bytes(self) -> B {
         self.bytes
@@ -378,6 +409,13 @@ impl<B: AsRef<[u8]> + AsMut<[u8]>> Log<B> {
     ///
     /// [`Number::BadLog`] where the record may not stand next (rules 11.4 and 11.5), [`Number::LogFull`] where there is
     /// no room for it.
+    ///
+    /// ```
+    /// use lupaniele::{LOG_TABLE, Log, Number, Record};
+    /// let mut log = Log::empty(LOG_TABLE)?; // no room for a body
+    /// assert_eq!(log.append(&Record::Begin(1)), Err(Number::LogFull));
+    /// # Ok::<(), Number>(())
+    /// ```
     pub fn append(&mut self, record: &Record) -> Result<(), Number> {
         self.append_cut(record, u64::MAX).done()
     }

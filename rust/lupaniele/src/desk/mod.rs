@@ -214,6 +214,12 @@ pub struct Desk {
 impl Desk {
     /// A desk starts, and knows nothing. Its start is one that this desk never had before (rule 10.9), as
     /// [`files::next_start`](crate::files::next_start) gives them.
+    ///
+    /// ```
+    /// use lupaniele::desk::Desk;
+    /// use lupaniele::{DeskId, Pair};
+    /// assert_eq!(Desk::start(DeskId::new(1, 0)).known(0), Pair::NONE);
+    /// ```
     #[must_use]
     pub fn start(id: DeskId) -> Desk {
         Desk {
@@ -239,6 +245,12 @@ impl Desk {
     }
 
     /// Who it is.
+    ///
+    /// ```
+    /// use lupaniele::DeskId;
+    /// use lupaniele::desk::Desk;
+    /// assert_eq!(Desk::start(DeskId::new(1, 4)).id(), DeskId::new(1, 4));
+    /// ```
     #[must_use]
     pub fn id(&self) -> DeskId {
         self.id
@@ -344,6 +356,15 @@ impl Desk {
     /// # Errors
     ///
     /// Why not.
+    ///
+    /// ```
+    /// use lupaniele::desk::Desk;
+    /// use lupaniele::{DeskId, Image, Version};
+    /// let mut store = Image::make(Version::One, 1, 16)?;
+    /// let mut desk = Desk::start(DeskId::new(1, 0));
+    /// assert_eq!(desk.read_original(&mut store, 0).unwrap().text(), b"");
+    /// # Ok::<(), lupaniele::Number>(())
+    /// ```
     pub fn read_original<S: Store>(
         &mut self,
         store: &mut S,
@@ -359,6 +380,16 @@ impl Desk {
     /// # Errors
     ///
     /// Why not: [`Refusal::Behind`] where it is behind.
+    ///
+    /// ```
+    /// use lupaniele::desk::{Desk, Failed, Refusal};
+    /// use lupaniele::{DeskId, Image, Language, Version};
+    /// let mut store = Image::make(Version::One, 1, 16)?;
+    /// let mut desk = Desk::start(DeskId::new(1, 0));
+    /// let behind = Refusal::Behind { edition: 0, translated_from: 0 };
+    /// assert_eq!(desk.read_translation(&mut store, 0, Language::First), Err(Failed::Refused(behind)));
+    /// # Ok::<(), lupaniele::Number>(())
+    /// ```
     pub fn read_translation<S: Store>(
         &mut self,
         store: &mut S,
@@ -375,6 +406,15 @@ impl Desk {
     /// # Errors
     ///
     /// Why not.
+    ///
+    /// ```
+    /// use lupaniele::desk::Desk;
+    /// use lupaniele::{DeskId, Image, Version};
+    /// let mut store = Image::make(Version::One, 1, 16)?;
+    /// let mut desk = Desk::start(DeskId::new(1, 0));
+    /// assert_eq!(desk.write_original(&mut store, 0, b"205").unwrap().edition(), 1);
+    /// # Ok::<(), lupaniele::Number>(())
+    /// ```
     pub fn write_original<S: Store>(
         &mut self,
         store: &mut S,
@@ -392,6 +432,16 @@ impl Desk {
     ///
     /// Why not: [`Refusal::Behind`] where the original is no longer that one. It is then to be read and translated
     /// again, so this is not tried again.
+    ///
+    /// ```
+    /// use lupaniele::desk::Desk;
+    /// use lupaniele::{DeskId, Image, Language, Version};
+    /// let mut store = Image::make(Version::One, 1, 16)?;
+    /// let mut desk = Desk::start(DeskId::new(1, 0));
+    /// let original = desk.write_original(&mut store, 0, b"205").unwrap();
+    /// assert_eq!(desk.write_translation(&mut store, &original, Language::First, b"401"), Ok(()));
+    /// # Ok::<(), lupaniele::Number>(())
+    /// ```
     pub fn write_translation<S: Store>(
         &mut self,
         store: &mut S,
@@ -414,6 +464,14 @@ impl Desk {
     /// # Errors
     ///
     /// Where no answer came back, or the desk has no pair to propose. Any number of the queue is an answer.
+    ///
+    /// ```
+    /// use lupaniele::desk::Desk;
+    /// use lupaniele::{DeskId, Mode, Queue};
+    /// let (mut queues, mut desk) = ([Queue::new(4)?], Desk::start(DeskId::new(1, 0)));
+    /// assert!(desk.ask(&mut queues[..], 0, Mode::Shared).is_ok_and(|answer| answer.holds));
+    /// # Ok::<(), lupaniele::Number>(())
+    /// ```
     pub fn ask<L: Locks + ?Sized>(
         &mut self,
         locks: &mut L,
@@ -441,6 +499,15 @@ impl Desk {
     /// # Errors
     ///
     /// Where no answer came back.
+    ///
+    /// ```
+    /// use lupaniele::desk::Desk;
+    /// use lupaniele::{DeskId, Number, Queue};
+    /// let (mut queues, mut desk) = ([Queue::new(4)?], Desk::start(DeskId::new(1, 0)));
+    /// let answer = desk.leave(&mut queues[..], 0).unwrap();
+    /// assert_eq!(answer.number, Number::NotStanding);
+    /// # Ok::<(), Number>(())
+    /// ```
     pub fn leave<L: Locks + ?Sized>(
         &mut self,
         locks: &mut L,

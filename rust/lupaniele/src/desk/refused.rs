@@ -88,6 +88,13 @@ impl Refusal {
 
 impl<E> Failed<E> {
     /// The number of the answer that said no, if one did.
+    ///
+    /// ```
+    /// use lupaniele::Number;
+    /// use lupaniele::desk::Failed;
+    /// assert_eq!(Failed::<()>::NoPair(Number::NoStampLeft).number(), Some(Number::NoStampLeft));
+    /// assert_eq!(Failed::Transport(()).number(), None);
+    /// ```
     #[must_use]
     pub fn number(&self) -> Option<Number> {
         match self {

@@ -62,18 +62,45 @@ pub struct Original {
 
 impl Original {
     /// The card that it is of.
+    ///
+    /// ```
+    /// use lupaniele::desk::Desk;
+    /// use lupaniele::{DeskId, Image, Version};
+    /// let mut store = Image::make(Version::One, 1, 16)?;
+    /// let mut desk = Desk::start(DeskId::new(1, 0));
+    /// assert_eq!(desk.read_original(&mut store, 0).unwrap().card(), 0);
+    /// # Ok::<(), lupaniele::Number>(())
+    /// ```
     #[must_use]
     pub fn card(&self) -> u16 {
         self.card
     }
 
     /// Its edition.
+    ///
+    /// ```
+    /// use lupaniele::desk::Desk;
+    /// use lupaniele::{DeskId, Image, Version};
+    /// let mut store = Image::make(Version::One, 1, 16)?;
+    /// let mut desk = Desk::start(DeskId::new(1, 0));
+    /// assert_eq!(desk.write_original(&mut store, 0, b"205").unwrap().edition(), 1);
+    /// # Ok::<(), lupaniele::Number>(())
+    /// ```
     #[must_use]
     pub fn edition(&self) -> u16 {
         self.edition
     }
 
     /// Its text.
+    ///
+    /// ```
+    /// use lupaniele::desk::Desk;
+    /// use lupaniele::{DeskId, Image, Version};
+    /// let mut store = Image::make(Version::One, 1, 16)?;
+    /// let mut desk = Desk::start(DeskId::new(1, 0));
+    /// assert_eq!(desk.write_original(&mut store, 0, b"205").unwrap().text(), b"205");
+    /// # Ok::<(), lupaniele::Number>(())
+    /// ```
     #[must_use]
     pub fn text(&self) -> &[u8] {
         &self.text
@@ -139,6 +166,16 @@ impl<'a, S: Store, M: InMode> Session<'a, S, M> {
     }
 
     /// The pair that its next command goes under, if that is no write.
+    ///
+    /// ```
+    /// use lupaniele::desk::{Desk, Exclusive, Session};
+    /// use lupaniele::{DeskId, Image, Version};
+    /// let mut store = Image::make(Version::One, 1, 16)?;
+    /// let mut desk = Desk::start(DeskId::new(1, 0));
+    /// let pair = desk.session(&mut store, 0, |session: Session<_, Exclusive>| Ok(session.pair())).unwrap();
+    /// assert_eq!(pair.x.desk_id(), desk.id());
+    /// # Ok::<(), lupaniele::Number>(())
+    /// ```
     #[must_use]
     pub fn pair(&self) -> Pair {
         self.pair
@@ -167,6 +204,16 @@ impl<'a, S: Store, M: InMode> Session<'a, S, M> {
     /// # Errors
     ///
     /// Why not.
+    ///
+    /// ```
+    /// use lupaniele::desk::{Desk, Session, Shared};
+    /// use lupaniele::{DeskId, Image, Version};
+    /// let mut store = Image::make(Version::One, 1, 16)?;
+    /// let mut desk = Desk::start(DeskId::new(1, 0));
+    /// let answer = desk.session(&mut store, 0, |mut session: Session<_, Shared>| session.verify());
+    /// assert!(answer.unwrap().is_accepted());
+    /// # Ok::<(), lupaniele::Number>(())
+    /// ```
     pub fn verify(&mut self) -> Result<Answer, Failed<S::Error>> {
         self.send(Action::Verify).map(|(answer, _)| answer)
     }
@@ -176,6 +223,16 @@ impl<'a, S: Store, M: InMode> Session<'a, S, M> {
     /// # Errors
     ///
     /// Why not.
+    ///
+    /// ```
+    /// use lupaniele::desk::{Desk, Session, Shared};
+    /// use lupaniele::{DeskId, Image, Version};
+    /// let mut store = Image::make(Version::One, 1, 16)?;
+    /// let mut desk = Desk::start(DeskId::new(1, 0));
+    /// let read = desk.session(&mut store, 0, |mut session: Session<_, Shared>| session.read_original());
+    /// assert_eq!(read.unwrap().text(), b"");
+    /// # Ok::<(), lupaniele::Number>(())
+    /// ```
     pub fn read_original(&mut self) -> Result<Original, Failed<S::Error>> {
         let (answer, text) = self.send(Action::ReadOriginal)?;
         Ok(Original {
@@ -190,6 +247,18 @@ impl<'a, S: Store, M: InMode> Session<'a, S, M> {
     /// # Errors
     ///
     /// Why not.
+    ///
+    /// ```
+    /// use lupaniele::desk::{Desk, Session, Shared};
+    /// use lupaniele::{DeskId, Image, Language, Version};
+    /// let mut store = Image::make(Version::One, 1, 16)?;
+    /// let mut desk = Desk::start(DeskId::new(1, 0));
+    /// let read = desk.session(&mut store, 0, |mut session: Session<_, Shared>| {
+    ///     session.read_translation(Language::First)
+    /// });
+    /// assert!(read.is_err()); // there is none yet
+    /// # Ok::<(), lupaniele::Number>(())
+    /// ```
     pub fn read_translation(&mut self, language: Language) -> Result<Vec<u8>, Failed<S::Error>> {
         self.send(Action::ReadTranslation(language))
             .map(|(_, text)| text)
@@ -203,6 +272,19 @@ impl<'a, S: Store> Session<'a, S, Shared> {
     /// # Errors
     ///
     /// Where the desk has no pair to propose.
+    ///
+    /// ```
+    /// use lupaniele::desk::{Desk, Session, Shared};
+    /// use lupaniele::{DeskId, Image, Version};
+    /// let mut store = Image::make(Version::One, 1, 16)?;
+    /// let mut desk = Desk::start(DeskId::new(1, 0));
+    /// let written = desk.session(&mut store, 0, |mut session: Session<_, Shared>| {
+    ///     let text = session.read_original()?.text().repeat(2);
+    ///     session.upgrade()?.write_original(&text)
+    /// });
+    /// assert!(written.is_ok());
+    /// # Ok::<(), lupaniele::Number>(())
+    /// ```
     pub fn upgrade(self) -> Result<Session<'a, S, Exclusive>, Failed<S::Error>> {
         let kept = self.desk.kept(self.card);
         let pair = kept.propose(Mode::Exclusive)?;
@@ -233,6 +315,19 @@ impl<S: Store> Session<'_, S, Exclusive> {
     /// # Errors
     ///
     /// Why not.
+    ///
+    /// ```
+    /// use lupaniele::desk::{Desk, Exclusive, Session};
+    /// use lupaniele::{DeskId, Image, Version};
+    /// let mut store = Image::make(Version::One, 1, 16)?;
+    /// let mut desk = Desk::start(DeskId::new(1, 0));
+    /// let written = desk.session(&mut store, 0, |mut session: Session<_, Exclusive>| {
+    ///     session.write_original(b"200")?;
+    ///     session.write_original(b"205")
+    /// });
+    /// assert_eq!(written.unwrap().edition(), 2);
+    /// # Ok::<(), lupaniele::Number>(())
+    /// ```
     pub fn write_original(&mut self, text: &[u8]) -> Result<Original, Failed<S::Error>> {
         let answer = self.write(Action::WriteOriginal(text))?;
         Ok(Original {
@@ -247,6 +342,19 @@ impl<S: Store> Session<'_, S, Exclusive> {
     /// # Errors
     ///
     /// Why not.
+    ///
+    /// ```
+    /// use lupaniele::desk::{Desk, Exclusive, Session};
+    /// use lupaniele::{DeskId, Image, Language, Version};
+    /// let mut store = Image::make(Version::One, 1, 16)?;
+    /// let mut desk = Desk::start(DeskId::new(1, 0));
+    /// let written = desk.session(&mut store, 0, |mut session: Session<_, Exclusive>| {
+    ///     let original = session.write_original(b"205")?;
+    ///     session.write_translation(&original, Language::First, b"401")
+    /// });
+    /// assert_eq!(written, Ok(()));
+    /// # Ok::<(), lupaniele::Number>(())
+    /// ```
     pub fn write_translation(
         &mut self,
         original: &Original,

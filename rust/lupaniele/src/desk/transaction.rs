@@ -121,6 +121,16 @@ impl Desk {
     /// # Errors
     ///
     /// Where the log cannot take it, or an earlier transaction is not written out: recover first.
+    ///
+    /// ```
+    /// use lupaniele::desk::Desk;
+    /// use lupaniele::{DeskId, Image, Log, Version};
+    /// let (mut store, mut log) = (Image::make(Version::One, 1, 16)?, Log::empty(4_096)?);
+    /// let mut desk = Desk::start(DeskId::new(1, 0));
+    /// let transaction = desk.transaction(&mut store, &mut log).unwrap();
+    /// assert_eq!(transaction.number(), 1);
+    /// # Ok::<(), lupaniele::Number>(())
+    /// ```
     pub fn transaction<'a, S: Store, J: Journal>(
         &'a mut self,
         store: &'a mut S,
@@ -285,6 +295,16 @@ impl Desk {
 
 impl<S: Store, J: Journal> Transaction<'_, S, J> {
     /// Its number.
+    ///
+    /// ```
+    /// use lupaniele::desk::Desk;
+    /// use lupaniele::{DeskId, Image, Log, Version};
+    /// let (mut store, mut log) = (Image::make(Version::One, 1, 16)?, Log::empty(4_096)?);
+    /// let mut desk = Desk::start(DeskId::new(1, 0));
+    /// assert_eq!(desk.transaction(&mut store, &mut log).unwrap().number(), 1);
+    /// assert_eq!(desk.transaction(&mut store, &mut log).unwrap().number(), 2);
+    /// # Ok::<(), lupaniele::Number>(())
+    /// ```
     #[must_use]
     pub fn number(&self) -> u32 {
         self.number
@@ -296,6 +316,18 @@ impl<S: Store, J: Journal> Transaction<'_, S, J> {
     /// # Errors
     ///
     /// Why not; the transaction can still go on.
+    ///
+    /// ```
+    /// use lupaniele::desk::Desk;
+    /// use lupaniele::{DeskId, Image, Log, Version};
+    /// let (mut store, mut log) = (Image::make(Version::One, 1, 16)?, Log::empty(4_096)?);
+    /// let mut desk = Desk::start(DeskId::new(1, 0));
+    /// let mut transaction = desk.transaction(&mut store, &mut log).unwrap();
+    /// let original = transaction.read_original(0).unwrap();
+    /// transaction.write_original(0, &original.text().repeat(2)).unwrap();
+    /// assert_eq!(transaction.commit(), Ok(()));
+    /// # Ok::<(), lupaniele::Number>(())
+    /// ```
     pub fn read_original(&mut self, card: u16) -> Result<Original, Failed<S::Error>> {
         let original = self.desk.read_original(self.store, card)?;
         self.rely_on(card);
@@ -313,6 +345,17 @@ impl<S: Store, J: Journal> Transaction<'_, S, J> {
     /// # Errors
     ///
     /// Where the log does not take it.
+    ///
+    /// ```
+    /// use lupaniele::desk::Desk;
+    /// use lupaniele::{DeskId, Image, Log, Version};
+    /// let (mut store, mut log) = (Image::make(Version::One, 1, 16)?, Log::empty(4_096)?);
+    /// let mut desk = Desk::start(DeskId::new(1, 0));
+    /// let mut transaction = desk.transaction(&mut store, &mut log).unwrap();
+    /// transaction.write_original(0, b"205").unwrap();
+    /// assert_eq!(transaction.commit(), Ok(()));
+    /// # Ok::<(), lupaniele::Number>(())
+    /// ```
     pub fn write_original(&mut self, card: u16, text: &[u8]) -> Result<(), AppendError<J::Error>> {
         self.update(card, Side::Original, None, text)
     }
@@ -323,6 +366,18 @@ impl<S: Store, J: Journal> Transaction<'_, S, J> {
     /// # Errors
     ///
     /// Where the log does not take it.
+    ///
+    /// ```
+    /// use lupaniele::desk::Desk;
+    /// use lupaniele::{DeskId, Image, Log, Version};
+    /// let (mut store, mut log) = (Image::make(Version::One, 1, 16)?, Log::empty(4_096)?);
+    /// let mut desk = Desk::start(DeskId::new(1, 0));
+    /// let original = desk.write_original(&mut store, 0, b"205").unwrap();
+    /// let mut transaction = desk.transaction(&mut store, &mut log).unwrap();
+    /// transaction.write_translation(&original, b"401").unwrap();
+    /// assert_eq!(transaction.commit(), Ok(()));
+    /// # Ok::<(), lupaniele::Number>(())
+    /// ```
     pub fn write_translation(
         &mut self,
         original: &Original,
@@ -337,6 +392,17 @@ impl<S: Store, J: Journal> Transaction<'_, S, J> {
     /// # Errors
     ///
     /// Where the log does not take them.
+    ///
+    /// ```
+    /// use lupaniele::desk::Desk;
+    /// use lupaniele::{DeskId, Image, Log, Version};
+    /// let (mut store, mut log) = (Image::make(Version::One, 1, 16)?, Log::empty(4_096)?);
+    /// let mut desk = Desk::start(DeskId::new(1, 0));
+    /// let mut transaction = desk.transaction(&mut store, &mut log).unwrap();
+    /// transaction.write_both(0, b"205", b"401").unwrap();
+    /// assert_eq!(transaction.commit(), Ok(()));
+    /// # Ok::<(), lupaniele::Number>(())
+    /// ```
     pub fn write_both(
         &mut self,
         card: u16,

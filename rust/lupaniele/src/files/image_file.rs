@@ -41,6 +41,19 @@ impl ImageFile {
     /// # Errors
     ///
     /// Where there is such a file already, or it cannot be made.
+    ///
+    /// ```
+    /// use lupaniele::files::{FileError, ImageFile};
+    /// use lupaniele::{Image, Version};
+    /// # let folder = std::env::temp_dir().join(format!("lupaniele-created-{}", std::process::id()));
+    /// # std::fs::create_dir_all(&folder)?;
+    /// let path = folder.join("cards");
+    /// let fresh = Image::make(Version::One, 1, 16)?;
+    /// drop(ImageFile::create(&path, fresh.clone())?);
+    /// assert!(matches!(ImageFile::create(&path, fresh), Err(FileError::Exists)));
+    /// # std::fs::remove_dir_all(&folder)?;
+    /// # Ok::<(), Box<dyn std::error::Error>>(())
+    /// ```
     pub fn create(path: impl AsRef<Path>, image: Image) -> Result<ImageFile, FileError> {
         let path = path.as_ref().to_path_buf();
         let lock = Lock::on(&path)?;
@@ -61,6 +74,17 @@ impl ImageFile {
     /// # Errors
     ///
     /// Where it is in use, cannot be read, or has no sound image.
+    ///
+    /// ```
+    /// use lupaniele::files::{FileError, ImageFile};
+    /// # let folder = std::env::temp_dir().join(format!("lupaniele-opened-{}", std::process::id()));
+    /// # std::fs::create_dir_all(&folder)?;
+    /// let path = folder.join("cards");
+    /// std::fs::write(&path, "no image")?;
+    /// assert!(matches!(ImageFile::open(&path), Err(FileError::Image(_))));
+    /// # std::fs::remove_dir_all(&folder)?;
+    /// # Ok::<(), Box<dyn std::error::Error>>(())
+    /// ```
     pub fn open(path: impl AsRef<Path>) -> Result<ImageFile, FileError> {
         let path = path.as_ref().to_path_buf();
         let lock = Lock::on(&path)?;
@@ -75,6 +99,17 @@ impl ImageFile {
     }
 
     /// The image as it was last saved.
+    ///
+    /// ```
+    /// use lupaniele::files::ImageFile;
+    /// use lupaniele::{Image, Version};
+    /// # let folder = std::env::temp_dir().join(format!("lupaniele-its-image-{}", std::process::id()));
+    /// # std::fs::create_dir_all(&folder)?;
+    /// let file = ImageFile::create(folder.join("cards"), Image::make(Version::One, 7, 16)?)?;
+    /// assert_eq!(file.image().count(), 7);
+    /// # std::fs::remove_dir_all(&folder)?;
+    /// # Ok::<(), Box<dyn std::error::Error>>(())
+    /// ```
     #[must_use]
     pub fn image(&self) -> &Image {
         &self.image

@@ -71,6 +71,16 @@ impl LogFile {
     /// # Errors
     ///
     /// Where there is such a file already, it cannot be made, or no log has so many bytes.
+    ///
+    /// ```
+    /// use lupaniele::files::{FileError, LogFile};
+    /// # let folder = std::env::temp_dir().join(format!("lupaniele-log-created-{}", std::process::id()));
+    /// # std::fs::create_dir_all(&folder)?;
+    /// let short = LogFile::create(folder.join("log"), 7);
+    /// assert!(matches!(short, Err(FileError::Log(_))));
+    /// # std::fs::remove_dir_all(&folder)?;
+    /// # Ok::<(), Box<dyn std::error::Error>>(())
+    /// ```
     pub fn create(path: impl AsRef<Path>, length: usize) -> Result<LogFile, FileError> {
         let path = path.as_ref();
         let log = Log::empty(length).map_err(FileError::Log)?;
@@ -87,6 +97,15 @@ impl LogFile {
     /// # Errors
     ///
     /// Where it is in use, cannot be read, or has no good log.
+    ///
+    /// ```
+    /// use lupaniele::files::{FileError, LogFile};
+    /// # let folder = std::env::temp_dir().join(format!("lupaniele-log-opened-{}", std::process::id()));
+    /// # std::fs::create_dir_all(&folder)?;
+    /// assert!(matches!(LogFile::open(folder.join("log")), Err(FileError::Unreadable(_))));
+    /// # std::fs::remove_dir_all(&folder)?;
+    /// # Ok::<(), Box<dyn std::error::Error>>(())
+    /// ```
     pub fn open(path: impl AsRef<Path>) -> Result<LogFile, FileError> {
         let lock = Lock::on(path.as_ref())?;
         LogFile::under(lock, path.as_ref())
@@ -106,6 +125,16 @@ impl LogFile {
     }
 
     /// The log as it was last kept.
+    ///
+    /// ```
+    /// use lupaniele::files::LogFile;
+    /// # let folder = std::env::temp_dir().join(format!("lupaniele-its-log-{}", std::process::id()));
+    /// # std::fs::create_dir_all(&folder)?;
+    /// let file = LogFile::create(folder.join("log"), 4_096)?;
+    /// assert_eq!(file.log().count(), 0);
+    /// # std::fs::remove_dir_all(&folder)?;
+    /// # Ok::<(), Box<dyn std::error::Error>>(())
+    /// ```
     #[must_use]
     pub fn log(&self) -> &Log {
         &self.log
@@ -145,6 +174,18 @@ impl LogFile {
     /// # Errors
     ///
     /// Where it was not appended; after a fault of the file every further append says so, until it is opened again.
+    ///
+    /// ```
+    /// use lupaniele::files::LogFile;
+    /// use lupaniele::{AppendError, Number, Record};
+    /// # let folder = std::env::temp_dir().join(format!("lupaniele-log-append-{}", std::process::id()));
+    /// # std::fs::create_dir_all(&folder)?;
+    /// let mut file = LogFile::create(folder.join("log"), 4_096)?;
+    /// let refused = file.append(&Record::Commit(1)); // nothing is open
+    /// assert!(matches!(refused, Err(AppendError::Refused(Number::BadLog))));
+    /// # std::fs::remove_dir_all(&folder)?;
+    /// # Ok::<(), Box<dyn std::error::Error>>(())
+    /// ```
     pub fn append(&mut self, record: &Record) -> Result<(), AppendError<FileError>> {
         if self.unknown {
             return Err(AppendError::NotAppended(FileError::OpenAgain));
