@@ -100,6 +100,22 @@ static void sessions(bool second, uint8_t language) {
     sent("an older mark expected", second, &command);
     command = lupaniele_expecting(command, lupaniele_mark_of(DESK, MANY));
     sent("the mark expected", second, &command);
+    command = lupaniele_exclusive(lupaniele_read_translation(CARD, language), two);
+    command = lupaniele_expecting(command, lupaniele_mark_of(OTHER, MANY + 1));
+    sent("a read, which leaves no mark", second, &command);
+}
+
+/* A write in buffers that are just long enough, and one byte too short, in both versions. */
+static void room(size_t length) {
+    struct lupaniele_command write = lupaniele_write_original(CARD, text, length);
+    size_t size = LUPANIELE_COMMAND_SIZE + length, size_v2 = LUPANIELE_COMMAND_SIZE_V2 + length;
+    bytes[0] = 0;
+    printf("a text of %u bytes, one byte too short: %u", (unsigned)length,
+           (unsigned)lupaniele_command_bytes(&write, bytes, size - 1));
+    printf(", %u, %s; ", (unsigned)lupaniele_command_bytes_v2(&write, bytes, size_v2 - 1),
+           bytes[0] == 0 ? "none written" : "WRITTEN");
+    printf("just long enough: %u", (unsigned)lupaniele_command_bytes(&write, bytes, size));
+    printf(", %u\n", (unsigned)lupaniele_command_bytes_v2(&write, bytes, size_v2));
 }
 
 /* Bodies of records in buffers that are just long enough, and one byte too short. */
@@ -122,6 +138,19 @@ static void bodies(void) {
 static void header(const char *what, const uint8_t *store, size_t length) {
     printf("%s: version %u, %u cards, room %u\n", what, lupaniele_image_version(store, length),
            lupaniele_image_cards(store, length), lupaniele_image_room(store, length));
+}
+
+/* Which cards and languages an image has. */
+static void cards(const char *what, const uint8_t *store, size_t length) {
+    struct lupaniele_card card;
+    unsigned last = 0, languages = 0;
+    while (lupaniele_card_at(store, length, (uint16_t)last, LUPANIELE_FIRST_LANGUAGE, &card)) {
+        last++;
+    }
+    while (lupaniele_card_at(store, length, 0, (uint8_t)languages, &card)) {
+        languages++;
+    }
+    printf("%s: %u cards, %u languages\n", what, last, languages);
 }
 
 /* A desk learns each stamp by itself, and keeps what it knows where it has no proposal. */
@@ -173,7 +202,6 @@ static void texts(void) {
 }
 
 int main(void) {
-    struct lupaniele_command write = lupaniele_write_original(CARD, text, LONG);
     size_t i;
     for (i = 0; i < sizeof text; i++) {
         text[i] = (uint8_t)(i % 251 + 1);
@@ -186,12 +214,8 @@ int main(void) {
     sizes("the longest text", MOST, LUPANIELE_FIRST_LANGUAGE);
     sizes("one byte more", MOST + 1, LUPANIELE_FIRST_LANGUAGE);
     sizes("a second language", 0, LUPANIELE_SECOND_LANGUAGE);
-    memset(bytes, 0, sizeof bytes);
-    i = lupaniele_command_bytes(&write, bytes, LUPANIELE_COMMAND_SIZE + LONG - 1);
-    printf("a buffer one byte too short for %u: %u, %s\n", (unsigned)lupaniele_command_size(&write), (unsigned)i,
-           bytes[0] == 0 ? "none written" : "WRITTEN");
-    i = lupaniele_command_bytes(&write, bytes, LUPANIELE_COMMAND_SIZE + LONG);
-    printf("a buffer just long enough: %u\n", (unsigned)i);
+    room(LONG);
+    room(MOST + 1);
     bodies();
     written("nothing", 0);
     written("1 byte", 1);
@@ -206,7 +230,11 @@ int main(void) {
     }
     header("an image", image, sizeof image);
     header("an image of version 2", larger, sizeof larger);
+    header("a header alone", image, LUPANIELE_IMAGE_HEADER);
     header("a header cut short", image, LUPANIELE_IMAGE_HEADER - 1);
+    cards("the image", image, sizeof image);
+    cards("the image of version 2", larger, sizeof larger);
+    cards("the image, a byte short", image, sizeof image - 1);
     known();
     texts();
     return 0;

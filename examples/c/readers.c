@@ -68,7 +68,8 @@ static void steps(const char *what, size_t length) {
     }
 }
 
-/* Words of three bytes and of one, drops, a section with a section that is empty, and words of no byte at the end. */
+/* Words of three bytes and of one, drops, a section with a section that is empty, words of no byte, and a drop at the
+ * end. */
 static size_t written(size_t room) {
     struct lupaniele_writer writer;
     lupaniele_text_start(&writer, text, room);
@@ -79,8 +80,8 @@ static size_t written(size_t room) {
     lupaniele_text_close(&writer);
     lupaniele_text_words(&writer, "2", strlen("2"));
     lupaniele_text_close(&writer);
-    lupaniele_text_drop(&writer, LUPANIELE_FAHRENHEIT, 4010);
     lupaniele_text_words(&writer, "", 0);
+    lupaniele_text_drop(&writer, LUPANIELE_FAHRENHEIT, 4010);
     return lupaniele_text_finish(&writer);
 }
 
@@ -114,12 +115,17 @@ static void texts(void) {
     printf("the byte behind it is %s\n", text[length] == GUARD ? "as it was" : "ANOTHER");
     printf("in one byte less: %u\n", (unsigned)written(length - 1));
     length = written(sizeof text);
-    steps("a text with a byte too many", length + 1);
+    text[length] = LUPANIELE_WORDS;
+    text[length + 1] = 0;
+    steps("a text with a step too many", length + 2);
     cut(length);
     lupaniele_text_start(&writer, text, sizeof text);
     lupaniele_text_open(&writer);
     lupaniele_text_close(&writer);
     steps("a text that ends with an empty section", lupaniele_text_finish(&writer));
+    lupaniele_text_start(&writer, text, sizeof text);
+    lupaniele_text_words(&writer, "", 0);
+    steps("a text that ends with words of no byte", lupaniele_text_finish(&writer));
     lupaniele_text_start(&writer, text, sizeof text);
     lupaniele_text_drop(&writer, LUPANIELE_CELSIUS + 1, 1);
     lupaniele_text_drop(&writer, LUPANIELE_CELSIUS, 1);
