@@ -2,6 +2,9 @@
 //! prefix. Every one takes any values. The types of this crate ask these; a program of its own asks them where it keeps
 //! bytes and numbers in a shape of its own. What each answers is said in `include/lupaniele.h`, and by rule in
 //! `docs/RULES.md`.
+//!
+//! All `unsafe` code of the crate is here. Each pointer and length is that of a slice, an array or a number which the caller
+//! lends for the call. What is written is lent mutably, so it overlaps nothing; and the library keeps no pointer.
 #![allow(unsafe_code)]
 #![allow(clippy::too_many_arguments)] // as many as the exported functions have
 

@@ -230,6 +230,14 @@ mod tests {
     }
 
     impl Forgetful {
+        fn of(log: &Log, left: u32) -> Forgetful {
+            Forgetful {
+                kept: log.bytes().to_vec(),
+                written: Vec::new(),
+                left,
+            }
+        }
+
         fn step(&mut self) -> io::Result<()> {
             let left = self.left.checked_sub(1);
             self.left = left.ok_or(io::ErrorKind::BrokenPipe)?;
@@ -283,11 +291,7 @@ mod tests {
                 },
                 Record::Commit(1),
             ];
-            let mut disk = Forgetful {
-                kept: log.bytes().to_vec(),
-                written: Vec::new(),
-                left: random.below(16) as u32,
-            };
+            let mut disk = Forgetful::of(&log, random.below(16) as u32);
             let (mut told, mut tried) = (0, 0);
             for record in &records {
                 tried += 1;
@@ -313,11 +317,7 @@ mod tests {
     #[test]
     fn what_the_log_refuses_is_not_written() {
         let mut log = Log::empty(4_096).expect("a log of this length");
-        let mut disk = Forgetful {
-            kept: log.bytes().to_vec(),
-            written: Vec::new(),
-            left: 9,
-        };
+        let mut disk = Forgetful::of(&log, 9);
         let refused = append_to(&mut log, &mut disk, &Record::Commit(1));
         assert!(matches!(refused, Err(AppendError::Refused(Number::BadLog))));
         assert!(disk.written.is_empty() && disk.left == 9);
