@@ -8,7 +8,7 @@ use std::rc::Rc;
 
 use lupaniele::desk::{
     Desk, Exclusive, Failed, Journal, Original, Refusal, Session, Shared, Store, Transaction,
-    Undone,
+    Undone, Why,
 };
 use lupaniele::{
     Action, Answer, AppendError, Command, DeskId, Image, Language, Log, Mark, Mode, Number, Pair,
@@ -625,4 +625,17 @@ fn what_is_due_is_what_recovery_writes() {
         }
     }
     assert!(written > 1_000);
+}
+
+/// There are no logs for version 2, so there are no transactions on it.
+#[test]
+fn no_transactions_on_version_2() {
+    let mut store = Image::make(Version::Two, 1, 16).expect("an image of this shape");
+    let mut log = Log::empty(4_096).expect("a log of this length");
+    let mut desk = Desk::start(DeskId::new(1, 0));
+    let refused = desk.transaction(&mut store, &mut log).map(|_| ());
+    assert_eq!(refused, Err(Undone::Aborted(Why::Version)));
+    let refused = desk.recover(&mut store, &mut log);
+    assert_eq!(refused, Err(Undone::Committed(Why::Version)));
+    assert_eq!(log.count(), 0);
 }

@@ -1,6 +1,8 @@
 use std::fmt;
 
-use crate::{Action, AppendError, Command, Language, Log, Mark, Mode, Number, Record, Side};
+use crate::{
+    Action, AppendError, Command, Language, Log, Mark, Mode, Number, Record, Side, Version,
+};
 
 use super::due::{due, updated};
 use super::{Desk, Failed, Journal, Original, Refusal, Store};
@@ -83,6 +85,8 @@ pub enum Why<E, J> {
     Log(AppendError<J>),
     /// The log cannot be read.
     BadLog(Number),
+    /// The store is of version 2, and logs are of version 1 (rule 15.13).
+    Version,
     /// Something of an earlier transaction is due.
     Unfinished,
     /// What is to be written would be refused with this number once it is committed.
@@ -120,7 +124,8 @@ impl Desk {
     ///
     /// # Errors
     ///
-    /// Where the log cannot take it, or an earlier transaction is not written out: recover first.
+    /// Where the log cannot take it, an earlier transaction is not written out (recover first), or the store is of version 2, for
+    /// which there are no logs.
     ///
     /// ```
     /// use lupaniele::desk::Desk;
@@ -136,6 +141,9 @@ impl Desk {
         store: &'a mut S,
         journal: &'a mut J,
     ) -> Result<Transaction<'a, S, J>, Halted<S, J>> {
+        if store.version() != Version::One {
+            return Err(Undone::Aborted(Why::Version));
+        }
         let log =
             Log::check(journal.log()).map_err(|number| Undone::Aborted(Why::BadLog(number)))?;
         if !due(&log).is_empty() {
@@ -188,6 +196,9 @@ impl Desk {
         store: &mut S,
         journal: &mut J,
     ) -> Result<Recovered, Halted<S, J>> {
+        if store.version() != Version::One {
+            return Err(Undone::Committed(Why::Version));
+        }
         let log =
             Log::check(journal.log()).map_err(|number| Undone::Committed(Why::BadLog(number)))?;
         self.begun = self.begun.max(log.last_begun());
@@ -574,6 +585,7 @@ impl<E: fmt::Display, J: fmt::Display> fmt::Display for Why<E, J> {
             Why::Store { card, failed } => write!(to, "card {card}: {failed}"),
             Why::Log(why) => fmt::Display::fmt(why, to),
             Why::BadLog(number) => write!(to, "the log cannot be read: {number}"),
+            Why::Version => to.write_str("logs are of version 1, and the store is of version 2"),
             Why::Unfinished => {
                 to.write_str("an earlier transaction is not written out: recover first")
             }
