@@ -1,8 +1,8 @@
 # make run: the program's example. make test: exactly what the gate runs. make soak N=..: the comparison with a new seed, N cases
 # (2,000,000 at the least). make sim N=..: the town of desks with a new seed, N steps (1,000,000 at the least). make pictures: the pictures of
-# docs/pictures, from their texts. make bench: the store against a straightforward Rust version, and the picture of docs/PERFORMANCE.md. make audit: the further must-fail edits.
+# docs/pictures, from their texts. make kills: a desk with its files is killed 4,000 times. make bench: the store against a straightforward Rust version, and the picture of docs/PERFORMANCE.md. make audit: the further must-fail edits.
 # make install PREFIX=.. DESTDIR=..: the header, the library, its page and its file for pkg-config, under PREFIX (/usr/local) in DESTDIR (none); make uninstall takes them away.
-.PHONY: run test soak sim pictures bench audit install uninstall
+.PHONY: run test soak sim kills pictures bench audit install uninstall
 N = 20000000
 SHELL = /bin/bash
 .SHELLFLAGS = -o pipefail -c
@@ -22,6 +22,10 @@ soak:
 sim:
 	tools/build
 	cd rust && cargo run --offline --release --quiet -p simulate --bin simulate -- soak $(N)
+
+kills:
+	tools/build
+	cd rust && cargo test --offline --release --quiet -p lupaniele --test killed -- --ignored --nocapture killed_some_thousand_times
 
 pictures:
 	tools/build

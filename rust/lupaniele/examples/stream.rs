@@ -1,11 +1,12 @@
-//! Walks a stream, commands end to end, and answers each one on a fresh card (rules 8.1 and 8.2); then the same as one run, with room for two
-//! answers at a time (rule 8.5).
+//! Walks a stream, commands end to end, and answers each one on a fresh card (rules 8.1 and 8.2); then the same as one
+//! run, with room for two answers at a time (rule 8.5).
 
 use std::error::Error;
 
 use lupaniele::{Answer, Command, Image, Pair, Stamp, Stream, Version};
 
-/// A write; a command of zeros, which is malformed: answered, and passed over; a read; and five bytes that are no whole command.
+/// A write; a command of zeros, which is malformed: answered, and passed over; a read; and five bytes that are no whole
+/// command.
 fn stream() -> Result<Vec<u8>, Box<dyn Error>> {
     let stamp = Stamp::new(1, 1, 0);
     let pair = Pair::new(stamp, stamp);

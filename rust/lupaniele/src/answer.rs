@@ -31,7 +31,8 @@ pub struct Answer {
 }
 
 impl Answer {
-    /// From a number and fields as an exported function gives them; each field is within its type, since it was read from one.
+    /// From a number and fields as an exported function gives them; each field is within its type, since it was read
+    /// from one.
     pub(crate) fn given(number: u8, fields: [u64; 7]) -> Answer {
         let [s, x, desk, transaction, edition, from, length] = fields;
         Answer {
@@ -71,6 +72,12 @@ impl Answer {
     }
 
     /// The answer in eight numbers, if they are one.
+    ///
+    /// ```
+    /// use lupaniele::{Answer, Number};
+    /// let answer = Answer::from_line([3, 0, 0, 0, 0, 7, 0, 0]).unwrap();
+    /// assert_eq!((answer.number, answer.edition), (Number::Stale, 7));
+    /// ```
     #[must_use]
     pub fn from_line(line: [u64; 8]) -> Option<Answer> {
         let [number, s, x, desk, transaction, edition, from, length] = line;
@@ -85,6 +92,11 @@ impl Answer {
     }
 
     /// Whether the command was accepted.
+    ///
+    /// ```
+    /// use lupaniele::Answer;
+    /// assert!(Answer::from_line([0; 8]).is_some_and(|answer| answer.is_accepted()));
+    /// ```
     #[must_use]
     pub fn is_accepted(&self) -> bool {
         self.number == Number::Accepted

@@ -5,7 +5,8 @@ use crate::cards::Card;
 use crate::image::named_version;
 use crate::{Image, Language, Stamp, Version};
 
-/// Why bytes are no sound image: the first rule that they break (2.2 to 2.6, 15.2 to 15.5). The verdict is the store's; this says where to look.
+/// Why bytes are no sound image: the first rule that they break (2.2 to 2.6, 15.2 to 15.5). The verdict is the store's;
+/// this says where to look.
 ///
 /// ```
 /// use lupaniele::{Broken, BrokenCard, Image, Version};

@@ -40,6 +40,14 @@ impl<'a> Card<'a> {
     }
 
     /// Its number, from 0.
+    ///
+    /// ```
+    /// use lupaniele::{Image, Version};
+    /// let image = Image::make(Version::One, 1, 16)?;
+    /// let card = image.card(0).unwrap();
+    /// assert_eq!(card.number(), 0);
+    /// # Ok::<(), lupaniele::Number>(())
+    /// ```
     #[must_use]
     pub fn number(&self) -> u16 {
         self.card
@@ -62,24 +70,57 @@ impl<'a> Card<'a> {
     }
 
     /// The stored pair.
+    ///
+    /// ```
+    /// use lupaniele::{Image, Pair, Version};
+    /// let image = Image::make(Version::One, 1, 16)?;
+    /// let card = image.card(0).unwrap();
+    /// assert_eq!(card.pair(), Pair::NONE);
+    /// # Ok::<(), lupaniele::Number>(())
+    /// ```
     #[must_use]
     pub fn pair(&self) -> Pair {
         Pair::of([u64_at(self.entry(), 0), u64_at(self.entry(), 8)])
     }
 
     /// The stored commit mark.
+    ///
+    /// ```
+    /// use lupaniele::{Image, Mark, Version};
+    /// let image = Image::make(Version::One, 1, 16)?;
+    /// let card = image.card(0).unwrap();
+    /// assert_eq!(card.mark(), Mark::NONE);
+    /// # Ok::<(), lupaniele::Number>(())
+    /// ```
     #[must_use]
     pub fn mark(&self) -> Mark {
         Mark::new(u16_at(self.entry(), 16), u32_at(self.entry(), 20))
     }
 
     /// How often its original was written.
+    ///
+    /// ```
+    /// use lupaniele::{Image, Version};
+    /// let image = Image::make(Version::One, 1, 16)?;
+    /// let card = image.card(0).unwrap();
+    /// assert_eq!(card.edition(), 0);
+    /// # Ok::<(), lupaniele::Number>(())
+    /// ```
     #[must_use]
     pub fn edition(&self) -> u16 {
         u16_at(self.entry(), 24)
     }
 
     /// The edition that a translation was made from, 0 for none; nothing where the image does not have the language.
+    ///
+    /// ```
+    /// use lupaniele::{Image, Language, Version};
+    /// let image = Image::make(Version::One, 1, 16)?;
+    /// let card = image.card(0).unwrap();
+    /// assert_eq!(card.translated_from(Language::First), Some(0));
+    /// assert_eq!(card.translated_from(Language::Second), None); // version 1 has one language
+    /// # Ok::<(), lupaniele::Number>(())
+    /// ```
     #[must_use]
     pub fn translated_from(&self, language: Language) -> Option<u16> {
         let at = usize::from(language.number());
@@ -105,12 +146,28 @@ impl<'a> Card<'a> {
     }
 
     /// Its original.
+    ///
+    /// ```
+    /// use lupaniele::{Image, Version};
+    /// let image = Image::make(Version::One, 1, 16)?;
+    /// let card = image.card(0).unwrap();
+    /// assert_eq!(card.original(), b"");
+    /// # Ok::<(), lupaniele::Number>(())
+    /// ```
     #[must_use]
     pub fn original(&self) -> &'a [u8] {
         slice_at(self.body(0), 0, self.original_length().into())
     }
 
     /// A translation as it stands there, behind or not; nothing where the image does not have the language.
+    ///
+    /// ```
+    /// use lupaniele::{Image, Language, Version};
+    /// let image = Image::make(Version::One, 1, 16)?;
+    /// let card = image.card(0).unwrap();
+    /// assert_eq!(card.translation(Language::First), Some(&[][..]));
+    /// # Ok::<(), lupaniele::Number>(())
+    /// ```
     #[must_use]
     pub fn translation(&self, language: Language) -> Option<&'a [u8]> {
         let length = self.translation_length(language)?;
@@ -123,6 +180,14 @@ impl<'a> Card<'a> {
     /// # Errors
     ///
     /// [`Number::EditionWrong`] where it is behind, or the image does not have the language.
+    ///
+    /// ```
+    /// use lupaniele::{Image, Language, Number, Version};
+    /// let image = Image::make(Version::One, 1, 16)?;
+    /// let card = image.card(0).unwrap();
+    /// assert_eq!(card.shown(Language::First), Err(Number::EditionWrong)); // there is none yet
+    /// # Ok::<(), Number>(())
+    /// ```
     pub fn shown(&self, language: Language) -> Result<&'a [u8], Number> {
         let (Some(from), Some(text)) = (self.translated_from(language), self.translation(language))
         else {

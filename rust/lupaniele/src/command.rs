@@ -32,6 +32,11 @@ pub enum Action<'a> {
 
 impl<'a> Action<'a> {
     /// Its act.
+    ///
+    /// ```
+    /// use lupaniele::{Act, Action};
+    /// assert_eq!(Action::Verify.act(), Act::Verify);
+    /// ```
     #[must_use]
     pub const fn act(self) -> Act {
         match self {
@@ -87,18 +92,36 @@ pub struct Draft<'a> {
 
 impl<'a> Draft<'a> {
     /// A shared command under this pair.
+    ///
+    /// ```
+    /// use lupaniele::{Command, Mode, Pair, Stamp};
+    /// let pair = Pair::new(Stamp::new(1, 1, 0), Stamp::new(1, 1, 0));
+    /// assert_eq!(Command::read_original(0).shared(pair).mode, Mode::Shared);
+    /// ```
     #[must_use]
     pub fn shared(self, pair: Pair) -> Command<'a> {
         self.under(Mode::Shared, pair)
     }
 
     /// An exclusive command under this pair.
+    ///
+    /// ```
+    /// use lupaniele::{Command, Mode, Pair, Stamp};
+    /// let pair = Pair::new(Stamp::new(1, 1, 0), Stamp::new(1, 1, 0));
+    /// assert_eq!(Command::verify(0).exclusive(pair).mode, Mode::Exclusive);
+    /// ```
     #[must_use]
     pub fn exclusive(self, pair: Pair) -> Command<'a> {
         self.under(Mode::Exclusive, pair)
     }
 
     /// A command in this mode under this pair, on which it relies and by which it raises what is stored.
+    ///
+    /// ```
+    /// use lupaniele::{Command, Mode, Pair, Stamp};
+    /// let pair = Pair::new(Stamp::new(1, 1, 0), Stamp::new(1, 1, 0));
+    /// assert_eq!(Command::verify(0).under(Mode::Shared, pair).verifier, pair);
+    /// ```
     #[must_use]
     pub fn under(self, mode: Mode, pair: Pair) -> Command<'a> {
         Command {
@@ -112,7 +135,8 @@ impl<'a> Draft<'a> {
         }
     }
 
-    /// A command that opens a session (rule 3.4): it relies on one pair, the verifier, and raises what is stored by another.
+    /// A command that opens a session (rule 3.4): it relies on one pair, the verifier, and raises what is stored by
+    /// another.
     ///
     /// ```
     /// use lupaniele::{Command, Mode, Pair, Stamp};
@@ -130,7 +154,8 @@ impl<'a> Draft<'a> {
     }
 }
 
-/// A command to the store, before it is bytes (rules 3.1 to 3.4, 15.6). Whether it is well formed is for the store to say.
+/// A command to the store, before it is bytes (rules 3.1 to 3.4, 15.6). Whether it is well formed is for the store to
+/// say.
 ///
 /// ```
 /// use lupaniele::{Command, Mark, Pair, Stamp, Version};
@@ -165,16 +190,33 @@ pub struct Command<'a> {
 
 impl<'a> Command<'a> {
     /// Reads the original of a card.
+    ///
+    /// ```
+    /// use lupaniele::{Action, Command, Pair};
+    /// assert_eq!(Command::read_original(3).shared(Pair::NONE).action, Action::ReadOriginal);
+    /// ```
     pub fn read_original(card: u16) -> Draft<'a> {
         Command::doing(card, Action::ReadOriginal)
     }
 
     /// Reads a translation of a card.
+    ///
+    /// ```
+    /// use lupaniele::{Action, Command, Language, Pair};
+    /// let command = Command::read_translation(3, Language::Third).shared(Pair::NONE);
+    /// assert_eq!(command.action, Action::ReadTranslation(Language::Third));
+    /// ```
     pub fn read_translation(card: u16, language: Language) -> Draft<'a> {
         Command::doing(card, Action::ReadTranslation(language))
     }
 
     /// Writes the original of a card.
+    ///
+    /// ```
+    /// use lupaniele::{Action, Command, Pair};
+    /// let command = Command::write_original(3, b"205").exclusive(Pair::NONE);
+    /// assert_eq!(command.action, Action::WriteOriginal(b"205"));
+    /// ```
     pub fn write_original(card: u16, text: &'a [u8]) -> Draft<'a> {
         Command::doing(card, Action::WriteOriginal(text))
     }
@@ -204,16 +246,32 @@ impl<'a> Command<'a> {
     }
 
     /// Carries stamps to a card and does nothing else.
+    ///
+    /// ```
+    /// use lupaniele::{Action, Command, Pair};
+    /// assert_eq!(Command::verify(3).shared(Pair::NONE).action, Action::Verify);
+    /// ```
     pub fn verify(card: u16) -> Draft<'a> {
         Command::doing(card, Action::Verify)
     }
 
     /// Does this on that card.
+    ///
+    /// ```
+    /// use lupaniele::{Action, Command};
+    /// assert_eq!(Command::doing(3, Action::Verify), Command::verify(3));
+    /// ```
     pub fn doing(card: u16, action: Action<'a>) -> Draft<'a> {
         Draft { card, action }
     }
 
     /// The same, and it expects this commit mark.
+    ///
+    /// ```
+    /// use lupaniele::{Command, Mark, Pair};
+    /// let command = Command::verify(0).exclusive(Pair::NONE).expecting(Mark::new(5, 7));
+    /// assert_eq!((command.expected, command.next), (Mark::new(5, 7), Mark::NONE));
+    /// ```
     #[must_use]
     pub fn expecting(self, mark: Mark) -> Command<'a> {
         Command {
@@ -223,12 +281,24 @@ impl<'a> Command<'a> {
     }
 
     /// The same, and it leaves this commit mark.
+    ///
+    /// ```
+    /// use lupaniele::{Command, Mark, Pair};
+    /// let command = Command::verify(0).exclusive(Pair::NONE).leaving(Mark::new(5, 7));
+    /// assert_eq!((command.expected, command.next), (Mark::NONE, Mark::new(5, 7)));
+    /// ```
     #[must_use]
     pub fn leaving(self, mark: Mark) -> Command<'a> {
         Command { next: mark, ..self }
     }
 
     /// The pair by which it raises what is stored: the verifier where no other is given (rule 3.4).
+    ///
+    /// ```
+    /// use lupaniele::{Command, Pair, Stamp};
+    /// let pair = Pair::new(Stamp::new(1, 1, 0), Stamp::new(1, 1, 0));
+    /// assert_eq!(Command::verify(0).shared(pair).update_pair(), pair);
+    /// ```
     #[must_use]
     pub fn update_pair(&self) -> Pair {
         match self.update {
@@ -238,6 +308,12 @@ impl<'a> Command<'a> {
     }
 
     /// How many bytes it takes.
+    ///
+    /// ```
+    /// use lupaniele::{Command, Pair, Version};
+    /// let command = Command::write_original(0, b"205").exclusive(Pair::NONE);
+    /// assert_eq!((command.length(Version::One), command.length(Version::Two)), (55, 71));
+    /// ```
     #[must_use]
     pub fn length(&self, version: Version) -> usize {
         version.command_bytes() + self.action.text().len()
@@ -247,7 +323,8 @@ impl<'a> Command<'a> {
     ///
     /// # Errors
     ///
-    /// Where the bytes of that version cannot say it: a text of more than 65,535 bytes, or a language that version 1 does not have.
+    /// Where the bytes of that version cannot say it: a text of more than 65,535 bytes, or a language that version 1
+    /// does not have.
     ///
     /// ```
     /// use lupaniele::{BuildError, Command, Pair, Version};
@@ -309,8 +386,8 @@ impl<'a> Command<'a> {
         Ok(())
     }
 
-    /// The command in some bytes. What this reads is what [`to_bytes`](Command::to_bytes) writes, no more and no less; the store may still find
-    /// it malformed, for its stamps or its marks.
+    /// The command in some bytes. What this reads is what [`to_bytes`](Command::to_bytes) writes, no more and no less;
+    /// the store may still find it malformed, for its stamps or its marks.
     ///
     /// # Errors
     ///

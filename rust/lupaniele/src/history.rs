@@ -3,8 +3,8 @@ use crate::{Answer, BuildError, Command, Stream, Version, raw};
 /// The bytes in which a history keeps its commands (rule 14.3).
 const KEPT: usize = 43_168;
 
-/// The history engine (section 14 of the rules): it keeps the commands that it accepts, and answers as a store of version 1 with so many cards and
-/// this room does, until it is full.
+/// The history engine (section 14 of the rules): it keeps the commands that it accepts, and answers as a store of
+/// version 1 with so many cards and this room does, until it is full.
 ///
 /// ```
 /// use lupaniele::{Command, History, Number, Pair, Stamp};
@@ -33,6 +33,11 @@ pub struct History {
 
 impl History {
     /// A history of nothing, for so many cards with this room.
+    ///
+    /// ```
+    /// use lupaniele::History;
+    /// assert_eq!(History::new(1, 16).kept().count(), 0);
+    /// ```
     #[must_use]
     pub fn new(cards: u16, room: u16) -> History {
         History {
@@ -48,6 +53,13 @@ impl History {
     /// # Errors
     ///
     /// Where the command has no bytes in version 1.
+    ///
+    /// ```
+    /// use lupaniele::{Command, History, Pair, Stamp};
+    /// let command = Command::verify(0).shared(Pair::new(Stamp::new(1, 1, 0), Stamp::NONE));
+    /// assert!(History::new(1, 16).answer(&command, &mut [])?.is_accepted());
+    /// # Ok::<(), lupaniele::BuildError>(())
+    /// ```
     pub fn answer(&mut self, command: &Command, reply: &mut [u8]) -> Result<Answer, BuildError> {
         let bytes = command.to_bytes(Version::One)?;
         Ok(self.answer_bytes(&bytes, reply))
@@ -75,6 +87,16 @@ impl History {
     }
 
     /// The commands that it keeps, the oldest first.
+    ///
+    /// ```
+    /// use lupaniele::{Command, History, Pair, Stamp, Version};
+    /// let command = Command::verify(0).shared(Pair::new(Stamp::new(1, 1, 0), Stamp::NONE));
+    /// let mut history = History::new(1, 16);
+    /// assert!(history.answer(&command, &mut [])?.is_accepted());
+    /// let kept: Vec<_> = history.kept().map(|bytes| Command::parse(Version::One, bytes)).collect();
+    /// assert_eq!(kept, [Ok(command)]);
+    /// # Ok::<(), lupaniele::BuildError>(())
+    /// ```
     #[must_use]
     pub fn kept(&self) -> Stream<'_> {
         let used = usize::try_from(self.used).unwrap_or(KEPT).min(KEPT);

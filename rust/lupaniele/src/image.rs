@@ -9,8 +9,8 @@ use crate::{Answer, Broken, BuildError, Command, Number, Version, raw};
 /// ```
 pub const LARGEST_IMAGE: usize = 65_536;
 
-/// A sound image: the store's cards in bytes (sections 2, 4 and 15 of the rules), owned or lent. It is sound when it is made or checked, and every
-/// request leaves it so.
+/// A sound image: the store's cards in bytes (sections 2, 4 and 15 of the rules), owned or lent. It is sound when it is
+/// made or checked, and every request leaves it so.
 ///
 /// ```
 /// use lupaniele::{Command, Image, Language, Number, Pair, Stamp, Version};
@@ -46,7 +46,8 @@ impl Image {
     /// # Ok::<(), Number>(())
     /// ```
     pub fn make(version: Version, cards: u16, room: u16) -> Result<Image, Number> {
-        // More bytes than any image has are not taken from the system: nothing is lent then, and the answer is the same.
+        // More bytes than any image has are not taken from the system: nothing is lent then, and the answer is the
+        // same.
         let length = version.image_bytes(cards.into(), room.into());
         let length = length.filter(|length| *length <= LARGEST_IMAGE);
         Image::make_in(version, cards, room, vec![0; length.unwrap_or(0)])
@@ -81,18 +82,37 @@ impl<B: AsRef<[u8]>> Image<B> {
     }
 
     /// Its version.
+    ///
+    /// ```
+    /// use lupaniele::{Image, Version};
+    /// assert_eq!(Image::make(Version::Two, 1, 16)?.version(), Version::Two);
+    /// # Ok::<(), lupaniele::Number>(())
+    /// ```
     #[must_use]
     pub fn version(&self) -> Version {
         self.version
     }
 
     /// Its bytes.
+    ///
+    /// ```
+    /// use lupaniele::{Image, Version};
+    /// assert_eq!(Image::make(Version::One, 1, 16)?.bytes().len(), 80);
+    /// # Ok::<(), lupaniele::Number>(())
+    /// ```
     #[must_use]
     pub fn bytes(&self) -> &[u8] {
         self.bytes.as_ref()
     }
 
     /// Its bytes, as they were lent.
+    ///
+    /// ```
+    /// use lupaniele::{Image, Version};
+    /// let bytes = Image::make(Version::One, 1, 16)?.into_bytes();
+    /// assert!(Image::check(bytes).is_ok());
+    /// # Ok::<(), lupaniele::Number>(())
+    /// ```
     #[must_use]
     pub fn into_bytes(self) -> B {
         self.bytes
@@ -112,6 +132,12 @@ impl<B: AsRef<[u8]>> Image<B> {
     }
 
     /// The room of each text, C.
+    ///
+    /// ```
+    /// use lupaniele::{Image, Version};
+    /// assert_eq!(Image::make(Version::One, 1, 16)?.room(), 16);
+    /// # Ok::<(), lupaniele::Number>(())
+    /// ```
     #[must_use]
     pub fn room(&self) -> u16 {
         u16_at(self.bytes(), 8)
@@ -147,7 +173,8 @@ impl<B: AsRef<[u8]>> Image<B> {
     ///
     /// # Errors
     ///
-    /// [`Number::Unsound`] where this is version 2 already, [`Number::NotMade`] where four translations of each card are too many.
+    /// [`Number::Unsound`] where this is version 2 already, [`Number::NotMade`] where four translations of each card
+    /// are too many.
     ///
     /// ```
     /// use lupaniele::{Image, Number, Version};
@@ -217,6 +244,14 @@ impl<B: AsMut<[u8]>> Image<B> {
     /// # Errors
     ///
     /// Where the command has no bytes in this version. A refusal is an answer, not an error.
+    ///
+    /// ```
+    /// use lupaniele::{Command, Image, Pair, Stamp, Version};
+    /// let mut image = Image::make(Version::One, 1, 16)?;
+    /// let command = Command::verify(0).shared(Pair::new(Stamp::new(1, 1, 0), Stamp::NONE));
+    /// assert!(image.answer(&command, &mut [])?.is_accepted());
+    /// # Ok::<(), Box<dyn std::error::Error>>(())
+    /// ```
     pub fn answer(&mut self, command: &Command, reply: &mut [u8]) -> Result<Answer, BuildError> {
         let bytes = command.to_bytes(self.version)?;
         Ok(self.answer_bytes(&bytes, reply))
@@ -239,7 +274,8 @@ impl<B: AsMut<[u8]>> Image<B> {
         Answer::given(number, fields)
     }
 
-    /// A run (rule 8.5): every whole command of a stream in its order, with the image checked once; the answers and the byte where it stopped.
+    /// A run (rule 8.5): every whole command of a stream in its order, with the image checked once; the answers and the
+    /// byte where it stopped.
     ///
     /// ```
     /// use lupaniele::{Command, Image, Pair, Stamp, Version};
@@ -263,8 +299,8 @@ impl<B: AsMut<[u8]>> Image<B> {
         (answers.collect(), end)
     }
 
-    /// The same, into lent lines of eight numbers each, as many commands as there are lines: how many were judged, and the byte where it
-    /// stopped, from which a caller goes on.
+    /// The same, into lent lines of eight numbers each, as many commands as there are lines: how many were judged, and
+    /// the byte where it stopped, from which a caller goes on.
     ///
     /// ```
     /// use lupaniele::{Answer, Image, Number, Version};

@@ -17,6 +17,11 @@ pub enum Version {
 
 impl Version {
     /// The languages that a card has a translation in.
+    ///
+    /// ```
+    /// use lupaniele::Version;
+    /// assert_eq!(Version::Two.languages().len(), 4);
+    /// ```
     #[must_use]
     pub const fn languages(self) -> &'static [Language] {
         match self {
@@ -41,8 +46,8 @@ impl Version {
         }
     }
 
-    /// The bytes of an image of so many cards with this room (rules 2.2 and 15.2), whether one can be made or not; no number where
-    /// it is too large to count.
+    /// The bytes of an image of so many cards with this room (rules 2.2 and 15.2), whether one can be made or not; no
+    /// number where it is too large to count.
     ///
     /// ```
     /// use lupaniele::Version;
@@ -89,12 +94,21 @@ pub enum Mode {
 
 impl Mode {
     /// Its number.
+    ///
+    /// ```
+    /// assert_eq!(lupaniele::Mode::Shared.number(), 1);
+    /// ```
     #[must_use]
     pub const fn number(self) -> u8 {
         self as u8
     }
 
     /// The mode with this number.
+    ///
+    /// ```
+    /// use lupaniele::Mode;
+    /// assert_eq!(Mode::from_number(2), Some(Mode::Exclusive));
+    /// ```
     #[must_use]
     pub const fn from_number(number: u8) -> Option<Mode> {
         match number {
@@ -138,6 +152,11 @@ pub enum Act {
 
 impl Act {
     /// Every act, in order.
+    ///
+    /// ```
+    /// use lupaniele::Act;
+    /// assert_eq!(Act::ALL.map(Act::number), [1, 2, 3, 4, 5]);
+    /// ```
     pub const ALL: [Act; 5] = [
         Act::ReadOriginal,
         Act::ReadTranslation,
@@ -147,12 +166,21 @@ impl Act {
     ];
 
     /// Its number.
+    ///
+    /// ```
+    /// assert_eq!(lupaniele::Act::ReadOriginal.number(), 1);
+    /// ```
     #[must_use]
     pub const fn number(self) -> u8 {
         self as u8
     }
 
     /// The act with this number.
+    ///
+    /// ```
+    /// use lupaniele::Act;
+    /// assert_eq!((Act::from_number(5), Act::from_number(6)), (Some(Act::Verify), None));
+    /// ```
     #[must_use]
     pub fn from_number(number: u8) -> Option<Act> {
         Act::ALL.into_iter().find(|act| act.number() == number)
@@ -194,6 +222,11 @@ pub enum Language {
 
 impl Language {
     /// All four, in order.
+    ///
+    /// ```
+    /// use lupaniele::Language;
+    /// assert_eq!(Language::ALL.map(Language::number), [0, 1, 2, 3]);
+    /// ```
     pub const ALL: [Language; 4] = [
         Language::First,
         Language::Second,
@@ -202,12 +235,21 @@ impl Language {
     ];
 
     /// Its number, 0 to 3.
+    ///
+    /// ```
+    /// assert_eq!(lupaniele::Language::Fourth.number(), 3);
+    /// ```
     #[must_use]
     pub const fn number(self) -> u8 {
         self as u8
     }
 
     /// The language with this number.
+    ///
+    /// ```
+    /// use lupaniele::Language;
+    /// assert_eq!(Language::from_number(0), Some(Language::First));
+    /// ```
     #[must_use]
     pub fn from_number(number: u8) -> Option<Language> {
         Language::ALL.get(usize::from(number)).copied()

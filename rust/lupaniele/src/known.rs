@@ -21,6 +21,11 @@ pub struct Known {
 
 impl Known {
     /// A desk that has just started knows nothing (rule 10.9).
+    ///
+    /// ```
+    /// use lupaniele::{DeskId, Known, Pair};
+    /// assert_eq!(Known::nothing(DeskId::new(1, 0)).pair(), Pair::NONE);
+    /// ```
     #[must_use]
     pub fn nothing(desk: DeskId) -> Known {
         Known {
@@ -41,6 +46,14 @@ impl Known {
     }
 
     /// It learns the pair of an answer for that card (rule 10.2).
+    ///
+    /// ```
+    /// use lupaniele::{DeskId, Known, Pair, Stamp};
+    /// let mut known = Known::nothing(DeskId::new(1, 0));
+    /// known.learn(Pair::new(Stamp::new(7, 2, 0), Stamp::NONE));
+    /// known.learn(Pair::new(Stamp::new(3, 2, 0), Stamp::new(1, 1, 0)));
+    /// assert_eq!(known.pair(), Pair::new(Stamp::new(7, 2, 0), Stamp::new(1, 1, 0)));
+    /// ```
     pub fn learn(&mut self, pair: Pair) {
         let [s, x] = pair.numbers();
         raw::learn(&mut self.known, s, x);

@@ -1,6 +1,7 @@
-//! The proved card store for Rust: images, commands, lock queues, what desks know and propose, redo logs, the history engine, structured
-//! texts. Every answer comes from the exported functions of the proved library; nothing here decides a rule. Numbers have their names
-//! ([`Number`]), bytes their builders ([`Command`], [`Record`], [`Text`]); rules are those of docs/RULES.md.
+//! The proved card store for Rust: images, commands, lock queues, what desks know and propose, redo logs, the history
+//! engine, structured texts. Every answer comes from the exported functions of the proved library; nothing here decides
+//! a rule. Numbers have their names ([`Number`]), bytes their builders ([`Command`], [`Record`], [`Text`]); rules are
+//! those of docs/RULES.md.
 //!
 //! ```
 //! use lupaniele::{Command, Image, Language, Number, Pair, Stamp, Version};
@@ -27,6 +28,7 @@ mod bytes;
 mod cards;
 mod command;
 pub mod desk;
+pub mod files;
 mod history;
 mod image;
 mod kinds;

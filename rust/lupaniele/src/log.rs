@@ -1,6 +1,7 @@
 use std::fmt;
 
 use crate::bytes::{slice_at, u8_at, u16_at, u32_at};
+use crate::desk::due::due;
 use crate::{Image, Number, Pair, raw};
 
 /// The bytes of a log in front of its bodies (rule 11.1), the fewest that a log has.
@@ -40,12 +41,21 @@ pub enum Side {
 
 impl Side {
     /// Its number.
+    ///
+    /// ```
+    /// assert_eq!(lupaniele::Side::Translation.number(), 2);
+    /// ```
     #[must_use]
     pub const fn number(self) -> u8 {
         self as u8
     }
 
     /// The side with this number.
+    ///
+    /// ```
+    /// use lupaniele::Side;
+    /// assert_eq!((Side::from_number(1), Side::from_number(3)), (Some(Side::Original), None));
+    /// ```
     #[must_use]
     pub const fn from_number(number: u8) -> Option<Side> {
         match number {
@@ -90,6 +100,11 @@ pub enum Record<'a> {
 
 impl<'a> Record<'a> {
     /// The number of its kind.
+    ///
+    /// ```
+    /// use lupaniele::Record;
+    /// assert_eq!(Record::Commit(7).kind(), 3);
+    /// ```
     #[must_use]
     pub const fn kind(&self) -> u8 {
         match self {
@@ -101,6 +116,11 @@ impl<'a> Record<'a> {
     }
 
     /// Its body, in bytes.
+    ///
+    /// ```
+    /// use lupaniele::Record;
+    /// assert_eq!(Record::Synced { card: 1, transaction: 7 }.body(), [1, 0, 7, 0, 0, 0]);
+    /// ```
     #[must_use]
     pub fn body(&self) -> Vec<u8> {
         match self {
@@ -225,12 +245,24 @@ impl<B: AsRef<[u8]>> Log<B> {
     }
 
     /// Its bytes.
+    ///
+    /// ```
+    /// assert_eq!(lupaniele::Log::empty(4_096)?.bytes(), [0; 4_096]);
+    /// # Ok::<(), lupaniele::Number>(())
+    /// ```
     #[must_use]
     pub fn bytes(&self) -> &[u8] {
         self.bytes.as_ref()
     }
 
     /// Its bytes, as they were lent.
+    ///
+    /// ```
+    /// use lupaniele::Log;
+    /// let bytes = Log::empty(4_096)?.into_bytes();
+    /// assert!(Log::check(bytes).is_ok());
+    /// # Ok::<(), lupaniele::Number>(())
+    /// ```
     #[must_use]
     pub fn into_bytes(self) -> B {
         self.bytes
@@ -302,6 +334,33 @@ impl<B: AsRef<[u8]>> Log<B> {
         }
     }
 
+    /// A log of the same length that begins again, if nothing of this one is due (rule 11.15): it has no record but the
+    /// begin of the last transaction that began here, so that transactions go on rising.
+    ///
+    /// ```
+    /// use lupaniele::{Log, Record, Side};
+    /// let mut log = Log::empty(4_096)?;
+    /// log.append(&Record::Begin(7))?;
+    /// log.append(&Record::Update { card: 0, side: Side::Original, text: b"205" })?;
+    /// log.append(&Record::Commit(7))?;
+    /// assert_eq!(log.begun_again(), None);
+    /// log.append(&Record::Synced { card: 0, transaction: 7 })?;
+    /// let new = log.begun_again().ok_or("something is due")?;
+    /// assert!(new.records().eq([Record::Begin(7)]));
+    /// # Ok::<(), Box<dyn std::error::Error>>(())
+    /// ```
+    #[must_use]
+    pub fn begun_again(&self) -> Option<Log> {
+        if !due(self).is_empty() {
+            return None;
+        }
+        let mut log = Log::empty(self.bytes().len()).ok()?;
+        match self.last_begun() {
+            0 => Some(log),
+            last => log.append(&Record::Begin(last)).ok().map(|()| log),
+        }
+    }
+
     /// Whether a commit and so many synced records still fit (rule 11.11).
     pub(crate) fn has_room_to_finish(&self, cards: usize) -> bool {
         let (lines, bytes) = (
@@ -311,7 +370,8 @@ impl<B: AsRef<[u8]>> Log<B> {
         lines <= RECORDS && bytes <= self.bytes().len()
     }
 
-    /// Sends each update that is due through the guard of an image of version 1, each under the exclusive pair given for its card (rules 11.15 to 11.20).
+    /// Sends each update that is due through the guard of an image of version 1, each under the exclusive pair given
+    /// for its card (rules 11.15 to 11.20).
     ///
     /// # Errors
     ///
@@ -347,12 +407,21 @@ impl<B: AsRef<[u8]> + AsMut<[u8]>> Log<B> {
     ///
     /// # Errors
     ///
-    /// [`Number::BadLog`] where the record may not stand next (rules 11.4 and 11.5), [`Number::LogFull`] where there is no room for it.
+    /// [`Number::BadLog`] where the record may not stand next (rules 11.4 and 11.5), [`Number::LogFull`] where there is
+    /// no room for it.
+    ///
+    /// ```
+    /// use lupaniele::{LOG_TABLE, Log, Number, Record};
+    /// let mut log = Log::empty(LOG_TABLE)?; // no room for a body
+    /// assert_eq!(log.append(&Record::Begin(1)), Err(Number::LogFull));
+    /// # Ok::<(), Number>(())
+    /// ```
     pub fn append(&mut self, record: &Record) -> Result<(), Number> {
         self.append_cut(record, u64::MAX).done()
     }
 
-    /// Appends a record as far as the first so many stores of one byte go (rules 11.9 to 11.12): for tests of a power cut.
+    /// Appends a record as far as the first so many stores of one byte go (rules 11.9 to 11.12): for tests of a power
+    /// cut.
     ///
     /// ```
     /// use lupaniele::{Log, Number, Record};
@@ -371,13 +440,14 @@ impl<B: AsRef<[u8]> + AsMut<[u8]>> Log<B> {
         ))
     }
 
-    /// Appends a record in three steps, and has each written out before the next: its body, its line, the count (rule 11.10). If the
-    /// power fails in between, what was written out reads back as the log before. `write` puts the bytes at their place in whatever
-    /// keeps the log, and sees to it that they are kept before it returns.
+    /// Appends a record in three steps, and has each written out before the next: its body, its line, the count (rule
+    /// 11.10). If the power fails in between, what was written out reads back as the log before. `write` puts the bytes
+    /// at their place in whatever keeps the log, and sees to it that they are kept before it returns.
     ///
     /// # Errors
     ///
-    /// Why nothing was appended, or, after a fault of the last write, that it is not known: then the log is to be read back.
+    /// Why nothing was appended, or, after a fault of the last write, that it is not known: then the log is to be read
+    /// back.
     ///
     /// ```
     /// use lupaniele::{Log, LogPart, Record};

@@ -2,8 +2,8 @@ use std::fmt;
 
 use crate::number_table::{NUMBERS, Row};
 
-/// The number of an answer (rule 5.1): [`Accepted`](Number::Accepted), or why not. What it means, which rule says so and what a desk
-/// may do now come with it in words.
+/// The number of an answer (rule 5.1): [`Accepted`](Number::Accepted), or why not. What it means, which rule says so
+/// and what a desk may do now come with it in words.
 ///
 /// ```
 /// use lupaniele::Number;
@@ -113,7 +113,8 @@ impl Number {
         Number::AppendCut,
     ];
 
-    /// The number that an exported function gave. Each gives one of the list: that is proved, and the other arm is never taken.
+    /// The number that an exported function gave. Each gives one of the list: that is proved, and the other arm is
+    /// never taken.
     pub(crate) fn given(number: u8) -> Number {
         debug_assert!(usize::from(number) < Number::ALL.len());
         Number::try_from(number).unwrap_or(Number::Unsound)

@@ -58,6 +58,13 @@ impl Queue {
     }
 
     /// A desk asks for the lock, or upgrades (rules 7.6 to 7.10).
+    ///
+    /// ```
+    /// use lupaniele::{Mode, Pair, Queue, Stamp};
+    /// let answer = Queue::new(1)?.ask(Mode::Shared, Pair::new(Stamp::new(1, 1, 0), Stamp::NONE));
+    /// assert!(answer.is_accepted() && answer.holds);
+    /// # Ok::<(), lupaniele::Number>(())
+    /// ```
     pub fn ask(&mut self, mode: Mode, pair: Pair) -> QueueAnswer {
         let ([s, x], mut fields) = (pair.numbers(), [0; 4]);
         let number = raw::ask(
@@ -208,6 +215,12 @@ impl QueueAnswer {
     }
 
     /// Whether the request was accepted.
+    ///
+    /// ```
+    /// use lupaniele::{Mode, Pair, Queue};
+    /// assert!(!Queue::new(1)?.ask(Mode::Shared, Pair::NONE).is_accepted());
+    /// # Ok::<(), lupaniele::Number>(())
+    /// ```
     #[must_use]
     pub fn is_accepted(&self) -> bool {
         self.number == Number::Accepted

@@ -1,12 +1,21 @@
-//! The exported functions as safe calls on slices, arrays and plain numbers, one for each, under its name without the prefix. Every one takes
-//! any values. The types of this crate ask these; a program of its own asks them where it keeps bytes and numbers in a shape of its own.
-//! What each answers is said in `include/lupaniele.h`, and by rule in `docs/RULES.md`.
+//! The exported functions as safe calls on slices, arrays and plain numbers, one for each, under its name without the
+//! prefix. Every one takes any values. The types of this crate ask these; a program of its own asks them where it keeps
+//! bytes and numbers in a shape of its own. What each answers is said in `include/lupaniele.h`, and by rule in
+//! `docs/RULES.md`.
+//!
+//! All `unsafe` code of the crate is here. Each pointer and length is that of a slice, an array or a number which the caller
+//! lends for the call. What is written is lent mutably, so it overlaps nothing; and the library keeps no pointer.
 #![allow(unsafe_code)]
 #![allow(clippy::too_many_arguments)] // as many as the exported functions have
 
 use crate::sys;
 
 /// Makes a fresh image of version 1 in the whole of `image` (rules 2.2 and 2.7): 0 or 14.
+///
+/// ```
+/// let mut image = [0; 80];
+/// assert_eq!(lupaniele::raw::make(&mut image, 1, 16), 0);
+/// ```
 #[inline]
 #[must_use]
 pub fn make(image: &mut [u8], cards: u64, room: u64) -> u8 {
@@ -14,13 +23,23 @@ pub fn make(image: &mut [u8], cards: u64, room: u64) -> u8 {
 }
 
 /// Whether the bytes are a sound image of version 1 (rule 2.6).
+///
+/// ```
+/// assert!(!lupaniele::raw::sound(&[0; 80]));
+/// ```
 #[inline]
 #[must_use]
 pub fn sound(image: &[u8]) -> bool {
     unsafe { sys::lupaniele_sound(image.as_ptr(), image.len()) }
 }
 
-/// One request on an image of version 1 (rule 4.1): the number; the seven fields in `fields`, a text read at the front of `reply`.
+/// One request on an image of version 1 (rule 4.1): the number; the seven fields in `fields`, a text read at the front
+/// of `reply`.
+///
+/// ```
+/// let (mut image, mut fields) = ([0; 80], [0; 7]);
+/// assert_eq!(lupaniele::raw::answer(&mut image, &[], &mut [], &mut fields), 9);
+/// ```
 #[inline]
 #[must_use]
 pub fn answer(image: &mut [u8], command: &[u8], reply: &mut [u8], fields: &mut [u64; 7]) -> u8 {
@@ -38,6 +57,11 @@ pub fn answer(image: &mut [u8], command: &[u8], reply: &mut [u8], fields: &mut [
 }
 
 /// Makes a fresh image of version 2 in the whole of `image` (rule 15.5): 0 or 14.
+///
+/// ```
+/// let mut image = [0; 144];
+/// assert_eq!(lupaniele::raw::make_v2(&mut image, 1, 16), 0);
+/// ```
 #[inline]
 #[must_use]
 pub fn make_v2(image: &mut [u8], cards: u64, room: u64) -> u8 {
@@ -45,6 +69,10 @@ pub fn make_v2(image: &mut [u8], cards: u64, room: u64) -> u8 {
 }
 
 /// Whether the bytes are a sound image of version 2 (rule 15.5).
+///
+/// ```
+/// assert!(!lupaniele::raw::sound_v2(&[0; 144]));
+/// ```
 #[inline]
 #[must_use]
 pub fn sound_v2(image: &[u8]) -> bool {
@@ -52,6 +80,11 @@ pub fn sound_v2(image: &[u8]) -> bool {
 }
 
 /// One request on an image of version 2 (rule 15.8), as [`answer`].
+///
+/// ```
+/// let (mut image, mut fields) = ([0; 144], [0; 7]);
+/// assert_eq!(lupaniele::raw::answer_v2(&mut image, &[], &mut [], &mut fields), 9);
+/// ```
 #[inline]
 #[must_use]
 pub fn answer_v2(image: &mut [u8], command: &[u8], reply: &mut [u8], fields: &mut [u64; 7]) -> u8 {
@@ -69,6 +102,10 @@ pub fn answer_v2(image: &mut [u8], command: &[u8], reply: &mut [u8], fields: &mu
 }
 
 /// Converts an image of version 1 into one of version 2 in the whole of `target` (rule 15.10): 0, 9 or 14.
+///
+/// ```
+/// assert_eq!(lupaniele::raw::convert(&[0; 80], &mut [0; 144]), 9);
+/// ```
 #[inline]
 #[must_use]
 pub fn convert(image: &[u8], target: &mut [u8]) -> u8 {
@@ -82,7 +119,15 @@ pub fn convert(image: &[u8], target: &mut [u8]) -> u8 {
     }
 }
 
-/// Asks for the lock with a mode and a pair (rules 7.6 to 7.10): the number; holds, largest s, largest x and looked at in `fields`.
+/// Asks for the lock with a mode and a pair (rules 7.6 to 7.10): the number; holds, largest s, largest x and looked at
+/// in `fields`.
+///
+/// ```
+/// let (mut modes, mut s, mut x) = ([0; 32], [0; 32], [0; 32]);
+/// let (mut kept, mut fields) = ([0; 3], [0; 4]);
+/// let number = lupaniele::raw::ask(&mut modes, &mut s, &mut x, &mut kept, 32, 1, 65_536, 0, &mut fields);
+/// assert_eq!((number, fields, kept[0]), (0, [1, 65_536, 0, 0], 1));
+/// ```
 #[inline]
 #[must_use]
 pub fn ask(
@@ -100,6 +145,13 @@ pub fn ask(
 }
 
 /// A desk and start leaves the queue (rules 7.12 and 7.13).
+///
+/// ```
+/// let (mut modes, mut s, mut x) = ([0; 32], [0; 32], [0; 32]);
+/// let (mut kept, mut fields) = ([0; 3], [0; 4]);
+/// let number = lupaniele::raw::leave(&mut modes, &mut s, &mut x, &mut kept, 32, 65_536, &mut fields);
+/// assert_eq!(number, 15);
+/// ```
 #[inline]
 #[must_use]
 pub fn leave(
@@ -115,6 +167,16 @@ pub fn leave(
 }
 
 /// A desk that fell silent leaves once its lease is over (rules 13.1 to 13.8).
+///
+/// ```
+/// let (mut modes, mut s, mut x) = ([0; 32], [0; 32], [0; 32]);
+/// let (mut kept, mut fields) = ([0; 3], [0; 4]);
+/// let (period, drift, begin, time) = (0.0, 0.0, 0.0, 0.0);
+/// let number = lupaniele::raw::lapse(
+///     &mut modes, &mut s, &mut x, &mut kept, 32, 65_536, period, drift, begin, time, &mut fields,
+/// );
+/// assert_eq!(number, 21);
+/// ```
 #[inline]
 #[must_use]
 pub fn lapse(
@@ -138,19 +200,38 @@ pub fn lapse(
 }
 
 /// A desk learns a pair (rule 10.2).
+///
+/// ```
+/// let mut known = [1, 5];
+/// lupaniele::raw::learn(&mut known, 3, 4);
+/// assert_eq!(known, [3, 5]);
+/// ```
 #[inline]
 pub fn learn(known: &mut [u64; 2], s: u64, x: u64) {
     unsafe { sys::lupaniele_learn(known, s, x) }
 }
 
 /// A desk proposes a pair (rules 10.3 to 10.7): 0, 1 or 16.
+///
+/// ```
+/// let (mut known, mut pair) = ([0, 0], [0, 0]);
+/// assert_eq!(lupaniele::raw::propose(1, 0, &mut known, 1, &mut pair), 0);
+/// assert_eq!((pair, known), ([65_536, 0], [65_536, 0]));
+/// ```
 #[inline]
 #[must_use]
 pub fn propose(desk: u16, start: u16, known: &mut [u64; 2], mode: u8, pair: &mut [u64; 2]) -> u8 {
     unsafe { sys::lupaniele_propose(desk, start, known, mode, pair) }
 }
 
-/// The text that a desk shows (rules 6.1 to 6.3): the number, and in `count` how many first bytes of the buffer asked for.
+/// The text that a desk shows (rules 6.1 to 6.3): the number, and in `count` how many first bytes of the buffer asked
+/// for.
+///
+/// ```
+/// let mut count = 0;
+/// assert_eq!(lupaniele::raw::shown(b"205", b"401", 3, 3, 1, 1, 1, &mut count), 0);
+/// assert_eq!(count, 3);
+/// ```
 #[inline]
 #[must_use]
 pub fn shown(
@@ -180,6 +261,12 @@ pub fn shown(
 }
 
 /// Whether a whole command of version 1 stands at `at` (rule 8.1), and in `end` the place behind it.
+///
+/// ```
+/// let mut end = 0;
+/// assert!(lupaniele::raw::next(&[0; 60], 0, &mut end));
+/// assert_eq!(end, 52);
+/// ```
 #[inline]
 #[must_use]
 pub fn next(stream: &[u8], at: u64, end: &mut u64) -> bool {
@@ -187,6 +274,10 @@ pub fn next(stream: &[u8], at: u64, end: &mut u64) -> bool {
 }
 
 /// Where the whole commands of a stream of version 1 end (rule 8.2).
+///
+/// ```
+/// assert_eq!(lupaniele::raw::end(&[0; 60]), 52);
+/// ```
 #[inline]
 #[must_use]
 pub fn end(stream: &[u8]) -> u64 {
@@ -194,6 +285,12 @@ pub fn end(stream: &[u8]) -> u64 {
 }
 
 /// Whether a whole command of version 2 stands at `at` (rule 15.6), and in `end` the place behind it.
+///
+/// ```
+/// let mut end = 0;
+/// assert!(lupaniele::raw::next_v2(&[0; 70], 0, &mut end));
+/// assert_eq!(end, 68);
+/// ```
 #[inline]
 #[must_use]
 pub fn next_v2(stream: &[u8], at: u64, end: &mut u64) -> bool {
@@ -201,13 +298,24 @@ pub fn next_v2(stream: &[u8], at: u64, end: &mut u64) -> bool {
 }
 
 /// Where the whole commands of a stream of version 2 end (rule 15.6).
+///
+/// ```
+/// assert_eq!(lupaniele::raw::end_v2(&[0; 70]), 68);
+/// ```
 #[inline]
 #[must_use]
 pub fn end_v2(stream: &[u8]) -> u64 {
     unsafe { sys::lupaniele_end_v2(stream.as_ptr(), stream.len()) }
 }
 
-/// A run over a stream of version 1 (rule 8.5): how many commands were judged; eight numbers for each in `lines`, where it stopped in `end`.
+/// A run over a stream of version 1 (rule 8.5): how many commands were judged; eight numbers for each in `lines`, where
+/// it stopped in `end`.
+///
+/// ```
+/// let (mut lines, mut end) = ([0; 8], 0);
+/// assert_eq!(lupaniele::raw::run(&mut [0; 80], &[0; 60], &mut [], &mut lines, &mut end), 1);
+/// assert_eq!((lines[0], end), (9, 52));
+/// ```
 #[inline]
 #[must_use]
 pub fn run(
@@ -233,6 +341,12 @@ pub fn run(
 }
 
 /// A run over a stream of version 2, as [`run`].
+///
+/// ```
+/// let (mut lines, mut end) = ([0; 8], 0);
+/// assert_eq!(lupaniele::raw::run_v2(&mut [0; 144], &[0; 70], &mut [], &mut lines, &mut end), 1);
+/// assert_eq!((lines[0], end), (9, 68));
+/// ```
 #[inline]
 #[must_use]
 pub fn run_v2(
@@ -258,13 +372,25 @@ pub fn run_v2(
 }
 
 /// What the program prints for these bytes (rule 8.6): how many bytes, at the front of `out`; 0 if `out` is too short.
+///
+/// ```
+/// let mut out = vec![0; lupaniele::OUTPUT_BYTES];
+/// assert_eq!(lupaniele::raw::output(b"", &mut out), 10);
+/// ```
 #[inline]
 #[must_use]
 pub fn output(input: &[u8], out: &mut [u8]) -> u64 {
     unsafe { sys::lupaniele_output(input.as_ptr(), input.len(), out.as_mut_ptr(), out.len()) }
 }
 
-/// Whether two structured texts say the same drops (rule 12.9): 0, 18, 19 or 20, and in `place` where they part (rule 12.10).
+/// Whether two structured texts say the same drops (rule 12.9): 0, 18, 19 or 20, and in `place` where they part (rule
+/// 12.10).
+///
+/// ```
+/// let mut place = 7;
+/// assert_eq!(lupaniele::raw::agree(&[1, 0], &[1, 0], &mut place), 0);
+/// assert_eq!(place, 0);
+/// ```
 #[inline]
 #[must_use]
 pub fn agree(first: &[u8], second: &[u8], place: &mut u64) -> u8 {
@@ -280,6 +406,12 @@ pub fn agree(first: &[u8], second: &[u8], place: &mut u64) -> u8 {
 }
 
 /// One request to the history engine (rules 14.1 to 14.9).
+///
+/// ```
+/// let (mut kept, mut used, mut fields) = (Box::new([0; 43_168]), 0, [0; 7]);
+/// let number = lupaniele::raw::history_answer(&mut kept, &mut used, 1, 16, &[], &mut [], &mut fields);
+/// assert_eq!((number, used), (1, 0));
+/// ```
 #[inline]
 #[must_use]
 pub fn history_answer(
@@ -307,6 +439,11 @@ pub fn history_answer(
 }
 
 /// Whether the bytes are a good log (rule 11.8): 0 or 23.
+///
+/// ```
+/// assert_eq!(lupaniele::raw::log_check(&[0; 2_201]), 0);
+/// assert_eq!(lupaniele::raw::log_check(&[0; 2_200]), 23);
+/// ```
 #[inline]
 #[must_use]
 pub fn log_check(log: &[u8]) -> u8 {
@@ -314,6 +451,12 @@ pub fn log_check(log: &[u8]) -> u8 {
 }
 
 /// Appends a record as far as `stores` stores of one byte go (rules 11.9 to 11.12): 0, 23, 24 or 26.
+///
+/// ```
+/// let mut log = [0; 4_096];
+/// assert_eq!(lupaniele::raw::log_append(&mut log, 1, &[7, 0, 0, 0], 16), 0);
+/// assert_eq!(log[0], 1);
+/// ```
 #[inline]
 #[must_use]
 pub fn log_append(log: &mut [u8], kind: u8, body: &[u8], stores: u64) -> u8 {
@@ -330,6 +473,12 @@ pub fn log_append(log: &mut [u8], kind: u8, body: &[u8], stores: u64) -> u8 {
 }
 
 /// Recovery (rules 11.15 to 11.20): the number, and in `line` the line of a refused write.
+///
+/// ```
+/// let mut line = 7;
+/// assert_eq!(lupaniele::raw::recover(&[0; 2_201], &mut [], &[], &[], &mut line), 0);
+/// assert_eq!(line, 0);
+/// ```
 #[inline]
 #[must_use]
 pub fn recover(log: &[u8], image: &mut [u8], s: &[u64], x: &[u64], line: &mut u64) -> u8 {

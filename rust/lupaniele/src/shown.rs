@@ -27,6 +27,11 @@ pub struct Held<'a> {
 
 impl<'a> Held<'a> {
     /// Two texts that fill their buffers.
+    ///
+    /// ```
+    /// use lupaniele::Held;
+    /// assert_eq!(Held::new(b"205", b"401", 1, 1).original_length, 3);
+    /// ```
     #[must_use]
     pub fn new(
         original: &'a [u8],
@@ -64,6 +69,11 @@ impl<'a> Held<'a> {
     /// # Errors
     ///
     /// [`Number::ReplyShort`] where a length is beyond its buffer, [`Number::EditionWrong`] where it is behind.
+    ///
+    /// ```
+    /// use lupaniele::Held;
+    /// assert_eq!(Held::new(b"205", b"401", 1, 1).translation(), Ok(&b"401"[..]));
+    /// ```
     pub fn translation(&self) -> Result<&'a [u8], Number> {
         self.asked(self.translation, 1)
     }

@@ -19,6 +19,11 @@ pub struct DeskId {
 
 impl DeskId {
     /// This desk under this start.
+    ///
+    /// ```
+    /// use lupaniele::DeskId;
+    /// assert_eq!(DeskId::new(2, 5), DeskId { desk: 2, start: 5 });
+    /// ```
     #[must_use]
     pub const fn new(desk: u16, start: u16) -> DeskId {
         DeskId { desk, start }
@@ -56,9 +61,18 @@ pub struct Stamp(u64);
 
 impl Stamp {
     /// No stamp, zero (rule 1.2).
+    ///
+    /// ```
+    /// assert_eq!(lupaniele::Stamp::NONE.number(), 0);
+    /// ```
     pub const NONE: Stamp = Stamp(0);
 
     /// The stamp T.desk.start.
+    ///
+    /// ```
+    /// use lupaniele::Stamp;
+    /// assert_eq!(Stamp::new(7, 2, 5).to_string(), "7.2.5");
+    /// ```
     #[must_use]
     pub const fn new(t: u32, desk: u16, start: u16) -> Stamp {
         Stamp((t as u64) << 32 | (desk as u64) << 16 | start as u64)
@@ -76,6 +90,10 @@ impl Stamp {
     }
 
     /// Its number.
+    ///
+    /// ```
+    /// assert_eq!(lupaniele::Stamp::new(0, 1, 0).number(), 65_536);
+    /// ```
     #[must_use]
     pub const fn number(self) -> u64 {
         self.0
@@ -92,6 +110,11 @@ impl Stamp {
     }
 
     /// Its desk and start.
+    ///
+    /// ```
+    /// use lupaniele::{DeskId, Stamp};
+    /// assert_eq!(Stamp::new(7, 2, 5).desk_id(), DeskId::new(2, 5));
+    /// ```
     #[must_use]
     pub const fn desk_id(self) -> DeskId {
         DeskId::new((self.0 >> 16) as u16, self.0 as u16)
@@ -161,9 +184,19 @@ pub struct Pair {
 
 impl Pair {
     /// No stamps.
+    ///
+    /// ```
+    /// use lupaniele::{Pair, Stamp};
+    /// assert_eq!(Pair::NONE.s, Stamp::NONE);
+    /// ```
     pub const NONE: Pair = Pair::new(Stamp::NONE, Stamp::NONE);
 
     /// The pair of these two.
+    ///
+    /// ```
+    /// use lupaniele::{Pair, Stamp};
+    /// assert_eq!(Pair::new(Stamp::NONE, Stamp::NONE), Pair::NONE);
+    /// ```
     #[must_use]
     pub const fn new(s: Stamp, x: Stamp) -> Pair {
         Pair { s, x }
@@ -201,9 +234,18 @@ pub struct Mark {
 
 impl Mark {
     /// No mark.
+    ///
+    /// ```
+    /// assert_eq!(lupaniele::Mark::NONE.desk, 0);
+    /// ```
     pub const NONE: Mark = Mark::new(0, 0);
 
     /// The mark of this desk and transaction.
+    ///
+    /// ```
+    /// use lupaniele::Mark;
+    /// assert_eq!(Mark::new(5, 7), Mark { desk: 5, transaction: 7 });
+    /// ```
     #[must_use]
     pub const fn new(desk: u16, transaction: u32) -> Mark {
         Mark { desk, transaction }

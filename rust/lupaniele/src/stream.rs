@@ -25,6 +25,11 @@ pub struct Stream<'a> {
 
 impl<'a> Stream<'a> {
     /// The stream in these bytes.
+    ///
+    /// ```
+    /// use lupaniele::{Stream, Version};
+    /// assert_eq!(Stream::new(Version::Two, &[0; 2 * 68]).count(), 2);
+    /// ```
     #[must_use]
     pub fn new(version: Version, bytes: &'a [u8]) -> Stream<'a> {
         Stream {
@@ -35,6 +40,11 @@ impl<'a> Stream<'a> {
     }
 
     /// Where the whole commands end: the beginning of the first that is not whole, or the end of the bytes.
+    ///
+    /// ```
+    /// use lupaniele::{Stream, Version};
+    /// assert_eq!(Stream::new(Version::One, &[0; 60]).end(), 52);
+    /// ```
     #[must_use]
     pub fn end(&self) -> usize {
         let end = match self.version {

@@ -1,6 +1,6 @@
-//! The exported functions as the proved archives have them: the one place in this workspace that declares them. A slice is a
-//! pointer and a length, an array or a number that is written is a pointer; the names are those of the sources. What each
-//! answers is said in `include/lupaniele.h`. Safe calls of all of them are in [`crate::raw`].
+//! The exported functions as the proved archives have them: the one place in this workspace that declares them. A slice
+//! is a pointer and a length, an array or a number that is written is a pointer; the names are those of the sources.
+//! What each answers is said in `include/lupaniele.h`. Safe calls of all of them are in [`crate::raw`].
 
 #[allow(unsafe_code)]
 unsafe extern "C" {

@@ -52,12 +52,22 @@ pub enum Step {
 
 impl Step {
     /// A step of words.
+    ///
+    /// ```
+    /// use lupaniele::Step;
+    /// assert_eq!(Step::words("Drop"), Step::Words(b"Drop".to_vec()));
+    /// ```
     #[must_use]
     pub fn words(words: impl AsRef<[u8]>) -> Step {
         Step::Words(words.as_ref().to_vec())
     }
 
     /// A drop.
+    ///
+    /// ```
+    /// use lupaniele::{Step, Unit};
+    /// assert_eq!(Step::drop(4_010, Unit::Fahrenheit).to_string(), "401.0 F");
+    /// ```
     #[must_use]
     pub fn drop(tenths: u16, unit: Unit) -> Step {
         Step::Drop { tenths, unit }
@@ -114,6 +124,11 @@ pub struct Text {
 
 impl Text {
     /// The text of these steps.
+    ///
+    /// ```
+    /// use lupaniele::{Step, Text};
+    /// assert_eq!(Text::new([Step::words("Drop")]).steps.len(), 1);
+    /// ```
     #[must_use]
     pub fn new(steps: impl IntoIterator<Item = Step>) -> Text {
         Text {
@@ -190,8 +205,15 @@ impl Text {
         2 + self.steps.iter().map(Step::length).sum::<usize>()
     }
 
-    /// The step that begins at a byte of the text: its path, counted from 1 in each section, and the step. None begins at the end of the text,
-    /// nor within a step.
+    /// The step that begins at a byte of the text: its path, counted from 1 in each section, and the step. None begins
+    /// at the end of the text, nor within a step.
+    ///
+    /// ```
+    /// use lupaniele::{Step, Text};
+    /// let inner = Text::new([Step::words("Drop")]);
+    /// let text = Text::new([Step::words("Charge"), Step::Section(inner)]);
+    /// assert_eq!(text.step_at(13).map(|(path, _)| path), Some(vec![2, 1]));
+    /// ```
     #[must_use]
     pub fn step_at(&self, place: usize) -> Option<(Vec<usize>, &Step)> {
         let (mut path, mut section, mut at) = (Vec::new(), self, 2);
@@ -310,13 +332,19 @@ pub enum Disagreement {
     SecondIll,
     /// They part.
     Parted {
-        /// The byte of the first text where its first step without a match begins, or just past the section in which the second has a step more.
+        /// The byte of the first text where its first step without a match begins, or just past the section in which
+        /// the second has a step more.
         place: usize,
     },
 }
 
 impl Disagreement {
     /// Its number.
+    ///
+    /// ```
+    /// use lupaniele::{Disagreement, Number};
+    /// assert_eq!(Disagreement::SecondIll.number(), Number::SecondIll);
+    /// ```
     #[must_use]
     pub fn number(self) -> Number {
         match self {

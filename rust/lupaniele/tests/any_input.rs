@@ -1,5 +1,5 @@
-//! Any bytes get an answer or an error, never a panic; what is read is written back as the same bytes; what is no sound image breaks a rule
-//! that is named.
+//! Any bytes get an answer or an error, never a panic; what is read is written back as the same bytes; what is no sound
+//! image breaks a rule that is named.
 
 use lupaniele::{
     Act, Action, Broken, Command, Image, Language, Log, Mark, Mode, Pair, Record, Side, Stamp,

@@ -1,11 +1,15 @@
-//! Desks over a line that loses, delays and repeats commands, with logs that are cut at any store, going down and starting again: what is accepted
-//! is what a store would show in which a commit is one step, sessions are isolated, and in the end everything is finished.
+//! Desks over a line that loses, delays and repeats commands, with logs that are cut at any store, going down and
+//! starting again: what is accepted is what a store would show in which a commit is one step, sessions are isolated,
+//! and in the end everything is finished.
 
 use std::cell::RefCell;
 use std::collections::{BTreeMap, BTreeSet};
 use std::rc::Rc;
 
-use lupaniele::desk::{Desk, Exclusive, Failed, Journal, Refusal, Session, Shared, Store, Undone};
+use lupaniele::desk::{
+    Desk, Exclusive, Failed, Journal, Original, Refusal, Session, Shared, Store, Transaction,
+    Undone, Why,
+};
 use lupaniele::{
     Action, Answer, AppendError, Command, DeskId, Image, Language, Log, Mark, Mode, Number, Pair,
     Queue, Record, Side, Stamp, Version,
@@ -264,6 +268,30 @@ impl Journal for Disk {
     }
 }
 
+/// A transaction is to write something on a card, upon what was read or not.
+fn plan(
+    random: &mut Random,
+    transaction: &mut Transaction<Line, Disk>,
+    early: &Result<Original, Failed<&'static str>>,
+    card: u16,
+    text: &[u8],
+) -> Result<(), AppendError<&'static str>> {
+    match (random.below(4), &early) {
+        (0, _) => transaction.write_original(card, text),
+        (1, _) => transaction.write_both(card, text, &translated(text)),
+        (2, Ok(early)) if card == 0 => {
+            transaction.write_translation(early, &translated(early.text()))
+        }
+        _ => match (transaction.read_original(card), random.one_in(2)) {
+            (Ok(original), true) => {
+                transaction.write_translation(&original, &translated(original.text()))
+            }
+            (Ok(original), false) => transaction.write_original(card, &edited(original.text())),
+            (Err(_), _) => Ok(()),
+        },
+    }
+}
+
 struct Town {
     line: Line,
     seen: Rc<RefCell<Seen>>,
@@ -367,7 +395,8 @@ impl Town {
         })
     }
 
-    /// Puts a sign behind an original: nobody comes between, whether it was read in the same session or in one that is upgraded.
+    /// Puts a sign behind an original: nobody comes between, whether it was read in the same session or in one that is
+    /// upgraded.
     fn edit(&mut self, at: usize, card: u16) -> Result<(), Failed<&'static str>> {
         let (desk, _) = &mut self.desks[at];
         let written = match self.random.one_in(2) {
@@ -418,23 +447,7 @@ impl Town {
             Err(_) => return true,
         };
         for (card, text) in cards.iter().zip(&texts) {
-            let planned = match (self.random.below(4), &early) {
-                (0, _) => transaction.write_original(*card, text),
-                (1, _) => transaction.write_both(*card, text, &translated(text)),
-                (2, Ok(early)) if *card == 0 => {
-                    transaction.write_translation(early, &translated(early.text()))
-                }
-                _ => match (transaction.read_original(*card), self.random.one_in(2)) {
-                    (Ok(original), true) => {
-                        transaction.write_translation(&original, &translated(original.text()))
-                    }
-                    (Ok(original), false) => {
-                        transaction.write_original(*card, &edited(original.text()))
-                    }
-                    (Err(_), _) => Ok(()),
-                },
-            };
-            if planned.is_err() {
+            if plan(&mut self.random, &mut transaction, &early, *card, text).is_err() {
                 return true;
             }
         }
@@ -554,31 +567,37 @@ fn desks_keep_the_rules_whatever_is_cut() {
     }
 }
 
+/// A log of records as they come.
+fn random_log(random: &mut Random) -> Log {
+    let mut log = Log::empty(4_096).expect("a log of this length");
+    let mut begun = 0;
+    for _ in 0..random.below(14) {
+        let (card, transaction) = (random.below(2) as u16, random.below(4) as u32);
+        let text = random.bytes(3);
+        let side = [Side::Original, Side::Translation][random.index(2)];
+        let record = match random.below(5) {
+            0 => Record::Begin(begun + 1),
+            1 => Record::Commit(begun),
+            2 => Record::Synced { card, transaction },
+            _ => Record::Update {
+                card,
+                side,
+                text: &text,
+            },
+        };
+        if log.append(&record).is_ok() && record.kind() == 1 {
+            begun += 1;
+        }
+    }
+    log
+}
+
 /// A desk writes what the store's own recovery writes: on random logs, with every card under the desk's mark.
 #[test]
 fn what_is_due_is_what_recovery_writes() {
     let (mut random, mut written) = (Random::new(7), 0);
     for _ in 0..20_000 {
-        let mut log = Log::empty(4_096).expect("a log of this length");
-        let mut begun = 0;
-        for _ in 0..random.below(14) {
-            let (card, transaction) = (random.below(2) as u16, random.below(4) as u32);
-            let text = random.bytes(3);
-            let side = [Side::Original, Side::Translation][random.index(2)];
-            let record = match random.below(5) {
-                0 => Record::Begin(begun + 1),
-                1 => Record::Commit(begun),
-                2 => Record::Synced { card, transaction },
-                _ => Record::Update {
-                    card,
-                    side,
-                    text: &text,
-                },
-            };
-            if log.append(&record).is_ok() && record.kind() == 1 {
-                begun += 1;
-            }
-        }
+        let mut log = random_log(&mut random);
         let mut image = Image::make(Version::One, 2, 16).expect("an image of this shape");
         let pair = Pair::new(Stamp::NONE, Stamp::new(1, 1, 0));
         for card in 0..2 {
@@ -606,4 +625,17 @@ fn what_is_due_is_what_recovery_writes() {
         }
     }
     assert!(written > 1_000);
+}
+
+/// There are no logs for version 2, so there are no transactions on it.
+#[test]
+fn no_transactions_on_version_2() {
+    let mut store = Image::make(Version::Two, 1, 16).expect("an image of this shape");
+    let mut log = Log::empty(4_096).expect("a log of this length");
+    let mut desk = Desk::start(DeskId::new(1, 0));
+    let refused = desk.transaction(&mut store, &mut log).map(|_| ());
+    assert_eq!(refused, Err(Undone::Aborted(Why::Version)));
+    let refused = desk.recover(&mut store, &mut log);
+    assert_eq!(refused, Err(Undone::Committed(Why::Version)));
+    assert_eq!(log.count(), 0);
 }

@@ -1,4 +1,5 @@
-//! Each example prints what stands beside it in its `.stdout`, and docs/RUST.md shows the files that it names as they are.
+//! Each example prints what stands beside it in its `.stdout`, and docs/RUST.md shows the files that it names as they
+//! are.
 
 use std::fs;
 use std::path::{Path, PathBuf};

@@ -10,7 +10,7 @@ use crate::library::Library;
 use crate::rule::Rule;
 use crate::scene::Scene;
 use crate::tally::{grouped, Tally};
-use crate::town::{Shape, Town};
+use crate::town::{Outcome, Shape, Town};
 
 /// Towns with a broken rule, and what broke in them.
 #[derive(Clone, Copy, Debug, Default, PartialEq, Eq)]
@@ -80,7 +80,35 @@ pub fn run<L: Library>(library: &mut L, tally: &mut Tally, plan: Plan) -> Result
     Ok(())
 }
 
-/// Runs one town; after a breach it is run again, for its last steps in words.
+/// How often each thing became of what guests did.
+pub type Outcomes = [u64; Outcome::ALL.len()];
+
+/// Runs towns with guests, desks of the crate `lupaniele`, until so many steps
+/// are made, or up to the first breach.
+pub fn guests<L: Library>(
+    library: &mut L,
+    tally: &mut Tally,
+    seed: u64,
+    steps: u64,
+) -> Result<Outcomes, Box<Stop>> {
+    let (mut all, mut town) = (Outcomes::default(), 0);
+    while tally.steps < steps {
+        let own = town_seed(seed ^ 0x6e57, town);
+        let mut random = Random::new(own);
+        let shape = Shape {
+            guests: random.pick(&[1, 2, 3]),
+            ..Shape::any(&mut random)
+        };
+        let outcomes = in_town(library, tally, own, shape, town)?;
+        all.iter_mut()
+            .zip(outcomes)
+            .for_each(|(all, count)| *all += count);
+        town += 1;
+    }
+    Ok(all)
+}
+
+/// Runs one town of a run.
 fn one<L: Library>(
     library: &mut L,
     tally: &mut Tally,
@@ -88,10 +116,22 @@ fn one<L: Library>(
     town: u64,
 ) -> Result<(), Box<Stop>> {
     let own = town_seed(seed, town);
-    let shape = shape(own, town);
-    let ran = Town::new(library, tally, own, shape, None).and_then(|mut town| town.run());
-    let Err(breach) = ran else {
-        return Ok(());
+    in_town(library, tally, own, shape(own, town), town).map(|_| ())
+}
+
+/// Runs one town; after a breach it is run again, for its last steps in words.
+fn in_town<L: Library>(
+    library: &mut L,
+    tally: &mut Tally,
+    own: u64,
+    shape: Shape,
+    town: u64,
+) -> Result<Outcomes, Box<Stop>> {
+    let ran = Town::new(library, tally, own, shape, None)
+        .and_then(|mut town| town.run().map(|()| town.outcomes));
+    let breach = match ran {
+        Ok(outcomes) => return Ok(outcomes),
+        Err(breach) => breach,
     };
     let mut again = Tally::default();
     let mut last = Vec::new();

@@ -4,16 +4,16 @@ use crate::{Log, Record, Side};
 
 /// An update of a log.
 #[derive(Clone, Copy, Debug, PartialEq, Eq)]
-pub(super) struct Update<'a> {
-    pub(super) transaction: u32,
-    pub(super) card: u16,
-    pub(super) side: Side,
-    pub(super) text: &'a [u8],
+pub(crate) struct Update<'a> {
+    pub(crate) transaction: u32,
+    pub(crate) card: u16,
+    pub(crate) side: Side,
+    pub(crate) text: &'a [u8],
 }
 
-/// The updates of a log that are due, in its order: those of committed transactions for whose card no synced record names theirs or a
-/// higher one (rule 11.15). Held to the store's own recovery by a test.
-pub(super) fn due<'a, B: AsRef<[u8]>>(log: &'a Log<B>) -> Vec<Update<'a>> {
+/// The updates of a log that are due, in its order: those of committed transactions for whose card no synced record
+/// names theirs or a higher one (rule 11.15). Held to the store's own recovery by a test.
+pub(crate) fn due<'a, B: AsRef<[u8]>>(log: &'a Log<B>) -> Vec<Update<'a>> {
     let (mut open, mut updates) = (0, Vec::new());
     let mut committed = BTreeSet::new();
     let mut synced: BTreeMap<u16, u32> = BTreeMap::new();
@@ -44,7 +44,7 @@ pub(super) fn due<'a, B: AsRef<[u8]>>(log: &'a Log<B>) -> Vec<Update<'a>> {
 }
 
 /// The cards that a log updates, committed or not, in the order of their first updates.
-pub(super) fn updated<B: AsRef<[u8]>>(log: &Log<B>) -> Vec<u16> {
+pub(crate) fn updated<B: AsRef<[u8]>>(log: &Log<B>) -> Vec<u16> {
     let mut cards = Vec::new();
     for record in log.records() {
         match record {

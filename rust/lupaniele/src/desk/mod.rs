@@ -1,12 +1,13 @@
-//! A desk that keeps the rules by itself: it knows and proposes (rules 10.1 to 10.9), sends under its own pairs, learns from every answer, shows
-//! what may be shown (section 6), and changes several cards at once by its log.
+//! A desk that keeps the rules by itself: it knows and proposes (rules 10.1 to 10.9), sends under its own pairs, learns
+//! from every answer, shows what may be shown (section 6), and changes several cards at once by its log.
 //!
 //! - [`Desk`]: reads and writes cards; [`Session`]: several commands that nobody else comes between.
-//! - [`Store`], [`Locks`], [`Journal`]: what the caller brings: the way to the store, to the lock managers, and the desk's log.
+//! - [`Store`], [`Locks`], [`Journal`]: what the caller brings: the way to the store, to the lock managers, and the
+//!   desk's log.
 //! - [`Transaction`]: several cards, all or nothing.
 //! - [`Failed`], [`Refusal`], [`NotShown`]: why not, as types.
 
-mod due;
+pub(crate) mod due;
 mod kept;
 mod refused;
 mod session;
@@ -71,7 +72,8 @@ pub trait Store {
     /// The room of its texts, C.
     fn room(&self) -> u16;
 
-    /// Takes a command to the store and brings its answer back; the text of an accepted read stands in front of `reply` then.
+    /// Takes a command to the store and brings its answer back; the text of an accepted read stands in front of `reply`
+    /// then.
     ///
     /// # Errors
     ///
@@ -141,7 +143,8 @@ impl Locks for [Queue] {
     }
 }
 
-/// A desk's log, wherever it is kept. A [`Log`] is one, in memory; a log in a file is one that survives a power cut.
+/// A desk's log, wherever it is kept. A [`Log`] is one, in memory; [`LogFile`](crate::files::LogFile) is one that
+/// survives a power cut.
 ///
 /// ```
 /// use lupaniele::desk::Journal;
@@ -210,7 +213,13 @@ pub struct Desk {
 
 impl Desk {
     /// A desk starts, and knows nothing. Its start is one that this desk never had before (rule 10.9), as
-    /// a file of its own would give them.
+    /// [`files::next_start`](crate::files::next_start) gives them.
+    ///
+    /// ```
+    /// use lupaniele::desk::Desk;
+    /// use lupaniele::{DeskId, Pair};
+    /// assert_eq!(Desk::start(DeskId::new(1, 0)).known(0), Pair::NONE);
+    /// ```
     #[must_use]
     pub fn start(id: DeskId) -> Desk {
         Desk {
@@ -236,6 +245,12 @@ impl Desk {
     }
 
     /// Who it is.
+    ///
+    /// ```
+    /// use lupaniele::DeskId;
+    /// use lupaniele::desk::Desk;
+    /// assert_eq!(Desk::start(DeskId::new(1, 4)).id(), DeskId::new(1, 4));
+    /// ```
     #[must_use]
     pub fn id(&self) -> DeskId {
         self.id
@@ -274,7 +289,8 @@ impl Desk {
         self.cards.entry(card).or_insert_with(|| Kept::nothing(id))
     }
 
-    /// Sends a command, and learns from its answer whatever it is. The text that was read stands in front of the returned bytes.
+    /// Sends a command, and learns from its answer whatever it is. The text that was read stands in front of the
+    /// returned bytes.
     fn send<S: Store>(
         &mut self,
         store: &mut S,
@@ -292,8 +308,9 @@ impl Desk {
         Ok((answer, reply))
     }
 
-    /// Does some work in a session on a card, and does it again from its beginning, under a new pair, if the session was lost (number 3): so often
-    /// as [`trying`](Desk::trying) says, and then it says so. What an earlier try wrote stands.
+    /// Does some work in a session on a card, and does it again from its beginning, under a new pair, if the session
+    /// was lost (number 3): so often as [`trying`](Desk::trying) says, and then it says so. What an earlier try wrote
+    /// stands.
     ///
     /// # Errors
     ///
@@ -339,6 +356,15 @@ impl Desk {
     /// # Errors
     ///
     /// Why not.
+    ///
+    /// ```
+    /// use lupaniele::desk::Desk;
+    /// use lupaniele::{DeskId, Image, Version};
+    /// let mut store = Image::make(Version::One, 1, 16)?;
+    /// let mut desk = Desk::start(DeskId::new(1, 0));
+    /// assert_eq!(desk.read_original(&mut store, 0).unwrap().text(), b"");
+    /// # Ok::<(), lupaniele::Number>(())
+    /// ```
     pub fn read_original<S: Store>(
         &mut self,
         store: &mut S,
@@ -354,6 +380,16 @@ impl Desk {
     /// # Errors
     ///
     /// Why not: [`Refusal::Behind`] where it is behind.
+    ///
+    /// ```
+    /// use lupaniele::desk::{Desk, Failed, Refusal};
+    /// use lupaniele::{DeskId, Image, Language, Version};
+    /// let mut store = Image::make(Version::One, 1, 16)?;
+    /// let mut desk = Desk::start(DeskId::new(1, 0));
+    /// let behind = Refusal::Behind { edition: 0, translated_from: 0 };
+    /// assert_eq!(desk.read_translation(&mut store, 0, Language::First), Err(Failed::Refused(behind)));
+    /// # Ok::<(), lupaniele::Number>(())
+    /// ```
     pub fn read_translation<S: Store>(
         &mut self,
         store: &mut S,
@@ -370,6 +406,15 @@ impl Desk {
     /// # Errors
     ///
     /// Why not.
+    ///
+    /// ```
+    /// use lupaniele::desk::Desk;
+    /// use lupaniele::{DeskId, Image, Version};
+    /// let mut store = Image::make(Version::One, 1, 16)?;
+    /// let mut desk = Desk::start(DeskId::new(1, 0));
+    /// assert_eq!(desk.write_original(&mut store, 0, b"205").unwrap().edition(), 1);
+    /// # Ok::<(), lupaniele::Number>(())
+    /// ```
     pub fn write_original<S: Store>(
         &mut self,
         store: &mut S,
@@ -385,8 +430,18 @@ impl Desk {
     ///
     /// # Errors
     ///
-    /// Why not: [`Refusal::Behind`] where the original is no longer that one. It is then to be read and translated again, so this is not
-    /// tried again.
+    /// Why not: [`Refusal::Behind`] where the original is no longer that one. It is then to be read and translated
+    /// again, so this is not tried again.
+    ///
+    /// ```
+    /// use lupaniele::desk::Desk;
+    /// use lupaniele::{DeskId, Image, Language, Version};
+    /// let mut store = Image::make(Version::One, 1, 16)?;
+    /// let mut desk = Desk::start(DeskId::new(1, 0));
+    /// let original = desk.write_original(&mut store, 0, b"205").unwrap();
+    /// assert_eq!(desk.write_translation(&mut store, &original, Language::First, b"401"), Ok(()));
+    /// # Ok::<(), lupaniele::Number>(())
+    /// ```
     pub fn write_translation<S: Store>(
         &mut self,
         store: &mut S,
@@ -403,12 +458,20 @@ impl Desk {
         )
     }
 
-    /// Asks for the lock of a card. What is denied is asked for again with what was learnt (rule 10.10). Sessions in that mode then go under the
-    /// pair that was accepted, until one of them is lost.
+    /// Asks for the lock of a card. What is denied is asked for again with what was learnt (rule 10.10). Sessions in
+    /// that mode then go under the pair that was accepted, until one of them is lost.
     ///
     /// # Errors
     ///
     /// Where no answer came back, or the desk has no pair to propose. Any number of the queue is an answer.
+    ///
+    /// ```
+    /// use lupaniele::desk::Desk;
+    /// use lupaniele::{DeskId, Mode, Queue};
+    /// let (mut queues, mut desk) = ([Queue::new(4)?], Desk::start(DeskId::new(1, 0)));
+    /// assert!(desk.ask(&mut queues[..], 0, Mode::Shared).is_ok_and(|answer| answer.holds));
+    /// # Ok::<(), lupaniele::Number>(())
+    /// ```
     pub fn ask<L: Locks + ?Sized>(
         &mut self,
         locks: &mut L,
@@ -436,6 +499,15 @@ impl Desk {
     /// # Errors
     ///
     /// Where no answer came back.
+    ///
+    /// ```
+    /// use lupaniele::desk::Desk;
+    /// use lupaniele::{DeskId, Number, Queue};
+    /// let (mut queues, mut desk) = ([Queue::new(4)?], Desk::start(DeskId::new(1, 0)));
+    /// let answer = desk.leave(&mut queues[..], 0).unwrap();
+    /// assert_eq!(answer.number, Number::NotStanding);
+    /// # Ok::<(), Number>(())
+    /// ```
     pub fn leave<L: Locks + ?Sized>(
         &mut self,
         locks: &mut L,

@@ -14,7 +14,8 @@ use crate::{Answer, BuildError, Mark, Number};
 pub enum Failed<E> {
     /// The store refused it.
     Refused(Refusal),
-    /// No answer came back. Whether the store got it is not known: what was read still is not changed by it, what was written may be.
+    /// No answer came back. Whether the store got it is not known: what was read still is not changed by it, what was
+    /// written may be.
     Transport(E),
     /// The desk can propose no pair for this card.
     NoPair(Number),
@@ -39,8 +40,8 @@ pub enum Refusal {
         /// How often it was tried.
         tries: u32,
     },
-    /// The card bears the mark of a transaction that may not be written out whole: until that desk has done so, or somebody has recovered its
-    /// log for it, nobody reads or writes the card.
+    /// The card bears the mark of a transaction that may not be written out whole: until that desk has done so, or
+    /// somebody has recovered its log for it, nobody reads or writes the card.
     Marked(Mark),
     /// The translation is behind, or the original is no longer the one that it was made from.
     Behind {
@@ -87,6 +88,13 @@ impl Refusal {
 
 impl<E> Failed<E> {
     /// The number of the answer that said no, if one did.
+    ///
+    /// ```
+    /// use lupaniele::Number;
+    /// use lupaniele::desk::Failed;
+    /// assert_eq!(Failed::<()>::NoPair(Number::NoStampLeft).number(), Some(Number::NoStampLeft));
+    /// assert_eq!(Failed::Transport(()).number(), None);
+    /// ```
     #[must_use]
     pub fn number(&self) -> Option<Number> {
         match self {

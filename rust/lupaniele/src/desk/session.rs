@@ -42,8 +42,8 @@ impl InMode for Exclusive {
     const MODE: Mode = Mode::Exclusive;
 }
 
-/// An original that a store gave or took: its card, its edition, its text. Only answers make one, so a translation never names an edition that
-/// nobody read.
+/// An original that a store gave or took: its card, its edition, its text. Only answers make one, so a translation
+/// never names an edition that nobody read.
 ///
 /// ```
 /// use lupaniele::desk::Desk;
@@ -62,28 +62,56 @@ pub struct Original {
 
 impl Original {
     /// The card that it is of.
+    ///
+    /// ```
+    /// use lupaniele::desk::Desk;
+    /// use lupaniele::{DeskId, Image, Version};
+    /// let mut store = Image::make(Version::One, 1, 16)?;
+    /// let mut desk = Desk::start(DeskId::new(1, 0));
+    /// assert_eq!(desk.read_original(&mut store, 0).unwrap().card(), 0);
+    /// # Ok::<(), lupaniele::Number>(())
+    /// ```
     #[must_use]
     pub fn card(&self) -> u16 {
         self.card
     }
 
     /// Its edition.
+    ///
+    /// ```
+    /// use lupaniele::desk::Desk;
+    /// use lupaniele::{DeskId, Image, Version};
+    /// let mut store = Image::make(Version::One, 1, 16)?;
+    /// let mut desk = Desk::start(DeskId::new(1, 0));
+    /// assert_eq!(desk.write_original(&mut store, 0, b"205").unwrap().edition(), 1);
+    /// # Ok::<(), lupaniele::Number>(())
+    /// ```
     #[must_use]
     pub fn edition(&self) -> u16 {
         self.edition
     }
 
     /// Its text.
+    ///
+    /// ```
+    /// use lupaniele::desk::Desk;
+    /// use lupaniele::{DeskId, Image, Version};
+    /// let mut store = Image::make(Version::One, 1, 16)?;
+    /// let mut desk = Desk::start(DeskId::new(1, 0));
+    /// assert_eq!(desk.write_original(&mut store, 0, b"205").unwrap().text(), b"205");
+    /// # Ok::<(), lupaniele::Number>(())
+    /// ```
     #[must_use]
     pub fn text(&self) -> &[u8] {
         &self.text
     }
 }
 
-/// A session of a desk on one card. In a shared one all commands go under one pair, and between two that are accepted nobody else's exclusive
-/// command is (rule 9.6). In an exclusive one each command relies on what the one before it left, so that it is stale if anybody else's was
-/// accepted since; and each write goes under a new pair, so that it is accepted once, however often the transport brings it. A session opens inside its first
-/// command (rule 3.4). [`Desk::session`] makes one.
+/// A session of a desk on one card. In a shared one all commands go under one pair, and between two that are accepted
+/// nobody else's exclusive command is (rule 9.6). In an exclusive one each command relies on what the one before it
+/// left, so that it is stale if anybody else's was accepted since; and each write goes under a new pair, so that it is
+/// accepted once, however often the transport brings it. A session opens inside its first command (rule 3.4).
+/// [`Desk::session`] makes one.
 ///
 /// ```
 /// use lupaniele::desk::{Desk, Session, Shared};
@@ -138,6 +166,16 @@ impl<'a, S: Store, M: InMode> Session<'a, S, M> {
     }
 
     /// The pair that its next command goes under, if that is no write.
+    ///
+    /// ```
+    /// use lupaniele::desk::{Desk, Exclusive, Session};
+    /// use lupaniele::{DeskId, Image, Version};
+    /// let mut store = Image::make(Version::One, 1, 16)?;
+    /// let mut desk = Desk::start(DeskId::new(1, 0));
+    /// let pair = desk.session(&mut store, 0, |session: Session<_, Exclusive>| Ok(session.pair())).unwrap();
+    /// assert_eq!(pair.x.desk_id(), desk.id());
+    /// # Ok::<(), lupaniele::Number>(())
+    /// ```
     #[must_use]
     pub fn pair(&self) -> Pair {
         self.pair
@@ -166,6 +204,16 @@ impl<'a, S: Store, M: InMode> Session<'a, S, M> {
     /// # Errors
     ///
     /// Why not.
+    ///
+    /// ```
+    /// use lupaniele::desk::{Desk, Session, Shared};
+    /// use lupaniele::{DeskId, Image, Version};
+    /// let mut store = Image::make(Version::One, 1, 16)?;
+    /// let mut desk = Desk::start(DeskId::new(1, 0));
+    /// let answer = desk.session(&mut store, 0, |mut session: Session<_, Shared>| session.verify());
+    /// assert!(answer.unwrap().is_accepted());
+    /// # Ok::<(), lupaniele::Number>(())
+    /// ```
     pub fn verify(&mut self) -> Result<Answer, Failed<S::Error>> {
         self.send(Action::Verify).map(|(answer, _)| answer)
     }
@@ -175,6 +223,16 @@ impl<'a, S: Store, M: InMode> Session<'a, S, M> {
     /// # Errors
     ///
     /// Why not.
+    ///
+    /// ```
+    /// use lupaniele::desk::{Desk, Session, Shared};
+    /// use lupaniele::{DeskId, Image, Version};
+    /// let mut store = Image::make(Version::One, 1, 16)?;
+    /// let mut desk = Desk::start(DeskId::new(1, 0));
+    /// let read = desk.session(&mut store, 0, |mut session: Session<_, Shared>| session.read_original());
+    /// assert_eq!(read.unwrap().text(), b"");
+    /// # Ok::<(), lupaniele::Number>(())
+    /// ```
     pub fn read_original(&mut self) -> Result<Original, Failed<S::Error>> {
         let (answer, text) = self.send(Action::ReadOriginal)?;
         Ok(Original {
@@ -189,6 +247,18 @@ impl<'a, S: Store, M: InMode> Session<'a, S, M> {
     /// # Errors
     ///
     /// Why not.
+    ///
+    /// ```
+    /// use lupaniele::desk::{Desk, Session, Shared};
+    /// use lupaniele::{DeskId, Image, Language, Version};
+    /// let mut store = Image::make(Version::One, 1, 16)?;
+    /// let mut desk = Desk::start(DeskId::new(1, 0));
+    /// let read = desk.session(&mut store, 0, |mut session: Session<_, Shared>| {
+    ///     session.read_translation(Language::First)
+    /// });
+    /// assert!(read.is_err()); // there is none yet
+    /// # Ok::<(), lupaniele::Number>(())
+    /// ```
     pub fn read_translation(&mut self, language: Language) -> Result<Vec<u8>, Failed<S::Error>> {
         self.send(Action::ReadTranslation(language))
             .map(|(_, text)| text)
@@ -196,12 +266,25 @@ impl<'a, S: Store, M: InMode> Session<'a, S, M> {
 }
 
 impl<'a, S: Store> Session<'a, S, Shared> {
-    /// An exclusive session, which opens inside its first command and relies there on this one: if somebody else came in between, that command
-    /// is stale.
+    /// An exclusive session, which opens inside its first command and relies there on this one: if somebody else came
+    /// in between, that command is stale.
     ///
     /// # Errors
     ///
     /// Where the desk has no pair to propose.
+    ///
+    /// ```
+    /// use lupaniele::desk::{Desk, Session, Shared};
+    /// use lupaniele::{DeskId, Image, Version};
+    /// let mut store = Image::make(Version::One, 1, 16)?;
+    /// let mut desk = Desk::start(DeskId::new(1, 0));
+    /// let written = desk.session(&mut store, 0, |mut session: Session<_, Shared>| {
+    ///     let text = session.read_original()?.text().repeat(2);
+    ///     session.upgrade()?.write_original(&text)
+    /// });
+    /// assert!(written.is_ok());
+    /// # Ok::<(), lupaniele::Number>(())
+    /// ```
     pub fn upgrade(self) -> Result<Session<'a, S, Exclusive>, Failed<S::Error>> {
         let kept = self.desk.kept(self.card);
         let pair = kept.propose(Mode::Exclusive)?;
@@ -232,6 +315,19 @@ impl<S: Store> Session<'_, S, Exclusive> {
     /// # Errors
     ///
     /// Why not.
+    ///
+    /// ```
+    /// use lupaniele::desk::{Desk, Exclusive, Session};
+    /// use lupaniele::{DeskId, Image, Version};
+    /// let mut store = Image::make(Version::One, 1, 16)?;
+    /// let mut desk = Desk::start(DeskId::new(1, 0));
+    /// let written = desk.session(&mut store, 0, |mut session: Session<_, Exclusive>| {
+    ///     session.write_original(b"200")?;
+    ///     session.write_original(b"205")
+    /// });
+    /// assert_eq!(written.unwrap().edition(), 2);
+    /// # Ok::<(), lupaniele::Number>(())
+    /// ```
     pub fn write_original(&mut self, text: &[u8]) -> Result<Original, Failed<S::Error>> {
         let answer = self.write(Action::WriteOriginal(text))?;
         Ok(Original {
@@ -246,6 +342,19 @@ impl<S: Store> Session<'_, S, Exclusive> {
     /// # Errors
     ///
     /// Why not.
+    ///
+    /// ```
+    /// use lupaniele::desk::{Desk, Exclusive, Session};
+    /// use lupaniele::{DeskId, Image, Language, Version};
+    /// let mut store = Image::make(Version::One, 1, 16)?;
+    /// let mut desk = Desk::start(DeskId::new(1, 0));
+    /// let written = desk.session(&mut store, 0, |mut session: Session<_, Exclusive>| {
+    ///     let original = session.write_original(b"205")?;
+    ///     session.write_translation(&original, Language::First, b"401")
+    /// });
+    /// assert_eq!(written, Ok(()));
+    /// # Ok::<(), lupaniele::Number>(())
+    /// ```
     pub fn write_translation(
         &mut self,
         original: &Original,

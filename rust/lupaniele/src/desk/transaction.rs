@@ -1,13 +1,15 @@
 use std::fmt;
 
-use crate::{Action, AppendError, Command, Language, Log, Mark, Mode, Number, Record, Side};
+use crate::{
+    Action, AppendError, Command, Language, Log, Mark, Mode, Number, Record, Side, Version,
+};
 
 use super::due::{due, updated};
 use super::{Desk, Failed, Journal, Original, Refusal, Store};
 
-/// Several cards that are changed at once, all or nothing, whatever is cut (after 003, section 3.4.2): the updates go to the desk's log, the cards get its mark, a commit is
-/// appended, and then the cards are written one by one; who reads one of them meanwhile is turned away by the mark. [`Desk::transaction`] makes
-/// one. Of version 1, as logs are.
+/// Several cards that are changed at once, all or nothing, whatever is cut (after 003, section 3.4.2): the updates go
+/// to the desk's log, the cards get its mark, a commit is appended, and then the cards are written one by one; who
+/// reads one of them meanwhile is turned away by the mark. [`Desk::transaction`] makes one. Of version 1, as logs are.
 ///
 /// ```
 /// use lupaniele::desk::Desk;
@@ -83,6 +85,8 @@ pub enum Why<E, J> {
     Log(AppendError<J>),
     /// The log cannot be read.
     BadLog(Number),
+    /// The store is of version 2, and logs are of version 1 (rule 15.13).
+    Version,
     /// Something of an earlier transaction is due.
     Unfinished,
     /// What is to be written would be refused with this number once it is committed.
@@ -120,12 +124,26 @@ impl Desk {
     ///
     /// # Errors
     ///
-    /// Where the log cannot take it, or an earlier transaction is not written out: recover first.
+    /// Where the log cannot take it, an earlier transaction is not written out (recover first), or the store is of version 2, for
+    /// which there are no logs.
+    ///
+    /// ```
+    /// use lupaniele::desk::Desk;
+    /// use lupaniele::{DeskId, Image, Log, Version};
+    /// let (mut store, mut log) = (Image::make(Version::One, 1, 16)?, Log::empty(4_096)?);
+    /// let mut desk = Desk::start(DeskId::new(1, 0));
+    /// let transaction = desk.transaction(&mut store, &mut log).unwrap();
+    /// assert_eq!(transaction.number(), 1);
+    /// # Ok::<(), lupaniele::Number>(())
+    /// ```
     pub fn transaction<'a, S: Store, J: Journal>(
         &'a mut self,
         store: &'a mut S,
         journal: &'a mut J,
     ) -> Result<Transaction<'a, S, J>, Halted<S, J>> {
+        if store.version() != Version::One {
+            return Err(Undone::Aborted(Why::Version));
+        }
         let log =
             Log::check(journal.log()).map_err(|number| Undone::Aborted(Why::BadLog(number)))?;
         if !due(&log).is_empty() {
@@ -148,9 +166,9 @@ impl Desk {
         })
     }
 
-    /// Finishes what stands in the log: each committed update that is due is written if its card still bears this desk's mark; where it does not,
-    /// the card was finished before and may have been changed since, and is only noted as synced. Cards that a transaction marked which was given
-    /// up are released.
+    /// Finishes what stands in the log: each committed update that is due is written if its card still bears this
+    /// desk's mark; where it does not, the card was finished before and may have been changed since, and is only noted
+    /// as synced. Cards that a transaction marked which was given up are released.
     ///
     /// # Errors
     ///
@@ -178,6 +196,9 @@ impl Desk {
         store: &mut S,
         journal: &mut J,
     ) -> Result<Recovered, Halted<S, J>> {
+        if store.version() != Version::One {
+            return Err(Undone::Committed(Why::Version));
+        }
         let log =
             Log::check(journal.log()).map_err(|number| Undone::Committed(Why::BadLog(number)))?;
         self.begun = self.begun.max(log.last_begun());
@@ -189,7 +210,8 @@ impl Desk {
         Ok(recovered)
     }
 
-    /// Finishes one card: looks at it, writes what is due and releases it if it bears the mark, and notes it as synced if something was due.
+    /// Finishes one card: looks at it, writes what is due and releases it if it bears the mark, and notes it as synced
+    /// if something was due.
     fn finish<S: Store, J: Journal>(
         &mut self,
         store: &mut S,
@@ -250,8 +272,8 @@ impl Desk {
         }
     }
 
-    /// A command with a mark, and the mark that the card then bears. It opens a session of its own, and relies on what the guard last showed of the card: so it is accepted at most once,
-    /// and only while nobody else was.
+    /// A command with a mark, and the mark that the card then bears. It opens a session of its own, and relies on what
+    /// the guard last showed of the card: so it is accepted at most once, and only while nobody else was.
     fn order<S: Store>(
         &mut self,
         store: &mut S,
@@ -284,16 +306,39 @@ impl Desk {
 
 impl<S: Store, J: Journal> Transaction<'_, S, J> {
     /// Its number.
+    ///
+    /// ```
+    /// use lupaniele::desk::Desk;
+    /// use lupaniele::{DeskId, Image, Log, Version};
+    /// let (mut store, mut log) = (Image::make(Version::One, 1, 16)?, Log::empty(4_096)?);
+    /// let mut desk = Desk::start(DeskId::new(1, 0));
+    /// assert_eq!(desk.transaction(&mut store, &mut log).unwrap().number(), 1);
+    /// assert_eq!(desk.transaction(&mut store, &mut log).unwrap().number(), 2);
+    /// # Ok::<(), lupaniele::Number>(())
+    /// ```
     #[must_use]
     pub fn number(&self) -> u32 {
         self.number
     }
 
-    /// Reads an original on which the transaction relies: if it is changed by somebody else before the commit, nothing is.
+    /// Reads an original on which the transaction relies: if it is changed by somebody else before the commit, nothing
+    /// is.
     ///
     /// # Errors
     ///
     /// Why not; the transaction can still go on.
+    ///
+    /// ```
+    /// use lupaniele::desk::Desk;
+    /// use lupaniele::{DeskId, Image, Log, Version};
+    /// let (mut store, mut log) = (Image::make(Version::One, 1, 16)?, Log::empty(4_096)?);
+    /// let mut desk = Desk::start(DeskId::new(1, 0));
+    /// let mut transaction = desk.transaction(&mut store, &mut log).unwrap();
+    /// let original = transaction.read_original(0).unwrap();
+    /// transaction.write_original(0, &original.text().repeat(2)).unwrap();
+    /// assert_eq!(transaction.commit(), Ok(()));
+    /// # Ok::<(), lupaniele::Number>(())
+    /// ```
     pub fn read_original(&mut self, card: u16) -> Result<Original, Failed<S::Error>> {
         let original = self.desk.read_original(self.store, card)?;
         self.rely_on(card);
@@ -311,15 +356,39 @@ impl<S: Store, J: Journal> Transaction<'_, S, J> {
     /// # Errors
     ///
     /// Where the log does not take it.
+    ///
+    /// ```
+    /// use lupaniele::desk::Desk;
+    /// use lupaniele::{DeskId, Image, Log, Version};
+    /// let (mut store, mut log) = (Image::make(Version::One, 1, 16)?, Log::empty(4_096)?);
+    /// let mut desk = Desk::start(DeskId::new(1, 0));
+    /// let mut transaction = desk.transaction(&mut store, &mut log).unwrap();
+    /// transaction.write_original(0, b"205").unwrap();
+    /// assert_eq!(transaction.commit(), Ok(()));
+    /// # Ok::<(), lupaniele::Number>(())
+    /// ```
     pub fn write_original(&mut self, card: u16, text: &[u8]) -> Result<(), AppendError<J::Error>> {
         self.update(card, Side::Original, None, text)
     }
 
-    /// It is to write the translation of an original that was read. If that is no longer the original when it commits, it is given up.
+    /// It is to write the translation of an original that was read. If that is no longer the original when it commits,
+    /// it is given up.
     ///
     /// # Errors
     ///
     /// Where the log does not take it.
+    ///
+    /// ```
+    /// use lupaniele::desk::Desk;
+    /// use lupaniele::{DeskId, Image, Log, Version};
+    /// let (mut store, mut log) = (Image::make(Version::One, 1, 16)?, Log::empty(4_096)?);
+    /// let mut desk = Desk::start(DeskId::new(1, 0));
+    /// let original = desk.write_original(&mut store, 0, b"205").unwrap();
+    /// let mut transaction = desk.transaction(&mut store, &mut log).unwrap();
+    /// transaction.write_translation(&original, b"401").unwrap();
+    /// assert_eq!(transaction.commit(), Ok(()));
+    /// # Ok::<(), lupaniele::Number>(())
+    /// ```
     pub fn write_translation(
         &mut self,
         original: &Original,
@@ -334,6 +403,17 @@ impl<S: Store, J: Journal> Transaction<'_, S, J> {
     /// # Errors
     ///
     /// Where the log does not take them.
+    ///
+    /// ```
+    /// use lupaniele::desk::Desk;
+    /// use lupaniele::{DeskId, Image, Log, Version};
+    /// let (mut store, mut log) = (Image::make(Version::One, 1, 16)?, Log::empty(4_096)?);
+    /// let mut desk = Desk::start(DeskId::new(1, 0));
+    /// let mut transaction = desk.transaction(&mut store, &mut log).unwrap();
+    /// transaction.write_both(0, b"205", b"401").unwrap();
+    /// assert_eq!(transaction.commit(), Ok(()));
+    /// # Ok::<(), lupaniele::Number>(())
+    /// ```
     pub fn write_both(
         &mut self,
         card: u16,
@@ -450,7 +530,8 @@ impl<S: Store, J: Journal> Transaction<'_, S, J> {
         }
     }
 
-    /// Whether what is to be written on a card will be accepted, by its edition, which nobody changes while it bears the mark, and the room.
+    /// Whether what is to be written on a card will be accepted, by its edition, which nobody changes while it bears
+    /// the mark, and the room.
     fn writable(&mut self, card: u16) -> Result<(), Number> {
         let mut edition = self.desk.kept(card).edition;
         for planned in self.updates.iter().filter(|planned| planned.card == card) {
@@ -504,6 +585,7 @@ impl<E: fmt::Display, J: fmt::Display> fmt::Display for Why<E, J> {
             Why::Store { card, failed } => write!(to, "card {card}: {failed}"),
             Why::Log(why) => fmt::Display::fmt(why, to),
             Why::BadLog(number) => write!(to, "the log cannot be read: {number}"),
+            Why::Version => to.write_str("logs are of version 1, and the store is of version 2"),
             Why::Unfinished => {
                 to.write_str("an earlier transaction is not written out: recover first")
             }

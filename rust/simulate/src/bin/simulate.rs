@@ -1,7 +1,7 @@
 //! `simulate test` runs a fixed seed and a million steps; `simulate soak N`
 //! runs N steps, a million at the least, with a new seed, which it prints;
 //! `simulate seed S N` runs any seed again. Each then runs towns in which one
-//! rule is broken, prints what came how often, and fails at the first breach
+//! rule is broken and towns with desks of the crate `lupaniele`, prints what came how often, and fails at the first breach
 //! and where something never came. `simulate broken RULE SEED` tells a town in
 //! which a rule is broken, up to where the premise breaks; `simulate --picture
 //! SEED` draws a small town.
@@ -11,12 +11,16 @@ use std::time::{Instant, SystemTime, UNIX_EPOCH};
 
 use simulate::library::Proved;
 use simulate::rule::Rule;
-use simulate::run::{broken, run, small, told, Plan, Stop};
+use simulate::run::{broken, guests, run, small, told, Plan, Stop};
 use simulate::tally::{grouped, Tally};
+use simulate::town::Outcome;
 
 /// The fixed seed, and the fewest steps, in which everything comes.
 const SEED: u64 = 1;
 const LEAST: u64 = 1_000_000;
+
+/// The steps of towns with desks of the crate `lupaniele`.
+const GUEST_STEPS: u64 = 300_000;
 
 fn main() -> ExitCode {
     let words: Vec<String> = std::env::args().skip(1).collect();
@@ -73,7 +77,7 @@ fn simulated(seed: u64, steps: u64) -> ExitCode {
     let rate = grouped((tally.steps as f64 / seconds) as u64);
     let (towns, steps) = (grouped(tally.towns), grouped(tally.steps));
     println!("simulate: {steps} steps in {towns} towns, {seconds:.1} s, {rate} steps a second");
-    if !rules(seed) {
+    if !rules(seed) || !visited(seed) {
         return ExitCode::FAILURE;
     }
     match &tally.missing()[..] {
@@ -84,6 +88,27 @@ fn simulated(seed: u64, steps: u64) -> ExitCode {
         missing => {
             println!("simulate: never came: {}", missing.join("; "));
             ExitCode::FAILURE
+        }
+    }
+}
+
+/// Towns with desks of the crate `lupaniele`: whether there is no breach, and
+/// everything came.
+fn visited(seed: u64) -> bool {
+    let mut tally = Tally::default();
+    match guests(&mut Proved, &mut tally, seed, GUEST_STEPS) {
+        Ok(outcomes) => {
+            let steps = grouped(tally.steps);
+            println!("desks of the crate `lupaniele`, in {steps} steps:");
+            for (outcome, count) in Outcome::ALL.iter().zip(outcomes) {
+                println!("{:>12}  {}", grouped(count), outcome.words());
+            }
+            !outcomes.contains(&0)
+        }
+        Err(stop) => {
+            println!("simulate: seed {seed}, a breach in a town with desks of the crate");
+            stopped(&stop);
+            false
         }
     }
 }

@@ -2,6 +2,7 @@
 //! desk, and the post between them. A seed draws every step of it.
 
 mod desks;
+mod guests;
 mod logs;
 mod manager;
 mod odd;
@@ -19,6 +20,8 @@ use crate::scene::{Judged, Scene, Who};
 use crate::tally::{Fault, Operation, Step, Tally};
 
 use desks::Desk;
+use guests::Guest;
+pub use guests::Outcome;
 use manager::Keeper;
 use post::Message;
 
@@ -45,6 +48,8 @@ pub struct Shape {
     pub polite: bool,
     /// Whether card 0 is first written until it has no edition left.
     pub worn: bool,
+    /// How many desks of the crate `lupaniele` there are beside.
+    pub guests: usize,
 }
 
 impl Shape {
@@ -60,6 +65,7 @@ impl Shape {
             storm: random.pick(&[1, 3, 10, 60]),
             polite: !random.one_in(3),
             worn: false,
+            guests: 0,
         }
     }
 
@@ -75,6 +81,7 @@ impl Shape {
             storm: 10,
             polite: false,
             worn: true,
+            guests: 0,
         }
     }
 
@@ -90,6 +97,7 @@ impl Shape {
             storm: 3,
             polite: true,
             worn: false,
+            guests: 0,
         }
     }
 }
@@ -106,11 +114,14 @@ pub struct Town<'a, L: Library> {
     keepers: Vec<Keeper>,
     stamps: Vec<Stamps>,
     desks: Vec<Desk>,
+    guests: Vec<Guest>,
     post: Vec<Message>,
     clock: f64,
     now: u64,
     reply: Vec<u8>,
     lent: Vec<u8>,
+    /// How often each thing became of what guests did.
+    pub outcomes: [u64; Outcome::ALL.len()],
     /// What happened, where it is wanted.
     pub scenes: Option<Vec<Scene>>,
 }
@@ -145,11 +156,13 @@ impl<'a, L: Library> Town<'a, L> {
                 .collect(),
             stamps: vec![Stamps::default(); shape.cards + 1],
             desks: Vec::new(),
+            guests: Vec::new(),
             post: Vec::new(),
             clock: 0.0,
             now: 0,
             reply: Vec::new(),
             lent: (0..64).map(|at| at ^ 0xa5).collect(),
+            outcomes: [0; Outcome::ALL.len()],
             scenes: None,
         };
         town.open();
@@ -166,6 +179,11 @@ impl<'a, L: Library> Town<'a, L> {
             self.desks.push(Desk::new(who, self.shape));
             self.knew_something(number - 1);
         }
+        let first = self.shape.desks + 1;
+        let numbers = first..first + self.shape.guests;
+        self.guests = numbers
+            .filter_map(|number| Guest::new(number as u16))
+            .collect();
         if self.rule == Some(Rule::UsedQueue) {
             for keeper in &mut self.keepers {
                 let stamp = |random: &mut Random| {
@@ -211,6 +229,9 @@ impl<'a, L: Library> Town<'a, L> {
         }
         if self.post.len() > 60 {
             return self.lose();
+        }
+        if !self.guests.is_empty() && self.random.one_in(4) {
+            return self.guest();
         }
         match self.random.below(100) {
             0..=57 if !self.post.is_empty() => self.deliver(),
