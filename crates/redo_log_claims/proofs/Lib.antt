@@ -2,3 +2,4 @@ pub mod Same
 pub mod Written
 pub mod Claims
 pub mod Cases
+pub mod Edges
