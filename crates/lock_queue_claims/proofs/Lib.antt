@@ -5,3 +5,4 @@ pub mod Trials
 pub mod Clock
 pub mod Leases
 pub mod LeaseCases
+pub mod Answers
