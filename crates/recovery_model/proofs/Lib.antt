@@ -5,3 +5,4 @@ pub mod Never
 pub mod Texts
 pub mod Cases
 pub mod Versions
+pub mod Edges
