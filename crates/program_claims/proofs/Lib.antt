@@ -4,3 +4,4 @@ pub mod Prints
 pub mod Numerals
 pub mod Claims
 pub mod Cases
+pub mod Edges
