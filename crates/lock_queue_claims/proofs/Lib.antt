@@ -6,3 +6,4 @@ pub mod Clock
 pub mod Leases
 pub mod LeaseCases
 pub mod Answers
+pub mod Uses
