@@ -14,3 +14,4 @@ pub mod Cases
 pub mod Words
 pub mod Conversion
 pub mod Versions
+pub mod ByTest

@@ -6,3 +6,4 @@ pub mod Texts
 pub mod Cases
 pub mod Versions
 pub mod Edges
+pub mod Uses
