@@ -8,3 +8,4 @@ pub mod Swaps
 pub mod Sequences
 pub mod Cases
 pub mod Edges
+pub mod Uses

@@ -15,3 +15,4 @@ pub mod Words
 pub mod Conversion
 pub mod Versions
 pub mod ByTest
+pub mod Uses

@@ -5,3 +5,4 @@ pub mod Numerals
 pub mod Claims
 pub mod Cases
 pub mod Edges
+pub mod Uses
