@@ -29,8 +29,8 @@ keptFive =
     ∷ keeps 3 0 stamp3 stamp1 1 1 0 (text401 ++ text401)
     ∷ []
 
-abbrev pub entryOf : ℕ → ℕ → ℕ → ℕ → ℕ → ℕ → ℕ → ℕ → Entry
-entryOf s x desk transaction edition made first second =
+abbrev pub entryBy : ℕ → ℕ → ℕ → ℕ → ℕ → ℕ → ℕ → ℕ → Entry
+entryBy s x desk transaction edition made first second =
     record { pair = pair s x; mark = markOf desk transaction; edition = edition; from = made; original = first; translation = second }
 
 -- Requests to a history that is full, N 1, C 16: malformed; no such card; stale; too long; behind; a reply buffer too short; and one that would be accepted.
@@ -51,9 +51,9 @@ toFull =
 
 pub record HistoryEdges : Type 0 where
   -- rule 14.5: each largest stamp by itself; the last mark; two editions; the edition that the translation names; the last lengths
-  pub entry0 : entryFrom keptFive 0 ≡ entryOf stamp3 stamp2 5 6 2 7 3 3
-  pub entry1 : entryFrom keptFive 1 ≡ entryOf stamp2 stamp3 1 9 1 0 3 0
-  pub entry2 : entryFrom keptFive 2 ≡ entryOf 0 0 0 0 0 0 0 0
+  pub entry0 : entryFrom keptFive 0 ≡ entryBy stamp3 stamp2 5 6 2 7 3 3
+  pub entry1 : entryFrom keptFive 1 ≡ entryBy stamp2 stamp3 1 9 1 0 3 0
+  pub entry2 : entryFrom keptFive 2 ≡ entryBy 0 0 0 0 0 0 0 0
   -- rule 14.6
   pub texts : map (textFrom original keptFive) (0 ∷ 1 ∷ 2 ∷ []) ≡ text205 ∷ text205 ∷ [] ∷ []
   pub translations : map (textFrom (translation 0) keptFive) (0 ∷ 1 ∷ 2 ∷ []) ≡ text401 ∷ [] ∷ [] ∷ []

@@ -20,8 +20,8 @@ abbrev pub rising : ℕ → List ℕ
 rising n = table suc n
 
 -- A card with room 16 whose numbers all differ: s 5.6.7, x 8.9.10, mark (11, 12), edition 20.
-abbrev pub cardOf : List ℕ → List Translation → Cards
-cardOf original translated =
+abbrev pub cardWith : List ℕ → List Translation → Cards
+cardWith original translated =
     record {
       room = 16;
       cards =
@@ -39,8 +39,8 @@ abbrev pub from : ℕ → List ℕ → Translation
 from edition text = record { from = edition; text = text }
 
 -- With one translation, of edition 13, and with four, of editions 13 to 16; the bytes of both images, sixteen to a line.
-abbrev pub cardOf1 : Cards
-cardOf1 = cardOf (50 ∷ 48 ∷ 53 ∷ []) (from 13 (52 ∷ 48 ∷ []) ∷ [])
+abbrev pub cardIn1 : Cards
+cardIn1 = cardWith (50 ∷ 48 ∷ 53 ∷ []) (from 13 (52 ∷ 48 ∷ []) ∷ [])
 
 abbrev pub imageOf1 : List ℕ
 imageOf1 =
@@ -50,9 +50,9 @@ imageOf1 =
     ++ (50 ∷ 48 ∷ 53 ∷ 0 ∷ 0 ∷ 0 ∷ 0 ∷ 0 ∷ 0 ∷ 0 ∷ 0 ∷ 0 ∷ 0 ∷ 0 ∷ 0 ∷ 0 ∷ [])
     ++ (52 ∷ 48 ∷ 0 ∷ 0 ∷ 0 ∷ 0 ∷ 0 ∷ 0 ∷ 0 ∷ 0 ∷ 0 ∷ 0 ∷ 0 ∷ 0 ∷ 0 ∷ 0 ∷ [])
 
-abbrev pub cardOf2 : Cards
-cardOf2 =
-    cardOf (50 ∷ 48 ∷ 53 ∷ 53 ∷ 53 ∷ [])
+abbrev pub cardIn2 : Cards
+cardIn2 =
+    cardWith (50 ∷ 48 ∷ 53 ∷ 53 ∷ 53 ∷ [])
     (from 13 (replicate 1 65) ∷ from 14 (replicate 2 66) ∷ from 15 (replicate 3 67) ∷ from 16 (replicate 4 68) ∷ [])
 
 abbrev pub imageOf2 : List ℕ
@@ -225,10 +225,10 @@ pub record LayoutCases : Type 0 where
         translation = 11307;
       }
   -- rules 2.3 to 2.5 and 15.3 to 15.5: whole images, both ways, and sound
-  pub image1 : encode V1 cardOf1 ≡ imageOf1
-  pub image2 : encode V2 cardOf2 ≡ imageOf2
-  pub back1 : decode V1 imageOf1 ≡ cardOf1
-  pub back2 : decode V2 imageOf2 ≡ cardOf2
+  pub image1 : encode V1 cardIn1 ≡ imageOf1
+  pub image2 : encode V2 cardIn2 ≡ imageOf2
+  pub back1 : decode V1 imageOf1 ≡ cardIn1
+  pub back2 : decode V2 imageOf2 ≡ cardIn2
   pub sounds : (sound V1 imageOf1 ≡ true) × (sound V2 imageOf2 ≡ true)
   -- each version is unsound in the other, and a byte set at 44 to 47 of an entry of version 2 makes it so
   pub other : (sound V2 imageOf1 ≡ false) × (sound V1 imageOf2 ≡ false)

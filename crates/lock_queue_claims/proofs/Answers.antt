@@ -6,33 +6,33 @@ use Rattle.floats.specs.Numbers.{wholeFloat, half}
 use Rattle.lock_queue.specs.Queue.{stands, firstPlace, looked, noExclusive, holdsAt, holds}
 use Rattle.lock_queue.specs.Good.{distinct, good}
 use Rattle.lock_queue.specs.Requests.{joined, removed, without, upgrading, onto, answered, number, after, answer}
-use Rattle.lock_queue_claims.specs.Answers.{stages, TableUpgrade, TableOrder, TablePairs, TakesPlace, LeavesMiddle, WhoHolds, QueuesJudged, TableMalformed, TableLapses, LapsedLeaves}
+use Rattle.lock_queue_claims.specs.Answers.{stages, TableUpgrade, TableOrder, TablePairs, TakesPlace, LeavesMiddle, WhoHolds, QueuesJudged, TableMalformed, TableLapses, LapsedLeaves, QueueAnswers}
 
-pub table-upgrade : TableUpgrade
+table-upgrade : TableUpgrade
 unfolding stages number after answer answered holds holdsAt noExclusive looked upgrading onto firstPlace good all allFrom distinct stands joined without removed
 table-upgrade = refl
 
-pub table-order : TableOrder
+table-order : TableOrder
 unfolding number after answer answered holds holdsAt noExclusive looked upgrading onto firstPlace good all allFrom distinct stands joined without removed
 table-order = refl
 
-pub table-pairs : TablePairs
+table-pairs : TablePairs
 unfolding number after answer answered holds holdsAt noExclusive looked upgrading onto firstPlace good all allFrom distinct stands joined without removed
 table-pairs = refl
 
-pub takes-place : TakesPlace
+takes-place : TakesPlace
 unfolding number after upgrading onto firstPlace good all allFrom distinct stands joined without removed
 takes-place = refl
 
-pub leaves-middle : LeavesMiddle
+leaves-middle : LeavesMiddle
 unfolding number after firstPlace good all allFrom distinct stands without removed
 leaves-middle = refl
 
-pub who-holds : WhoHolds
+who-holds : WhoHolds
 unfolding number after holds holdsAt noExclusive firstPlace good all allFrom distinct stands without removed
 who-holds = refl
 
-pub queues-judged : QueuesJudged
+queues-judged : QueuesJudged
 unfolding number after answer answered good all allFrom distinct stands
 queues-judged =
     record {
@@ -44,14 +44,29 @@ queues-judged =
       leaves-15 = refl;
     }
 
-pub table-malformed : TableMalformed
+table-malformed : TableMalformed
 unfolding number upgrading firstPlace good all allFrom distinct stands
 table-malformed = refl
 
-pub table-lapses : TableLapses
+table-lapses : TableLapses
 unfolding number after answer answered holds holdsAt noExclusive looked firstPlace good all allFrom distinct stands without removed ofBits ofInt wholeFloat half add sub mul div neg lt le
 table-lapses = refl
 
-pub lapsed-leaves : LapsedLeaves
+lapsed-leaves : LapsedLeaves
 unfolding number after firstPlace good all allFrom distinct stands without removed ofBits ofInt wholeFloat half add sub mul div neg lt le
 lapsed-leaves = refl
+
+pub queue-answers : QueueAnswers
+queue-answers =
+    record {
+      upgrade = table-upgrade;
+      order = table-order;
+      pairs = table-pairs;
+      place = takes-place;
+      middle = leaves-middle;
+      holders = who-holds;
+      queues = queues-judged;
+      malformed = table-malformed;
+      lapses = table-lapses;
+      lapsed = lapsed-leaves;
+    }

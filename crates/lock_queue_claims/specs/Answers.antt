@@ -228,3 +228,16 @@ abbrev pub LapsedLeaves : Type 0
 LapsedLeaves =
     after 1 oneStands (lapses (silent 0x3ff0_0000_0000_0000 0x0 0x0 0x3ff0_0000_0000_0000))
     ≡ record { places = noWaiting ∷ []; count = 0; largest = record { s = stamp 1 1 0; x = 0 } }
+
+-- ---- All of it.
+pub record QueueAnswers : Type 0 where
+  pub upgrade : TableUpgrade
+  pub order : TableOrder
+  pub pairs : TablePairs
+  pub place : TakesPlace
+  pub middle : LeavesMiddle
+  pub holders : WhoHolds
+  pub queues : QueuesJudged
+  pub malformed : TableMalformed
+  pub lapses : TableLapses
+  pub lapsed : LapsedLeaves
