@@ -1,3 +1,4 @@
 pub mod Proposed
 pub mod Exits
 pub mod Neither
+pub mod Cases

@@ -1,3 +1,4 @@
 pub mod Desks
 pub mod Numbers
 pub mod Silences
+pub mod Cases

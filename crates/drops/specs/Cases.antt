@@ -42,6 +42,10 @@ nearCases =
     ∷ nearCase celsius 1245 fahrenheit 2556 false
     ∷ nearCase celsius 2665 fahrenheit 5122 false
     ∷ nearCase fahrenheit 6 fahrenheit 11 false
+    -- The order of rounding (rule 12.6): 10.5 times 9, then divided by 5, then plus 32 is 50.9 and half a degree from 50.4; 9 / 5 first, or the division first, gives a value
+    -- that is further away.
+    ∷ nearCase celsius 105 fahrenheit 504 true
+    ∷ nearCase fahrenheit 504 celsius 105 true
     -- The smallest and the largest numbers: 0 C is 32 F; 6,553.5 C is 11,828.3 F.
     ∷ nearCase celsius 0 fahrenheit 320 true
     ∷ nearCase celsius 0 fahrenheit 0 false

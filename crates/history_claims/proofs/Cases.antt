@@ -3,8 +3,8 @@ use Prim.Native.Nat.{ℕ, zero, suc, _≤_}
 use native.Mathlib.Omega.{arith}
 use mathlib.Core.Path.{_≡_, refl, sym, ap, _∙_}
 use mathlib.Core.List.{List, [], _∷_, reverse}
-use mathlib.Core.Bool.{Bool, true, false, cond, not, _&&_, _||_}
-use borrow.Author.Tests.{ltb-true, le-ltb, ne-eqb}
+use mathlib.Core.Bool.{Bool, true, false, cond, not, _||_}
+use borrow.Author.Tests.{le-ltb, ne-eqb}
 use lib.Dec.{T, ltb, eqb, lit≤}
 use lib.ListN.{length, replicate, length-replicate}
 use Rattle.formats.specs.Format.{V1, V2}
@@ -12,9 +12,8 @@ use Rattle.lists.specs.Parts.{part, splice, table, spread, every, zeros, Bytes}
 use Rattle.lists.specs.Le.{le, toLe}
 use Rattle.lists.specs.Search.{any, none}
 use Rattle.lists.specs.Table.{row, all, allFrom, first}
-use Rattle.lists.proofs.Bytes.{Bytes-nil, Bytes-cons}
 use Rattle.lists.proofs.Table.{first-then}
-use Rattle.lists.proofs.Tests.{T-and-left, T-and-right, from-T, never-both, not-in}
+use Rattle.lists.proofs.Tests.{never-both, not-in}
 use Rattle.commands.specs.Command.{wellFormed}
 use Rattle.commands.specs.Bytes.{fieldsOf, payload, formed, commandBytes}
 use Rattle.guard.specs.Entry.{entrySound}
@@ -36,6 +35,7 @@ use Rattle.history.proofs.Raised.{entry-here}
 use Rattle.history_claims.specs.Claims.{keptAfter, engineEvent, engineEvents, engineLog, gave22}
 use Rattle.history_claims.specs.Swaps.{Apart, SameSequences}
 use Rattle.history_claims.specs.Cases.{KeptLimits, again, TwoHundred, wrote205, WorkedBytes, onCard, malformed, inLanguage3, gotLanguage3, ApartCases}
+use Rattle.model.proofs.ByTest.{bytes-by, sent-bytes}
 use Rattle.history_claims.proofs.Claims.{equals-guard, first-full}
 use Rattle.history_claims.proofs.Lent.{engine-over-bytes, lent-equals-guard}
 use Rattle.history_claims.proofs.Swaps.{swapping}
@@ -48,20 +48,6 @@ kept-limits = record { many = refl; too-many = refl; heavy = refl; too-heavy = r
 pub worked-bytes : WorkedBytes
 unfolding historyServe keptIn bytesBy usedBy deduced deducedBy entryFrom textFrom highest timesWritten replied raise commands commandsWithin endOf endWithin whole extent commandBytes formed payload fieldsOf wellFormed all allFrom le toLe part splice spread zeros
 worked-bytes = record { three = refl; read = refl; text = refl; used = refl; late = refl; late-used = refl; opened = refl }
-
--- ---- bytes, by a test
-
-abbrev below : List ℕ → Bool
-below [] = true
-below (b ∷ l) = ltb b 256 && below l
-
-bytes-by : (l : List ℕ) → T (below l) → Bytes l
-bytes-by [] t = Bytes-nil
-bytes-by (b ∷ l) t =
-    Bytes-cons l (ltb-true b 256 (from-T (ltb b 256) (T-and-left (ltb b 256) (below l) t))) (bytes-by l (T-and-right (ltb b 256) (below l) t))
-
-sent-bytes : (s : Sent) → T (below (s .command)) → T (below (s .lent)) → SentBytes s
-sent-bytes s t u = record { command = bytes-by (s .command) t; lent = bytes-by (s .lent) u }
 
 -- ---- one command again and again
 

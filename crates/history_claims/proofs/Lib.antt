@@ -7,3 +7,5 @@ pub mod Commute
 pub mod Swaps
 pub mod Sequences
 pub mod Cases
+pub mod Edges
+pub mod Uses

@@ -1,3 +1,4 @@
 pub mod Claims
 pub mod Cases
 pub mod Conversion
+pub mod Layouts

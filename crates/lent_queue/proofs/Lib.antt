@@ -4,3 +4,4 @@ pub mod Loaded
 pub mod Shared
 pub mod Served
 pub mod Arrays
+pub mod Cases

@@ -4,3 +4,4 @@ pub mod Course
 pub mod Trials
 pub mod Leases
 pub mod LeaseCases
+pub mod Answers

@@ -14,3 +14,5 @@ pub mod Cases
 pub mod Words
 pub mod Conversion
 pub mod Versions
+pub mod ByTest
+pub mod Uses

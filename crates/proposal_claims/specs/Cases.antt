@@ -11,7 +11,7 @@ use Rattle.lock_queue.specs.Numbers.{PAIR-DENIED}
 use Rattle.lock_queue.specs.Requests.{Request, asks, leaves, number, after, answer}
 use Rattle.proposals.specs.declared.Known.{Known}
 use Rattle.proposals.specs.declared.Proposed.{Proposed}
-use Rattle.proposals.specs.Propose.{learnt, lastT, proposed}
+use Rattle.proposals.specs.Propose.{learnt, proposed}
 use Rattle.lock_queue_claims.specs.Course.{queueAfter}
 use Rattle.proposal_claims.specs.Claims.{quiet}
 
@@ -38,14 +38,14 @@ pub record ProposalCases : Type 0 where
   -- above a stamp of the same desk with a later start: the next T
   pub later-start : proposed (knowing 2 5 0 (stamp 3 2 6)) exclusive ≡ gets 0 0 (stamp 4 2 5) (knowing 2 5 0 (stamp 4 2 5))
   -- the last stamp that there is, and none after it; the other side has its own
-  pub last-one : proposed (knowing 2 5 (stamp lastT 2 4) 0) shared ≡ gets 0 (stamp lastT 2 5) 0 (knowing 2 5 (stamp lastT 2 5) 0)
-  pub none-left : proposed (knowing 2 5 (stamp lastT 2 5) 0) shared ≡ gets 16 0 0 (knowing 2 5 (stamp lastT 2 5) 0)
+  pub last-one : proposed (knowing 2 5 (stamp 4294967295 2 4) 0) shared ≡ gets 0 (stamp 4294967295 2 5) 0 (knowing 2 5 (stamp 4294967295 2 5) 0)
+  pub none-left : proposed (knowing 2 5 (stamp 4294967295 2 5) 0) shared ≡ gets 16 0 0 (knowing 2 5 (stamp 4294967295 2 5) 0)
   pub other-side :
-      proposed (knowing 2 5 (stamp lastT 2 5) 0) exclusive
-      ≡ gets 0 (stamp lastT 2 5) (stamp 0 2 5) (knowing 2 5 (stamp lastT 2 5) (stamp 0 2 5))
+      proposed (knowing 2 5 (stamp 4294967295 2 5) 0) exclusive
+      ≡ gets 0 (stamp 4294967295 2 5) (stamp 0 2 5) (knowing 2 5 (stamp 4294967295 2 5) (stamp 0 2 5))
   -- desk 0, also where no stamp is left; a mode that is none
   pub desk-zero : proposed (knowing 0 5 0 0) shared ≡ gets 1 0 0 (knowing 0 5 0 0)
-  pub desk-zero-first : proposed (knowing 0 5 (stamp lastT 2 5) 0) shared ≡ gets 1 0 0 (knowing 0 5 (stamp lastT 2 5) 0)
+  pub desk-zero-first : proposed (knowing 0 5 (stamp 4294967295 2 5) 0) shared ≡ gets 1 0 0 (knowing 0 5 (stamp 4294967295 2 5) 0)
   pub no-mode : proposed (knowing 2 5 0 0) 3 ≡ gets 1 0 0 (knowing 2 5 0 0)
   -- learning: the larger of each, whichever pair it comes from
   pub both-sides : learnt (knowing 2 5 7 3) (record { s = 4; x = 9 }) ≡ knowing 2 5 7 9

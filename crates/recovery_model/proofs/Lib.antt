@@ -5,3 +5,5 @@ pub mod Never
 pub mod Versions
 pub mod Texts
 pub mod Cases
+pub mod Edges
+pub mod Uses

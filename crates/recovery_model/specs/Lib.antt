@@ -1,3 +1,4 @@
 pub mod Recovery
 pub mod Claims
 pub mod Cases
+pub mod Edges

@@ -5,3 +5,4 @@ pub mod Zeros
 pub mod Order
 pub mod Full
 pub mod Cases
+pub mod Edges

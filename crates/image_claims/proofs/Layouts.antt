@@ -1,0 +1,42 @@
+-- The worked layouts, by computation. Assumes nothing.
+use mathlib.Core.Path.{refl}
+use Rattle.lists.specs.Le.{le, toLe}
+use Rattle.lists.specs.Parts.{part, spread, table, every, zeros}
+use Rattle.lists.specs.Table.{all, allFrom}
+use Rattle.commands.specs.Command.{wellFormed}
+use Rattle.commands.specs.Bytes.{fieldsOf, payload, formed, commandBytes}
+use Rattle.guard.specs.Entry.{entrySound}
+use Rattle.image.specs.Layout.{shapeOk}
+use Rattle.image.specs.Bytes.{header, entryBytes, pad, readEntry, entryAt}
+use Rattle.image.specs.Image.{bodies, encode, cardAt, decode, tailZero, translationSound, cardSound, headerSound, sound}
+use Rattle.image_claims.specs.Layouts.{LayoutCases}
+
+pub layout-cases : LayoutCases
+unfolding fieldsOf payload formed commandBytes wellFormed sound headerSound cardSound translationSound tailZero decode cardAt entryAt readEntry encode bodies pad entryBytes header shapeOk entrySound all allFrom le toLe part spread table every zeros
+layout-cases =
+    record {
+      parts = refl;
+      command1 = refl;
+      command2 = refl;
+      payload1 = refl;
+      payload2 = refl;
+      bytes1 = refl;
+      bytesNew = refl;
+      bytes2 = refl;
+      formed1 = refl;
+      formed2 = refl;
+      entry1 = refl;
+      entry2-0 = refl;
+      entry2-1 = refl;
+      entry2-2 = refl;
+      entry2-3 = refl;
+      image1 = refl;
+      image2 = refl;
+      back1 = refl;
+      back2 = refl;
+      sounds = (refl, refl);
+      other = (refl, refl);
+      behind = refl;
+      places1 = refl;
+      places2 = refl;
+    }
