@@ -3,3 +3,4 @@ pub mod Written
 pub mod Claims
 pub mod Cases
 pub mod Edges
+pub mod Uses
