@@ -1,4 +1,4 @@
--- What is claimed of desks by the rules (docs/RULES.md, rules 10.8 and 10.11 to 10.13). The theorems stand in proofs/.
+-- What is claimed of desks by the rules (docs/RULES.md, rules 10.8, 10.11 to 10.13 and 10.17). The theorems stand in proofs/.
 -- Assumes nothing.
 use Prim.Native.Nat.{ℕ}
 use mathlib.Core.Path.{_≡_}
@@ -75,7 +75,7 @@ StampsOnce =
     q .mode ≡ exclusive →
     p .pair .x ≡ q .pair .x → ⊥
 
--- Rules 10.1 and 10.6: desks by the rules know only valid stamps, so that what one of them proposes keeps a session's rules and names the desk and start that makes it.
+-- Rule 10.17: desks by the rules know only valid stamps, so that what one of them proposes keeps a session's rules and names the desk and start that makes it.
 pub record KnowsValid (y : System) : Type 0 where
   pub known-s : (who card : ℕ) → stampValid (y .known who card .s) ≡ true
   pub known-x : (who card : ℕ) → stampValid (y .known who card .x) ≡ true
