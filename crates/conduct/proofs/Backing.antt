@@ -8,7 +8,7 @@ use mathlib.Core.Bool.{true, false}
 use borrow.Author.Tests.{eqb-true, ltb-true, ltb-false}
 use lib.Dec.{eqb, ltb}
 use Rattle.lists.proofs.Tests.{cases}
-use Rattle.stamps.specs.Stamp.{exclusive, largerOfEach, noPair}
+use Rattle.stamps.specs.Stamp.{exclusive, stampValid, largerOfEach, noPair}
 use Rattle.stamps.specs.declared.Pair.{Pair}
 use Rattle.model.specs.Meaning.{Among}
 use Rattle.model.proofs.Meaning.{among-here, among-later}
@@ -57,8 +57,10 @@ pub record Under (made : List Made) (k x : ℕ) : Type 0 where
   pub mode : m .mode ≡ exclusive
   pub stamp : m .pair .x ≡ x
 
--- A pair for card k is backed: its s is at least that of every exclusive proposal under its x, and its x, if there is one, was proposed.
+-- A pair for card k is backed: its s is at least that of every exclusive proposal under its x, its x, if there is one, was proposed, and its stamps are valid.
 pub record Backed (made : List Made) (k : ℕ) (p : Pair) : Type 0 where
+  pub valid-s : stampValid (p .s) ≡ true
+  pub valid-x : stampValid (p .x) ≡ true
   pub covers : (m : Made) → Among m made → m .card ≡ k → m .mode ≡ exclusive → m .pair .x ≡ p .x → m .pair .s ≤ p .s
   pub stems : (p .x ≡ 0 → ⊥) → Under made k (p .x)
 
@@ -67,17 +69,39 @@ abbrev pub Stamped : List Made → Type 0
 Stamped made = (m : Made) → Among m made → m .mode ≡ exclusive → m .pair .x ≡ 0 → ⊥
 
 pub backed-none : {made : List Made} → Stamped made → (k : ℕ) → Backed made k noPair
-backed-none s k = record { covers = λ m a c e z. absurd (s m a e z); stems = λ h. absurd (h refl) }
+backed-none s k = record { valid-s = refl; valid-x = refl; covers = λ m a c e z. absurd (s m a e z); stems = λ h. absurd (h refl) }
+
+-- The larger of two valid stamps is valid.
+valid-larger : (a b : ℕ) → stampValid a ≡ true → stampValid b ≡ true → stampValid (max a b) ≡ true
+valid-larger a b va vb = go (cases (ltb a b))
+  where
+    go : (ltb a b ≡ true) ⊎ (ltb a b ≡ false) → stampValid (max a b) ≡ true
+    go (inl h) =
+        let less = ltb-true a b h in
+        let is : max a b ≡ b = omega arith in
+        subst (λ (m : ℕ). stampValid m ≡ true) (sym is) vb
+    go (inr h) =
+        let less = ltb-false a b h in
+        let is : max a b ≡ a = omega arith in
+        subst (λ (m : ℕ). stampValid m ≡ true) (sym is) va
 
 -- The larger of each of two backed pairs is backed: its x is that of one of them, and its s is at least both.
 pub backed-larger : {made : List Made} {k : ℕ} (p q : Pair) → Backed made k p → Backed made k q → Backed made k (largerOfEach p q)
 backed-larger {made} {k} p q bp bq = go (cases (ltb (p .x) (q .x)))
   where
+    both-s : stampValid (max (p .s) (q .s)) ≡ true
+    both-s = valid-larger (p .s) (q .s) (bp .valid-s) (bq .valid-s)
+
+    both-x : stampValid (max (p .x) (q .x)) ≡ true
+    both-x = valid-larger (p .x) (q .x) (bp .valid-x) (bq .valid-x)
+
     go : (ltb (p .x) (q .x) ≡ true) ⊎ (ltb (p .x) (q .x) ≡ false) → Backed made k (largerOfEach p q)
     go (inl h) =
         let less = ltb-true (p .x) (q .x) h in
         let is : max (p .x) (q .x) ≡ q .x = omega arith in
         record {
+          valid-s = both-s;
+          valid-x = both-x;
           covers = λ m a c e z. let low = bq .covers m a c e (z ∙ is) in omega arith;
           stems = λ z. subst (Under made k) (sym is) (bq .stems (λ w. z (is ∙ w)));
         }
@@ -85,6 +109,8 @@ backed-larger {made} {k} p q bp bq = go (cases (ltb (p .x) (q .x)))
         let less = ltb-false (p .x) (q .x) h in
         let is : max (p .x) (q .x) ≡ p .x = omega arith in
         record {
+          valid-s = both-s;
+          valid-x = both-x;
           covers = λ m a c e z. let low = bp .covers m a c e (z ∙ is) in omega arith;
           stems = λ z. subst (Under made k) (sym is) (bp .stems (λ w. z (is ∙ w)));
         }
@@ -98,7 +124,7 @@ pub backed-more : {made : List Made} {k : ℕ} {p : Pair} (new : Made) → (new 
     → Backed made k p
     → Backed (new ∷ made) k p
 backed-more {made} {k} {p} new other b =
-    record { covers = λ m a c e z. go m c e z (among-cases a); stems = λ z. under-more new (b .stems z) }
+    record { valid-s = b .valid-s; valid-x = b .valid-x; covers = λ m a c e z. go m c e z (among-cases a); stems = λ z. under-more new (b .stems z) }
   where
     go : (m : Made) → m .card ≡ k → m .mode ≡ exclusive → m .pair .x ≡ p .x → (m ≡ new) ⊎ Among m made → m .pair .s ≤ p .s
     go m c e z (inl same) =

@@ -1,231 +1,312 @@
 -- Desks that follow the rules never break demand 3's premise, and what follows. Assumes nothing.
 use Prim.Native.Nat.{ℕ, zero, suc, _<_}
+use native.Mathlib.Omega.{arith}
 use mathlib.Core.Path.{_≡_, refl, sym, ap, subst, _∙_}
 use mathlib.Core.Logic.{_⊎_, inl, inr}
-use mathlib.Core.List.{List, [], _∷_, _++_, map, reverse, reverse-cons}
-use mathlib.Core.Bool.{Bool, true}
+use mathlib.Core.List.{List, [], _∷_, _++_, reverse, reverse-reverse}
+use mathlib.Core.Bool.{Bool, true, false, not}
 use borrow.Author.Tests.{eqb-true}
 use lib.Dec.{T, eqb}
-use Rattle.formats.specs.Format.{Format}
+use Rattle.formats.specs.Format.{Format, V1, V2}
+use Rattle.lists.specs.Search.{none}
 use Rattle.lists.specs.Table.{settled}
-use Rattle.lists.proofs.Tests.{and-left, and-right, never-both}
-use Rattle.stamps.specs.Stamp.{exclusive}
+use Rattle.lists.proofs.Tests.{from-T, cases, and-in, and-left, and-right, or-left, or-right, not-in, never-both}
+use Rattle.stamps.specs.Stamp.{exclusive, own}
 use Rattle.stamps.specs.declared.Pair.{Pair}
 use Rattle.commands.specs.Command.{update}
 use Rattle.commands.specs.Bytes.{fieldsOf, formed}
+use Rattle.commands.proofs.Rules.{command-rules}
 use Rattle.image.specs.Layout.{shapeOk}
-use Rattle.model.specs.Words.{Sent, Received, received, imageAfter, formedFor, carries, under}
-use Rattle.model.specs.Claims.{AllBytes}
+use Rattle.image.specs.Image.{Card, noCard, encode, sound, fresh, freshCards}
+use Rattle.image.specs.Convert.{converted, convertNumber}
+use Rattle.image_claims.proofs.Claims.{goodEncodes}
+use Rattle.model.specs.Words.{Sent, Received, Event, commandOf, imageAfter, history, logOf, formedFor, carries, under, premise, commandsIn}
+use Rattle.model.specs.Claims.{AllBytes, Claim}
+use Rattle.model.specs.Conversion.{imageBefore, logAcross}
 use Rattle.model.specs.Meaning.{Among, Ordered}
-use Rattle.model.proofs.Meaning.{among-here, among-later, among-right, among-mapped, carries-means, premise-means}
-use Rattle.model.proofs.Cases.{image-first}
-use Rattle.model.proofs.Demand.{demand3, premise-logged}
+use Rattle.model.proofs.Conversion.{demand3-across}
+use Rattle.model.proofs.Demand.{demand3, bytes-reverse}
+use Rattle.model.proofs.Formed.{formed-well}
+use Rattle.model.proofs.Meaning.{among-here, among-right, among-mapped, carries-means, premise-means}
+use Rattle.model.proofs.Pairs.{no-card}
+use Rattle.recovery_model.specs.Recovery.{Pairs, recoveryPair, recovered}
+use Rattle.recovery_model.specs.Claims.{AllUnder}
+use Rattle.recovery_model.proofs.Pairs as under-pairs
+use Rattle.recovery_model.proofs.Steps.{recovers}
+use Rattle.lock_queue.specs.declared.Waiting.{Waiting}
 use Rattle.proposals.specs.Propose.{proposed}
-use Rattle.conduct.specs.System.{System, Made, Move, begin, propose, ask, leave, lose, send, learn, opening, allowed, knows, nowKnows, withMade, stepTo, course, byRules, sentOf, sentBy}
-use Rattle.conduct.specs.Claims.{PremiseKept, DesksIsolated, OneStore, StampsOnce}
-use Rattle.conduct.proofs.Backing.{among-none, among-cases, among-both, backed-none}
-use Rattle.conduct.proofs.Kept.{Once, Kept, Proposal, is-made, if-formed, kept-begin, kept-propose, kept-ask, kept-leave, kept-lose, kept-send, kept-learn}
+use Rattle.proposal_claims.proofs.Claims.{well-proposed}
+use Rattle.conduct.specs.System.{System, Made, Move, begin, propose, atQueue, lose, send, recover, convert, learn, opening, isMade, sendsMade, allMade, recoverySends, allowed, knows, nowKnows, withStore, withMade, sendSteps, convertStep, stepTo, course, byRules, Fits, AllFit}
+use Rattle.conduct.specs.Claims.{ByRules, finally, PremiseKept, DesksIsolated, StoreOf, oneVersion, convertedOnce, OneStore, StampsOnce, DesksValid, RecoveryAllowed}
+use Rattle.conduct.proofs.Backing.{among-none, Backed, backed-none}
+use Rattle.conduct.proofs.Kept.{Once, Kept, kept-begin, kept-propose, kept-request, kept-lose, kept-send, kept-recover, kept-convert, kept-learn, recovery-bytes, sends-version}
+use Rattle.conduct.proofs.Store.{Trace, plain, across, Held, held-fresh, held-send, held-convert}
 
--- ---- the start
+-- ---- the store, whatever the steps are
 
-kept-opening : (v : Format) (n c : ℕ) (lent : ℕ → ℕ) → Kept v n c (opening v n c lent)
-unfolding imageAfter
-kept-opening v n c lent =
+held-sends : (v : Format) (n c : ℕ) (y : System) (sent : List Sent) → AllBytes sent → Held v n c (y .version) (y .image) (y .log)
+    → Held v n c (sendSteps y sent .version) (sendSteps y sent .image) (sendSteps y sent .log)
+unfolding sendSteps
+held-sends v n c y [] b h = h
+held-sends v n c y (s ∷ earlier) b h =
+    held-send v n c (sendSteps y earlier .version) (sendSteps y earlier .image) (sendSteps y earlier .log) s (b .0) (held-sends v n c y earlier (b .1) h)
+
+held-next : (v : Format) (n c : ℕ) (y : System) (s : Move) → Fits s → Held v n c (y .version) (y .image) (y .log)
+    → Held v n c (stepTo y s .version) (stepTo y s .image) (stepTo y s .log)
+unfolding stepTo
+held-next v n c y (begin who) f h = h
+held-next v n c y (propose who card mode) f h = go (proposed (knows y who card) mode .number)
+  where
+    next : System
+    next = withMade (record { card = card; mode = mode; pair = proposed (knows y who card) mode .pair }) (nowKnows who card (proposed (knows y who card) mode .known .pair) y)
+
+    go : (number : ℕ) → Held v n c (settled number next y .version) (settled number next y .image) (settled number next y .log)
+    go zero = h
+    go (suc j) = h
+held-next v n c y (atQueue card lent r) f h = h
+held-next v n c y (lose card places) f h = h
+held-next v n c y (send s) f h = held-send v n c (y .version) (y .image) (y .log) s f h
+held-next v n c y (recover pairs log) f h =
+    held-sends v n c y (recoverySends (y .version) pairs log (y .image))
+    (recovery-bytes (y .version) (y .image) (h .cards) (h .image-is) (h .good) pairs log (f .0) (f .1)) h
+held-next v n c y (convert lent) f h = go (y .version) h
+  where
+    go : (g : Format) → Held v n c g (y .image) (y .log) → Held v n c (convertStep g lent y .version) (convertStep g lent y .image) (convertStep g lent y .log)
+    go V2 d = h
+    go V1 d = by-number (convertNumber (y .image) lent) refl
+      where
+        next : System
+        next = withStore V2 (converted (y .image)) (y .log) y
+
+        by-number : (number : ℕ) → convertNumber (y .image) lent ≡ number → Held v n c (settled number next y .version) (settled number next y .image) (settled number next y .log)
+        by-number zero e = held-convert v n c (y .image) (y .log) lent d e
+        by-number (suc j) e = h
+held-next v n c y (learn who card pair) f h = h
+
+held-run : (v : Format) (n c : ℕ) (y : System) (steps : List Move) → AllFit steps → Held v n c (y .version) (y .image) (y .log)
+    → Held v n c (course y steps .version) (course y steps .image) (course y steps .log)
+unfolding course
+held-run v n c y [] f h = h
+held-run v n c y (s ∷ steps) f h = held-run v n c (stepTo y s) steps (f .1) (held-next v n c y s (f .0) h)
+
+-- ---- a run by the rules
+
+kept-opening : (v : Format) (n c : ℕ) (places : ℕ → List Waiting) → T (shapeOk v n c) → Kept v n c (opening v n c places)
+unfolding held-fresh freshCards
+kept-opening v n c places shape =
     record {
-      store = record { sent = []; image-is = refl; bytes = tt; backed = λ s a. among-none a };
-      queued = λ k. backed-none (λ m a. among-none a) k;
-      knowing = λ w k. backed-none (λ m a. among-none a) k;
+      held = held-fresh v n c shape;
+      stored = λ k. subst (λ (d : Card). Backed [] k (d .pair)) (sym (no-card v n k)) (nothing k);
+      queued = nothing;
+      knowing = λ w k. nothing k;
       telling = λ t a. among-none a;
       making = λ m a. among-none a;
       marked = λ m a. among-none a;
       ordered = λ p q a. among-none a;
       once = tt;
       numbered = λ w r. absurd (never-both r refl);
+      sanctioned = λ e a. among-none a;
     }
+  where
+    nothing : (k : ℕ) → Backed [] k (noCard v .pair)
+    nothing k = backed-none (λ m a. among-none a) k
 
--- ---- a run
+kept-next : (v : Format) (n c : ℕ) (y : System) (s : Move) → Kept v n c y → Fits s → allowed y s ≡ true → Kept v n c (stepTo y s)
+unfolding stepTo
+kept-next v n c y (begin who) k f h = kept-begin v n c y k who h
+kept-next v n c y (propose who card mode) k f h = kept-propose v n c y k who card mode h
+kept-next v n c y (atQueue card lent r) k f h = kept-request v n c y k card lent r h
+kept-next v n c y (lose card places) k f h = kept-lose v n c y k card places
+kept-next v n c y (send s) k f h = kept-send v n c y k s f h
+kept-next v n c y (recover pairs log) k f h = kept-recover v n c y k pairs log (f .0) (f .1) h
+kept-next v n c y (convert lent) k f h = kept-convert v n c y k lent
+kept-next v n c y (learn who card pair) k f h = kept-learn v n c y k who card pair h
 
-bytes-both : (s l : List Sent) → AllBytes (s ++ l) → AllBytes s × AllBytes l
-bytes-both [] l b = (tt, b)
-bytes-both (a ∷ s) l b = let rest = bytes-both s l (b .1) in ((b .0, rest .0), rest .1)
+kept-run : (v : Format) (n c : ℕ) (y : System) (steps : List Move) → Kept v n c y → AllFit steps → byRules y steps ≡ true → Kept v n c (course y steps)
+unfolding course byRules
+kept-run v n c y [] k f h = k
+kept-run v n c y (s ∷ steps) k f h =
+    kept-run v n c (stepTo y s) steps
+    (kept-next v n c y s k (f .0) (and-left (allowed y s) (byRules (stepTo y s) steps) h))
+    (f .1)
+    (and-right (allowed y s) (byRules (stepTo y s) steps) h)
 
-module _ (v : Format) (lent : ℕ → ℕ) where
-  kept-next : (n c : ℕ) → T (shapeOk v n c) → (y : System) (s : Move) → Kept v n c y → AllBytes (sentOf s) → allowed v y s ≡ true → Kept v n c (stepTo v lent y s)
-  kept-next n c shape y (begin who) k b h = kept-begin v n c shape y k lent who h
-  kept-next n c shape y (propose who card mode) k b h = kept-propose v n c shape y k lent who card mode h
-  kept-next n c shape y (ask card new) k b h = kept-ask v n c shape y k lent card new h
-  kept-next n c shape y (leave card desk) k b h = kept-leave v n c shape y k lent card desk
-  kept-next n c shape y (lose card places) k b h = kept-lose v n c shape y k lent card places
-  kept-next n c shape y (send s) k b h = kept-send v n c shape y k lent s (b .0) h
-  kept-next n c shape y (learn who card pair) k b h = kept-learn v n c shape y k lent who card pair h
-
-  kept-run : (n c : ℕ) → T (shapeOk v n c) → (y : System) (steps : List Move) → Kept v n c y → AllBytes (sentBy steps) → byRules v lent y steps ≡ true
-      → Kept v n c (course v lent y steps)
-  unfolding course byRules sentBy
-  kept-run n c shape y [] k b h = k
-  kept-run n c shape y (s ∷ steps) k b h =
-      let bytes = bytes-both (sentOf s) (sentBy steps) b in
-      kept-run n c shape (stepTo v lent y s) steps
-      (kept-next n c shape y s k (bytes .0) (and-left (allowed v y s) (byRules v lent (stepTo v lent y s) steps) h))
-      (bytes .1)
-      (and-right (allowed v y s) (byRules v lent (stepTo v lent y s) steps) h)
-
-  -- Proposals stay.
-  made-next : (y : System) (s : Move) (m : Made) → Among m (y .made) → Among m (stepTo v lent y s .made)
-  unfolding stepTo
-  made-next y (propose who card mode) m a = go (proposed (knows y who card) mode .number)
-    where
-      new : Made
-      new = record { card = card; mode = mode; pair = proposed (knows y who card) mode .pair }
-
-      go : (n : ℕ) → Among m (settled n (withMade new (nowKnows who card (proposed (knows y who card) mode .known .pair) y)) y .made)
-      go zero = among-later new a
-      go (suc n) = a
-  made-next y (begin who) m a = a
-  made-next y (ask card new) m a = a
-  made-next y (leave card desk) m a = a
-  made-next y (lose card places) m a = a
-  made-next y (send s) m a = a
-  made-next y (learn who card pair) m a = a
-
-  made-run : (y : System) (steps : List Move) (m : Made) → Among m (y .made) → Among m (course v lent y steps .made)
-  unfolding course
-  made-run y [] m a = a
-  made-run y (s ∷ steps) m a = made-run (stepTo v lent y s) steps m (made-next y s m a)
-
-  -- Each well-formed command that was sent is under a pair that was proposed, for its card and in its mode.
-  abbrev Sanctioned : List Made → Sent → Type 0
-  Sanctioned made a =
-      formed v (a .command) ≡ true
-      → Proposal made (fieldsOf v (a .command) .card) (fieldsOf v (a .command) .mode) (update (fieldsOf v (a .command)))
-
-  sanctioned-now : (y : System) (s : Move) → allowed v y s ≡ true → (a : Sent) → Among a (sentOf s) → Sanctioned (y .made) a
-  sanctioned-now y (send s) h a m = go (among-cases m)
-    where
-      here : Sanctioned (y .made) s
-      here f =
-          is-made (y .made) (fieldsOf v (s .command) .card) (fieldsOf v (s .command) .mode) (update (fieldsOf v (s .command)))
-          (if-formed (formed v (s .command)) h f)
-
-      go : (a ≡ s) ⊎ Among a [] → Sanctioned (y .made) a
-      go (inl e) = subst (Sanctioned (y .made)) (sym e) here
-      go (inr n) = among-none n
-  sanctioned-now y (begin who) h a m = among-none m
-  sanctioned-now y (propose who card mode) h a m = among-none m
-  sanctioned-now y (ask card new) h a m = among-none m
-  sanctioned-now y (leave card desk) h a m = among-none m
-  sanctioned-now y (lose card places) h a m = among-none m
-  sanctioned-now y (learn who card pair) h a m = among-none m
-
-  sanctioned : (y : System) (steps : List Move) → byRules v lent y steps ≡ true → (a : Sent) → Among a (sentBy steps)
-      → Sanctioned (course v lent y steps .made) a
-  unfolding course byRules sentBy
-  sanctioned y [] h a m f = among-none m
-  sanctioned y (s ∷ steps) h a m f =
-      go (among-both (sentOf s) (sentBy steps) m)
-      (λ n. sanctioned (stepTo v lent y s) steps (and-right (allowed v y s) (byRules v lent (stepTo v lent y s) steps) h) a n f)
-    where
-      go : Among a (sentOf s) ⊎ Among a (sentBy steps) →
-          (Among a (sentBy steps) → Proposal (course v lent (stepTo v lent y s) steps .made) (fieldsOf v (a .command) .card) (fieldsOf v (a .command) .mode) (update (fieldsOf v (a .command)))) →
-          Proposal (course v lent (stepTo v lent y s) steps .made) (fieldsOf v (a .command) .card) (fieldsOf v (a .command) .mode) (update (fieldsOf v (a .command)))
-      go (inr n) rest = rest n
-      go (inl n) rest =
-          let p = sanctioned-now y s (and-left (allowed v y s) (byRules v lent (stepTo v lent y s) steps) h) a n f in
-          record {
-            m = p .m;
-            among = made-run (stepTo v lent y s) steps (p .m) (made-next y s (p .m) (p .among));
-            card-is = p .card-is;
-            mode-is = p .mode-is;
-            pair-same = p .pair-same;
-          }
-
-  -- A proposal writes nothing.
-  proposed-image : (y : System) (who card mode : ℕ) → stepTo v lent y (propose who card mode) .image ≡ y .image
-  unfolding stepTo
-  proposed-image y who card mode = go (proposed (knows y who card) mode .number)
-    where
-      new : Made
-      new = record { card = card; mode = mode; pair = proposed (knows y who card) mode .pair }
-
-      go : (n : ℕ) → settled n (withMade new (nowKnows who card (proposed (knows y who card) mode .known .pair) y)) y .image ≡ y .image
-      go zero = refl
-      go (suc n) = refl
-
-  -- The image is as the list of what was sent leaves it.
-  image-run : (y : System) (steps : List Move) → course v lent y steps .image ≡ imageAfter v (y .image) (reverse (sentBy steps))
-  unfolding course stepTo sentBy imageAfter
-  image-run y [] = refl
-  image-run y (send s ∷ steps) =
-      image-run (stepTo v lent y (send s)) steps
-      ∙ sym (image-first v (y .image) s (reverse (sentBy steps)))
-      ∙ ap (imageAfter v (y .image)) (sym (reverse-cons s (sentBy steps)))
-  image-run y (begin who ∷ steps) = image-run (stepTo v lent y (begin who)) steps
-  image-run y (propose who card mode ∷ steps) =
-      image-run (stepTo v lent y (propose who card mode)) steps
-      ∙ ap (λ (i : List ℕ). imageAfter v i (reverse (sentBy steps))) (proposed-image y who card mode)
-  image-run y (ask card new ∷ steps) = image-run (stepTo v lent y (ask card new)) steps
-  image-run y (leave card desk ∷ steps) = image-run (stepTo v lent y (leave card desk)) steps
-  image-run y (lose card places ∷ steps) = image-run (stepTo v lent y (lose card places)) steps
-  image-run y (learn who card pair ∷ steps) = image-run (stepTo v lent y (learn who card pair)) steps
+kept-finally : (v : Format) (n c : ℕ) (places : ℕ → List Waiting) (steps : List Move) → ByRules v n c places steps → Kept v n c (finally v n c places steps)
+kept-finally v n c places steps r = kept-run v n c (opening v n c places) steps (kept-opening v n c places (r .shape)) (r .fits) (r .rules)
 
 -- ---- the claims
 
 pub premise-kept : PremiseKept
-premise-kept v n c lent steps r k = premise-means k (map (received v) (sentBy steps)) .1 ordered
+premise-kept v n c places steps r k = premise-means k (commandsIn (y .log)) .1 ordered
   where
-    final : System
-    final = course v lent (opening v n c lent) steps
+    y : System
+    y = finally v n c places steps
 
-    kept : Kept v n c final
-    kept = kept-run v lent n c (r .shape) (opening v n c lent) steps (kept-opening v n c lent) (r .bytes) (r .rules)
+    kept : Kept v n c y
+    kept = kept-finally v n c places steps r
 
-    order : (a b : Sent) → Among a (sentBy steps) → Among b (sentBy steps) → formedFor k (received v a) ≡ true → formedFor k (received v b) ≡ true
-        → carries (fieldsOf v (a .command)) ≡ true
-        → under (update (fieldsOf v (a .command)) .x) (fieldsOf v (b .command)) ≡ true
-        → update (fieldsOf v (b .command)) .s < update (fieldsOf v (a .command)) .s
+    order : (a b : Event) → Among a (y .log) → Among b (y .log) → formedFor k (a .read) ≡ true → formedFor k (b .read) ≡ true
+        → carries (commandOf a) ≡ true
+        → under (update (commandOf a) .x) (commandOf b) ≡ true
+        → update (commandOf b) .s < update (commandOf a) .s
     order a b ma mb fa fb ca ub =
-        let ca-card : Bool = eqb (fieldsOf v (a .command) .card) k in
-        let cb-card : Bool = eqb (fieldsOf v (b .command) .card) k in
-        let pa = sanctioned v lent (opening v n c lent) steps (r .rules) a ma (and-left (formed v (a .command)) ca-card fa) in
-        let pb = sanctioned v lent (opening v n c lent) steps (r .rules) b mb (and-left (formed v (b .command)) cb-card fb) in
-        let card-a = eqb-true (fieldsOf v (a .command) .card) k (and-right (formed v (a .command)) ca-card fa) in
-        let card-b = eqb-true (fieldsOf v (b .command) .card) k (and-right (formed v (b .command)) cb-card fb) in
-        let mode-a = carries-means (fieldsOf v (a .command)) .0 ca .mode in
-        let mode-b = eqb-true (fieldsOf v (b .command) .mode) exclusive (and-left (eqb (fieldsOf v (b .command) .mode) exclusive) (eqb (update (fieldsOf v (b .command)) .x) (update (fieldsOf v (a .command)) .x)) ub) in
-        let stamp = eqb-true (update (fieldsOf v (b .command)) .x) (update (fieldsOf v (a .command)) .x) (and-right (eqb (fieldsOf v (b .command) .mode) exclusive) (eqb (update (fieldsOf v (b .command)) .x) (update (fieldsOf v (a .command)) .x)) ub) in
+        let ca-card : Bool = eqb (commandOf a .card) k in
+        let cb-card : Bool = eqb (commandOf b .card) k in
+        let pa = kept .sanctioned a ma (and-left (a .read .formed) ca-card fa) in
+        let pb = kept .sanctioned b mb (and-left (b .read .formed) cb-card fb) in
+        let card-a = eqb-true (commandOf a .card) k (and-right (a .read .formed) ca-card fa) in
+        let card-b = eqb-true (commandOf b .card) k (and-right (b .read .formed) cb-card fb) in
+        let mode-a = carries-means (commandOf a) .0 ca .mode in
+        let mode-b = eqb-true (commandOf b .mode) exclusive (and-left (eqb (commandOf b .mode) exclusive) (eqb (update (commandOf b) .x) (update (commandOf a) .x)) ub) in
+        let stamp = eqb-true (update (commandOf b) .x) (update (commandOf a) .x) (and-right (eqb (commandOf b .mode) exclusive) (eqb (update (commandOf b) .x) (update (commandOf a) .x)) ub) in
         let below =
         kept .ordered (pa .m) (pb .m) (pa .among) (pb .among)
         (pa .card-is ∙ card-a ∙ sym card-b ∙ sym (pb .card-is))
         (pa .mode-is ∙ mode-a)
         (pb .mode-is ∙ mode-b)
         (ap (λ (p : Pair). p .x) (pa .pair-same) ∙ sym stamp ∙ sym (ap (λ (p : Pair). p .x) (pb .pair-same))) in
-        subst (λ (p : Pair). update (fieldsOf v (b .command)) .s < p .s) (pa .pair-same)
+        subst (λ (p : Pair). update (commandOf b) .s < p .s) (pa .pair-same)
         (subst (λ (p : Pair). p .s < pa .m .pair .s) (pb .pair-same) below)
 
-    ordered : Ordered k (map (received v) (sentBy steps))
+    ordered : Ordered k (commandsIn (y .log))
     ordered a b ma mb =
-        let from-a = among-mapped (received v) (sentBy steps) ma in
-        let from-b = among-mapped (received v) (sentBy steps) mb in
+        let from-a = among-mapped (λ (e : Event). e .read) (y .log) ma in
+        let from-b = among-mapped (λ (e : Event). e .read) (y .log) mb in
         subst
         (λ (d : Received). formedFor k d ≡ true → formedFor k b ≡ true → carries (d .numbers) ≡ true → under (update (d .numbers) .x) (b .numbers) ≡ true → update (b .numbers) .s < update (d .numbers) .s)
         (sym (from-a .is))
         (subst
-        (λ (d : Received). formedFor k (received v (from-a .from)) ≡ true → formedFor k d ≡ true → carries (received v (from-a .from) .numbers) ≡ true → under (update (received v (from-a .from) .numbers) .x) (d .numbers) ≡ true → update (d .numbers) .s < update (received v (from-a .from) .numbers) .s)
+        (λ (d : Received). formedFor k (from-a .from .read) ≡ true → formedFor k d ≡ true → carries (commandOf (from-a .from)) ≡ true → under (update (commandOf (from-a .from)) .x) (d .numbers) ≡ true → update (d .numbers) .s < update (commandOf (from-a .from)) .s)
         (sym (from-b .is))
         (order (from-a .from) (from-b .from) (from-a .among) (from-b .among)))
 
-pub desks-isolated : DesksIsolated
-desks-isolated v n c lent steps r k later b between a before split by-a by-b one =
-    demand3 v n c (r .shape) (sentBy steps) (r .bytes) .isolation k later b between a before (premise-logged v n c k (sentBy steps) (premise-kept v n c lent steps r k)) split by-a by-b one
+store-of : (v : Format) (n c : ℕ) (y : System) → Trace v n c (y .version) (y .image) (y .log) → StoreOf v n c y
+unfolding logOf logAcross imageBefore
+store-of v n c y (plain sent b e l i) =
+    let turned = sym (reverse-reverse sent) in
+    oneVersion (reverse sent) e (l ∙ ap (history v (fresh v n c)) turned) (i ∙ ap (imageAfter v (fresh v n c)) turned)
+store-of v n c y (across sent more b m o e ok l i) =
+    let first = sym (reverse-reverse sent) in
+    let second = sym (reverse-reverse more) in
+    let base : List Sent → List ℕ = λ (a : List Sent). converted (imageAfter V1 (fresh V1 n c) a) in
+    convertedOnce (reverse sent) (reverse more) o e ok
+    (l
+    ∙ ap (λ (a : List Sent). history V2 (base a) more ++ history V1 (fresh V1 n c) a) first
+    ∙ ap (λ (a : List Sent). history V2 (base (reverse (reverse sent))) a ++ history V1 (fresh V1 n c) (reverse (reverse sent))) second)
+    (i ∙ ap (λ (a : List Sent). imageAfter V2 (base a) more) first ∙ ap (imageAfter V2 (base (reverse (reverse sent)))) second)
+
+held-finally : (v : Format) (n c : ℕ) (places : ℕ → List Waiting) (steps : List Move) → T (shapeOk v n c) → AllFit steps
+    → Held v n c (finally v n c places steps .version) (finally v n c places steps .image) (finally v n c places steps .log)
+held-finally v n c places steps shape f = held-run v n c (opening v n c places) steps f (held-fresh v n c shape)
 
 pub one-store : OneStore
-one-store v n c lent steps = image-run v lent (opening v n c lent) steps
+one-store v n c places steps shape f = store-of v n c (finally v n c places steps) (held-finally v n c places steps shape f .trace)
+
+-- Demand 3's sentences hold of the log.
+claimed : (v : Format) (n c : ℕ) → T (shapeOk v n c) → (version : Format) (image : List ℕ) (log : List Event) → Trace v n c version image log → (sent : List Sent) × Claim n sent log
+unfolding logOf logAcross imageBefore
+claimed v n c shape version image log (plain sent b e l i) =
+    (reverse sent, subst (Claim n (reverse sent)) (sym (l ∙ ap (history v (fresh v n c)) (sym (reverse-reverse sent)))) (demand3 v n c shape (reverse sent) (bytes-reverse sent [] b tt)))
+claimed v n c shape version image log (across sent more b m o e ok l i) =
+    let first = sym (reverse-reverse sent) in
+    let second = sym (reverse-reverse more) in
+    let base : List Sent → List ℕ = λ (a : List Sent). converted (imageAfter V1 (fresh V1 n c) a) in
+    let same =
+    l
+    ∙ ap (λ (a : List Sent). history V2 (base a) more ++ history V1 (fresh V1 n c) a) first
+    ∙ ap (λ (a : List Sent). history V2 (base (reverse (reverse sent))) a ++ history V1 (fresh V1 n c) (reverse (reverse sent))) second in
+    (reverse sent ++ reverse more, subst (Claim n (reverse sent ++ reverse more)) (sym same) (demand3-across n c ok (reverse sent) (reverse more) (bytes-reverse sent [] b tt) (bytes-reverse more [] m tt) .claim))
+
+pub desks-isolated : DesksIsolated
+desks-isolated v n c places steps r k later b between a before split by-a by-b one =
+    let y = finally v n c places steps in
+    claimed v n c (r .shape) (y .version) (y .image) (y .log) (held-finally v n c places steps (r .shape) (r .fits) .trace) .1
+    .isolation k later b between a before (premise-kept v n c places steps r k) split by-a by-b one
 
 once-at : (later : List Made) (p : Made) (rest : List Made) → Once (later ++ p ∷ rest) → Once (p ∷ rest)
 once-at [] p rest o = o
 once-at (m ∷ later) p rest o = once-at later p rest (o .1)
 
 pub stamps-once : StampsOnce
-stamps-once v n c lent steps r later p between q before split same ep eq z =
-    let kept = kept-run v lent n c (r .shape) (opening v n c lent) steps (kept-opening v n c lent) (r .bytes) (r .rules) in
+stamps-once v n c places steps r later p between q before split same ep eq z =
+    let kept = kept-finally v n c places steps r in
     once-at later p (between ++ q ∷ before) (subst Once split (kept .once)) .0 q (among-right between (among-here q before)) ep same eq z
+
+pub desks-valid : DesksValid
+desks-valid v n c places steps r =
+    record {
+      known-s = λ who card. kept .knowing who card .valid-s;
+      known-x = λ who card. kept .knowing who card .valid-x;
+      proposes = λ who card mode running e.
+          let w = kept .numbered who running in
+          well-proposed (knows (finally v n c places steps) who card) mode (omega arith) (omega arith) (kept .knowing who card .valid-s) (kept .knowing who card .valid-x) e;
+    }
+  where
+    kept : Kept v n c (finally v n c places steps)
+    kept = kept-finally v n c places steps r
+
+-- ---- recovery under proposed pairs
+
+abbrev Given : List Made → Pairs → Type 0
+Given made pairs = (k : ℕ) → (recoveryPair pairs k .x ≡ 0) ⊎ (isMade made k exclusive (recoveryPair pairs k) ≡ true)
+
+-- A write under the pair of its card is malformed where that has no x, and else carries what was proposed.
+write-made : (made : List Made) (pairs : Pairs) → Given made pairs → (s : Sent) → fieldsOf V1 (s .command) .mode ≡ exclusive
+    → update (fieldsOf V1 (s .command)) ≡ recoveryPair pairs (fieldsOf V1 (s .command) .card)
+    → sendsMade V1 made s ≡ true
+write-made made pairs given s mode-is pair-is = go (cases (formed V1 (s .command)))
+  where
+    card : ℕ
+    card = fieldsOf V1 (s .command) .card
+
+    mode : ℕ
+    mode = fieldsOf V1 (s .command) .mode
+
+    pair : Pair
+    pair = update (fieldsOf V1 (s .command))
+
+    there : formed V1 (s .command) ≡ true → (recoveryPair pairs card .x ≡ 0) ⊎ (isMade made card exclusive (recoveryPair pairs card) ≡ true) → isMade made card mode pair ≡ true
+    there f (inl none) =
+        absurd
+        (command-rules (fieldsOf V1 (s .command)) (formed-well V1 (s .command) f) .session .some
+        (ap (λ (m : ℕ). own m pair) mode-is ∙ ap (λ (p : Pair). p .x) pair-is ∙ none))
+    there f (inr made-is) =
+        subst (λ (m : ℕ). isMade made card m pair ≡ true) (sym mode-is) (subst (λ (p : Pair). isMade made card exclusive p ≡ true) (sym pair-is) made-is)
+
+    go : (formed V1 (s .command) ≡ true) ⊎ (formed V1 (s .command) ≡ false) → sendsMade V1 made s ≡ true
+    go (inl f) = or-right (not (formed V1 (s .command))) (there f (given card))
+    go (inr f) = or-left (isMade made card mode pair) (not-in f)
+
+writes-made : (made : List Made) (pairs : Pairs) → Given made pairs → (sent : List Sent) → AllUnder pairs sent → allMade V1 made sent ≡ true
+writes-made made pairs given [] u = refl
+writes-made made pairs given (s ∷ sent) u = and-in (write-made made pairs given s (u .0 .0) (u .0 .2)) (writes-made made pairs given sent (u .1))
+
+sends-image : (y : System) (sent : List Sent) → sendSteps y sent .image ≡ imageAfter (y .version) (y .image) sent
+unfolding sendSteps imageAfter
+sends-image y [] = refl
+sends-image y (s ∷ earlier) = rw (sends-version y earlier, sends-image y earlier)
+
+pub recovery-allowed : RecoveryAllowed
+unfolding stepTo
+recovery-allowed v n c places steps r pairs log fp lb version given =
+    record {
+      allows =
+          subst (λ (f : Format). allMade f (y .made) (recoverySends f pairs log (y .image)) ≡ true) (sym version)
+          (writes-made (y .made) pairs given (recovered pairs log (y .image) .sent) under-all);
+      leaves =
+          sends-image y (recoverySends (y .version) pairs log (y .image))
+          ∙ subst (λ (f : Format). imageAfter f (y .image) (recoverySends f pairs log (y .image)) ≡ recovered pairs log (y .image) .image) (sym version)
+          (sym (recovers pairs log (y .image) .sends));
+    }
+  where
+    y : System
+    y = finally v n c places steps
+
+    held : Held v n c V1 (y .image) (y .log)
+    held = subst (λ (f : Format). Held v n c f (y .image) (y .log)) version (held-finally v n c places steps (r .shape) (r .fits))
+
+    under-all : AllUnder pairs (recovered pairs log (y .image) .sent)
+    under-all =
+        let good = goodEncodes V1 (held .cards) (held .good) in
+        subst (λ (i : List ℕ). AllUnder pairs (recovered pairs log i .sent)) (sym (held .image-is))
+        (under-pairs.under pairs log (encode V1 (held .cards)) fp lb (good .bytes) (from-T (sound V1 (encode V1 (held .cards))) (good .sounds)))

@@ -5,27 +5,35 @@ use mathlib.Core.Path.{_≡_, refl, sym, ap, subst, _∙_}
 use mathlib.Core.Logic.{_⊎_, inl, inr}
 use mathlib.Core.List.{List, [], _∷_}
 use mathlib.Core.Bool.{Bool, true, false, cond, not, _&&_, _||_}
-use borrow.Author.Tests.{eqb-true, eq-eqb, ne-eqb, ltb-true, not-true, not-false}
-use lib.Dec.{T, eqb, ltb}
-use Rattle.formats.specs.Format.{Format}
+use borrow.Author.Tests.{eqb-true, eqb-false, eq-eqb, ne-eqb, ltb-true, ltb-false, not-true, not-false}
+use lib.Dec.{eqb, ltb}
+use lib.ListN.{length, getD, set, length-map, List·getD-eq-default}
+use lib.Seq.{getD-set-same, getD-set-other}
+use Rattle.formats.specs.Format.{Format, V1, V2}
+use Rattle.lists.specs.Parts.{Bytes}
+use Rattle.lists.specs.Search.{any}
+use Rattle.lists.specs.Table.{settled}
 use Rattle.lists.proofs.Tests.{cases, and-left, and-right, or-cases, or-right, never-both}
-use Rattle.stamps.specs.Stamp.{stamp, deskStart, shared, exclusive, largerOfEach, noPair}
+use Rattle.stamps.specs.Stamp.{stamp, deskStart, shared, exclusive, stampValid, largerOfEach, noPair}
 use Rattle.stamps.specs.declared.Pair.{Pair}
-use Rattle.stamps.proofs.Stamp.{stamp-desk-start}
+use Rattle.stamps.proofs.Stamp.{stamp-desk-start, stamp-valid}
 use Rattle.commands.specs.Command.{update}
 use Rattle.commands.specs.declared.Command.{Command}
-use Rattle.commands.specs.Bytes.{fieldsOf, formed}
-use Rattle.guard.specs.Replies.{blankReply}
-use Rattle.image.specs.Layout.{shapeOk}
-use Rattle.image.specs.Image.{fresh}
-use Rattle.model.specs.Serve.{serve}
-use Rattle.lists.specs.Search.{any}
-use Rattle.model.specs.Words.{Sent, Event, eventOf, imageAfter, history, accepted}
+use Rattle.commands.specs.Bytes.{fieldsOf, payload, formed}
+use Rattle.guard.specs.Judge.{raise}
+use Rattle.guard.specs.Replies.{blankReply, replied}
+use Rattle.image.specs.Image.{Card, Cards, noCard, encode, GoodCards}
+use Rattle.image.specs.Convert.{widened, widenedCards, converted, convertNumber}
+use Rattle.image_claims.proofs.Conversion.{getD-map}
+use Rattle.model.specs.Serve.{stepped, serve}
+use Rattle.model.specs.Words.{Sent, Event, eventOf, commandOf}
 use Rattle.model.specs.Claims.{SentBytes, AllBytes}
-use Rattle.model.specs.Pairs.{largestPair}
 use Rattle.model.specs.Meaning.{Among}
-use Rattle.model.proofs.Meaning.{among-here, among-later, any-means, accepted-means}
-use Rattle.model.proofs.Pairs.{Shows, shows-history, accepted-formed}
+use Rattle.model.proofs.Machine.{numberOn, eventBy, cardsBy, passed}
+use Rattle.model.proofs.Meaning.{among-here, among-later, any-means}
+use Rattle.model.proofs.Simulation.{same-event}
+use Rattle.recovery_model.specs.Recovery.{Pairs, FitsPairs, recovered}
+use Rattle.recovery_model.proofs.Sending.{recovered-bytes}
 use Rattle.lock_queue.specs.Queue.{State, emptyQueue}
 use Rattle.lock_queue.specs.declared.Waiting.{Waiting}
 use Rattle.lock_queue.specs.Good.{waitingFormed as wellFormed}
@@ -35,8 +43,9 @@ use Rattle.lock_queue.proofs.After.{refusal-leaves}
 use Rattle.proposal_claims.proofs.Claims.{asked-largest, left-largest, lapsed-largest}
 use Rattle.proposals.specs.Propose.{learnt, nextT, ownAbove, pairFor, proposed}
 use Rattle.proposals.proofs.Propose.{made-rules, own-above, pair-shared, pair-exclusive}
-use Rattle.conduct.specs.System.{System, Made, Told, begin, propose, ask, leave, lose, send, learn, samePair, inUse, isMade, allowed, with, knows, nowKnows, withMade, queueStep, stepTo}
+use Rattle.conduct.specs.System.{System, Made, Told, begin, propose, atQueue, lose, recover, learn, samePair, inUse, isMade, asksMade, sendsMade, allMade, recoverySends, allowed, with, knows, nowKnows, withStore, withMade, queueStep, sendStep, sendSteps, convertStep, stepTo}
 use Rattle.conduct.proofs.Backing.{among-cases, with-all, Backed, Stamped, backed-none, backed-larger, backed-more}
+use Rattle.conduct.proofs.Store.{Held, held-send, held-convert}
 
 -- An exclusive proposal: its stamp is not zero, and the desk and start of that stamp is in use and knows a stamp at least as large.
 pub record Marked (known : ℕ → ℕ → Pair) (started : List ℕ) (m : Made) : Type 0 where
@@ -56,18 +65,22 @@ Once [] = Unit {0}
 Once (m ∷ before) =
     ((d : Made) → Among d before → m .mode ≡ exclusive → m .card ≡ d .card → d .mode ≡ exclusive → m .pair .x ≡ d .pair .x → ⊥) × Once before
 
--- The image is as the commands so far left it, latest first, and their pairs are backed.
-pub record Stored (v : Format) (n c : ℕ) (image : List ℕ) (made : List Made) : Type 0 where
-  pub sent : List Sent
-  pub image-is : image ≡ imageAfter v (fresh v n c) sent
-  pub bytes : AllBytes sent
-  pub backed :
-      (s : Sent) → Among s sent → formed v (s .command) ≡ true
-      → Backed made (fieldsOf v (s .command) .card) (update (fieldsOf v (s .command)))
+-- A proposal with these fields stands in the list.
+pub record Proposal (made : List Made) (card mode : ℕ) (pair : Pair) : Type 0 where
+  pub m : Made
+  pub among : Among m made
+  pub card-is : m .card ≡ card
+  pub mode-is : m .mode ≡ mode
+  pub pair-same : m .pair ≡ pair
+
+-- A well-formed event is under a pair that was proposed, for its card and in its mode.
+abbrev pub Sanctioned : List Made → Event → Type 0
+Sanctioned made e = e .read .formed ≡ true → Proposal made (commandOf e .card) (commandOf e .mode) (update (commandOf e))
 
 pub record Kept (v : Format) (n c : ℕ) (y : System) : Type 0 where
-  pub store : Stored v n c (y .image) (y .made)
-  -- every pair in circulation is backed: in a queue, known, told and proposed
+  pub held : Held v n c (y .version) (y .image) (y .log)
+  -- every pair in circulation is backed: stored, in a queue, known, told and proposed
+  pub stored : (k : ℕ) → Backed (y .made) k (getD (held .cards .cards) k (noCard (y .version)) .pair)
   pub queued : (k : ℕ) → Backed (y .made) k (y .queues k .largest)
   pub knowing : (w k : ℕ) → Backed (y .made) k (y .known w k)
   pub telling : (t : Told) → Among t (y .told) → Backed (y .made) (t .card) (t .pair)
@@ -76,6 +89,7 @@ pub record Kept (v : Format) (n c : ℕ) (y : System) : Type 0 where
   pub ordered : Ordered (y .made)
   pub once : Once (y .made)
   pub numbered : (w : ℕ) → inUse y w ≡ true → w < 4294967296
+  pub sanctioned : (e : Event) → Among e (y .log) → Sanctioned (y .made) e
 
 -- ---- tests of the rules
 
@@ -85,14 +99,6 @@ pair-is p q h =
     let x = eqb-true (p .x) (q .x) (and-right (eqb (p .s) (q .s)) (eqb (p .x) (q .x)) h) in
     let both : _≡_ {A = Pair} (record { s = p .s; x = p .x }) (record { s = q .s; x = q .x }) = rw (s, x) in
     both
-
--- A proposal with these fields stands in the list.
-pub record Proposal (made : List Made) (card mode : ℕ) (pair : Pair) : Type 0 where
-  pub m : Made
-  pub among : Among m made
-  pub card-is : m .card ≡ card
-  pub mode-is : m .mode ≡ mode
-  pub pair-same : m .pair ≡ pair
 
 pub is-made : (made : List Made) (card mode : ℕ) (pair : Pair) → isMade made card mode pair ≡ true → Proposal made card mode pair
 is-made made card mode pair h =
@@ -118,6 +124,10 @@ if-formed f {P} h e = go (or-cases (not f) P h)
     go (inl n) = absurd (never-both e (not-true f n))
     go (inr p) = p
 
+pub proposal-more : {made : List Made} {card mode : ℕ} {pair : Pair} (new : Made) → Proposal made card mode pair → Proposal (new ∷ made) card mode pair
+proposal-more new p =
+    record { m = p .m; among = among-later new (p .among); card-is = p .card-is; mode-is = p .mode-is; pair-same = p .pair-same }
+
 -- The system after a proposal by a desk and start.
 abbrev raised : System → ℕ → Made → Pair
 raised y who new = largerOfEach (y .known who (new .card)) (new .pair)
@@ -125,7 +135,7 @@ raised y who new = largerOfEach (y .known who (new .card)) (new .pair)
 abbrev proposedTo : System → ℕ → Made → System
 proposedTo y who new = withMade new (nowKnows who (new .card) (raised y who new) y)
 
-module _ (v : Format) (n c : ℕ) (shape : T (shapeOk v n c)) (y : System) (k : Kept v n c y) where
+module _ (v : Format) (n c : ℕ) (y : System) (k : Kept v n c y) where
   stamped : Stamped (y .made)
   stamped m a e = k .marked m a e .some
 
@@ -146,11 +156,12 @@ module _ (v : Format) (n c : ℕ) (shape : T (shapeOk v n c)) (y : System) (k : 
 
   -- ---- a desk starts
 
-  pub kept-begin : (lent : ℕ → ℕ) (who : ℕ) → allowed v y (begin who) ≡ true → Kept v n c (stepTo v lent y (begin who))
+  pub kept-begin : (who : ℕ) → allowed y (begin who) ≡ true → Kept v n c (stepTo y (begin who))
   unfolding stepTo
-  kept-begin lent who h =
+  kept-begin who h =
       record {
-        store = k .store;
+        held = k .held;
+        stored = k .stored;
         queued = k .queued;
         knowing = with-all (λ (w : ℕ) (f : ℕ → Pair). (j : ℕ) → Backed (y .made) j (f j)) who (λ j. noPair) (y .known) nothing (k .knowing);
         telling = k .telling;
@@ -159,6 +170,7 @@ module _ (v : Format) (n c : ℕ) (shape : T (shapeOk v n c)) (y : System) (k : 
         ordered = k .ordered;
         once = k .once;
         numbered = λ w r. go w (or-cases (eqb who w) (inUse y w) r);
+        sanctioned = k .sanctioned;
       }
     where
       idle : inUse y who ≡ false
@@ -182,7 +194,8 @@ module _ (v : Format) (n c : ℕ) (shape : T (shapeOk v n c)) (y : System) (k : 
       → Kept v n c (nowKnows who card pair y)
   kept-known who card pair b up =
       record {
-        store = k .store;
+        held = k .held;
+        stored = k .stored;
         queued = k .queued;
         knowing =
             with-all (λ (w : ℕ) (f : ℕ → Pair). (j : ℕ) → Backed (y .made) j (f j)) who (with card pair (y .known who)) (y .known)
@@ -194,6 +207,7 @@ module _ (v : Format) (n c : ℕ) (shape : T (shapeOk v n c)) (y : System) (k : 
         ordered = k .ordered;
         once = k .once;
         numbered = k .numbered;
+        sanctioned = k .sanctioned;
       }
     where
       rises : (w j : ℕ) → y .known w j .x ≤ nowKnows who card pair y .known w j .x
@@ -206,10 +220,10 @@ module _ (v : Format) (n c : ℕ) (shape : T (shapeOk v n c)) (y : System) (k : 
       still m d =
           record { some = d .some; low = let r = rises (deskStart (m .pair .x)) (m .card) in let l = d .low in omega arith; running = d .running }
 
-  pub kept-learn : (lent : ℕ → ℕ) (who card : ℕ) (pair : Pair) → allowed v y (learn who card pair) ≡ true
-      → Kept v n c (stepTo v lent y (learn who card pair))
+  pub kept-learn : (who card : ℕ) (pair : Pair) → allowed y (learn who card pair) ≡ true
+      → Kept v n c (stepTo y (learn who card pair))
   unfolding stepTo learnt
-  kept-learn lent who card pair h =
+  kept-learn who card pair h =
       kept-known who card (largerOfEach (y .known who card) pair) (backed-larger (y .known who card) pair (k .knowing who card) heard) (omega arith)
     where
       test : Told → Bool
@@ -249,13 +263,8 @@ module _ (v : Format) (n c : ℕ) (shape : T (shapeOk v n c)) (y : System) (k : 
       kept-more : Kept v n c (proposedTo y who new)
       kept-more =
           record {
-            store =
-                record {
-                  sent = k .store .sent;
-                  image-is = k .store .image-is;
-                  bytes = k .store .bytes;
-                  backed = λ s a f. more (fieldsOf v (s .command) .card) (update (fieldsOf v (s .command))) (k .store .backed s a f);
-                };
+            held = k .held;
+            stored = λ j. more j (getD (k .held .cards .cards) j (noCard (y .version)) .pair) (k .stored j);
             queued = λ j. more j (y .queues j .largest) (k .queued j);
             knowing =
                 with-all (λ (w : ℕ) (f : ℕ → Pair). (j : ℕ) → Backed (new ∷ y .made) j (f j)) who (with (new .card) (raised y who new) (y .known who)) (y .known)
@@ -274,6 +283,7 @@ module _ (v : Format) (n c : ℕ) (shape : T (shapeOk v n c)) (y : System) (k : 
               k .once,
             );
             numbered = k .numbered;
+            sanctioned = λ e a f. proposal-more new (k .sanctioned e a f);
           }
         where
           made-backed : (m : Made) → (m ≡ new) ⊎ Among m (y .made) → Backed (new ∷ y .made) (m .card) (m .pair)
@@ -338,6 +348,9 @@ module _ (v : Format) (n c : ℕ) (shape : T (shapeOk v n c)) (y : System) (k : 
           let whole : who / 65536 * 65536 + who % 65536 ≡ who = omega arith in
           d ∙ whole
 
+      mine-valid : (n : ℕ) → stampValid (ownAbove (who / 65536) (who % 65536) n) ≡ true
+      mine-valid n = let w = width in stamp-valid (nextT (who / 65536) (who % 65536) n) (omega arith) (omega arith) some
+
       mine-some : stampX ≡ 0 → ⊥
       mine-some z = let u = up (y .known who card .x) in omega arith
 
@@ -359,6 +372,8 @@ module _ (v : Format) (n c : ℕ) (shape : T (shapeOk v n c)) (y : System) (k : 
       own-x : Backed (newX ∷ y .made) card (newX .pair)
       own-x =
           record {
+            valid-s = k .knowing who card .valid-s;
+            valid-x = mine-valid (y .known who card .x);
             covers = λ m a c e z. go m c e z (among-cases a);
             stems = λ z. record { m = newX; among = among-here newX (y .made); card = refl; mode = refl; stamp = refl };
           }
@@ -375,6 +390,8 @@ module _ (v : Format) (n c : ℕ) (shape : T (shapeOk v n c)) (y : System) (k : 
       own-s =
           backed-more newS (λ c e z. absurd (omega arith))
           (record {
+            valid-s = mine-valid (y .known who card .s);
+            valid-x = k .knowing who card .valid-x;
             covers = λ m a c e z. let low = k .knowing who card .covers m a c e z in let u = up (y .known who card .s) in omega arith;
             stems = λ z. k .knowing who card .stems z;
           })
@@ -385,11 +402,11 @@ module _ (v : Format) (n c : ℕ) (shape : T (shapeOk v n c)) (y : System) (k : 
           (λ d a h c e z. let low = k .knowing who card .covers d a (sym c) e (sym z) in let u = up (y .known who card .s) in omega arith)
 
   -- A proposal, by its number.
-  pub kept-propose : (lent : ℕ → ℕ) (who card mode : ℕ) → allowed v y (propose who card mode) ≡ true → Kept v n c (stepTo v lent y (propose who card mode))
+  pub kept-propose : (who card mode : ℕ) → allowed y (propose who card mode) ≡ true → Kept v n c (stepTo y (propose who card mode))
   unfolding stepTo proposed learnt
-  kept-propose lent who card mode running = go (proposed (knows y who card) mode .number) refl
+  kept-propose who card mode running = go (proposed (knows y who card) mode .number) refl
     where
-      go : (given : ℕ) → proposed (knows y who card) mode .number ≡ given → Kept v n c (stepTo v lent y (propose who card mode))
+      go : (given : ℕ) → proposed (knows y who card) mode .number ≡ given → Kept v n c (stepTo y (propose who card mode))
       go (suc j) e = rw e k
       go zero e = rw e (by-mode (made-rules (knows y who card) mode e))
         where
@@ -410,65 +427,67 @@ module _ (v : Format) (n c : ℕ) (shape : T (shapeOk v n c)) (y : System) (k : 
   -- ---- a queue answers
 
   -- What a request on a queue of the system makes of its largest pair, and the pair of the answer.
-  module _ (lent : ℕ → ℕ) (card : ℕ) (r : Request) (fine : (new : Waiting) → r ≡ asks new → wellFormed new ≡ true → Backed (y .made) card (new .pair)) where
-    after-backed : Backed (y .made) card (after (lent card) (y .queues card) r .largest)
-    after-backed = go r fine (number (lent card) (y .queues card) r) refl
+  module _ (lent card : ℕ) (r : Request) (fine : (new : Waiting) → r ≡ asks new → wellFormed new ≡ true → Backed (y .made) card (new .pair)) where
+    after-backed : Backed (y .made) card (after lent (y .queues card) r .largest)
+    after-backed = go r fine (number lent (y .queues card) r) refl
       where
         go : (r : Request) → ((new : Waiting) → r ≡ asks new → wellFormed new ≡ true → Backed (y .made) card (new .pair))
-            → (n : ℕ) → number (lent card) (y .queues card) r ≡ n
-            → Backed (y .made) card (after (lent card) (y .queues card) r .largest)
-        go r f (suc n) e = rw (refusal-leaves (lent card) (y .queues card) r n e) (k .queued card)
+            → (n : ℕ) → number lent (y .queues card) r ≡ n
+            → Backed (y .made) card (after lent (y .queues card) r .largest)
+        go r f (suc n) e = rw (refusal-leaves lent (y .queues card) r n e) (k .queued card)
         go (asks new) f zero e =
-            rw (asked-largest (lent card) (y .queues card) new e)
+            rw (asked-largest lent (y .queues card) new e)
             (backed-larger (y .queues card .largest) (new .pair) (k .queued card)
-            (f new refl (not-false (wellFormed new) (no-row (lent card) (y .queues card) (asks new) e 1))))
-        go (leaves d) f zero e = rw (left-largest (lent card) (y .queues card) d e) (k .queued card)
-        go (lapses l) f zero e = rw (lapsed-largest (lent card) (y .queues card) l e) (k .queued card)
+            (f new refl (not-false (wellFormed new) (no-row lent (y .queues card) (asks new) e 1))))
+        go (leaves d) f zero e = rw (left-largest lent (y .queues card) d e) (k .queued card)
+        go (lapses l) f zero e = rw (lapsed-largest lent (y .queues card) l e) (k .queued card)
 
-    answer-backed : Backed (y .made) card (answer (lent card) (y .queues card) r .largest)
+    answer-backed : Backed (y .made) card (answer lent (y .queues card) r .largest)
     unfolding answer answered
-    answer-backed = go (blankAnswer (number (lent card) (y .queues card) r))
+    answer-backed = go (blankAnswer (number lent (y .queues card) r))
       where
-        go : (b : Bool) → Backed (y .made) card (cond b noPair (after (lent card) (y .queues card) r .largest))
+        go : (b : Bool) → Backed (y .made) card (cond b noPair (after lent (y .queues card) r .largest))
         go true = nothing card
         go false = after-backed
 
     -- The queue and the answers after it; nothing else has moved.
-    kept-queue : Kept v n c (queueStep (lent card) y card r)
+    kept-queue : Kept v n c (queueStep lent y card r)
     kept-queue =
         record {
-          store = k .store;
+          held = k .held;
+          stored = k .stored;
           queued =
-              with-all (λ (j : ℕ) (q : State). Backed (y .made) j (q .largest)) card (after (lent card) (y .queues card) r) (y .queues) after-backed (k .queued);
+              with-all (λ (j : ℕ) (q : State). Backed (y .made) j (q .largest)) card (after lent (y .queues card) r) (y .queues) after-backed (k .queued);
           knowing = k .knowing;
-          telling = told-more (record { card = card; number = answer (lent card) (y .queues card) r .number; pair = answer (lent card) (y .queues card) r .largest }) answer-backed;
+          telling = told-more (record { card = card; number = answer lent (y .queues card) r .number; pair = answer lent (y .queues card) r .largest }) answer-backed;
           making = k .making;
           marked = k .marked;
           ordered = k .ordered;
           once = k .once;
           numbered = k .numbered;
+          sanctioned = k .sanctioned;
         }
 
-  pub kept-ask : (lent : ℕ → ℕ) (card : ℕ) (new : Waiting) → allowed v y (ask card new) ≡ true → Kept v n c (stepTo v lent y (ask card new))
+  pub kept-request : (card lent : ℕ) (r : Request) → allowed y (atQueue card lent r) ≡ true → Kept v n c (stepTo y (atQueue card lent r))
   unfolding stepTo
-  kept-ask lent card new h =
-      kept-queue lent card (asks new)
-      (λ w e f.
-      let same : new ≡ w = cc in
-      subst (λ (v : Waiting). Backed (y .made) card (v .pair)) same
-      (proposal-backed (is-made (y .made) card (new .mode) (new .pair)
-      (if-formed (wellFormed new) h (subst (λ (v : Waiting). wellFormed v ≡ true) (sym same) f)))))
-
-  pub kept-leave : (lent : ℕ → ℕ) (card desk : ℕ) → Kept v n c (stepTo v lent y (leave card desk))
-  unfolding stepTo
-  kept-leave lent card desk = kept-queue lent card (leaves desk) (λ w e f. let z : _≡_ {A = ℕ} 0 1 = cc in absurd (omega arith))
+  kept-request card lent r h = kept-queue lent card r (fine r h)
+    where
+      fine : (r : Request) → asksMade (y .made) card r ≡ true → (new : Waiting) → r ≡ asks new → wellFormed new ≡ true → Backed (y .made) card (new .pair)
+      fine (asks old) h new e f =
+          let same : old ≡ new = cc in
+          subst (λ (w : Waiting). Backed (y .made) card (w .pair)) same
+          (proposal-backed (is-made (y .made) card (old .mode) (old .pair)
+          (if-formed (wellFormed old) h (subst (λ (w : Waiting). wellFormed w ≡ true) (sym same) f))))
+      fine (leaves d) h new e f = let z : _≡_ {A = ℕ} 0 1 = cc in absurd (omega arith)
+      fine (lapses l) h new e f = let z : _≡_ {A = ℕ} 0 1 = cc in absurd (omega arith)
 
   -- A queue that is lost has no largest pair.
-  pub kept-lose : (lent : ℕ → ℕ) (card : ℕ) (places : List Waiting) → Kept v n c (stepTo v lent y (lose card places))
+  pub kept-lose : (card : ℕ) (places : List Waiting) → Kept v n c (stepTo y (lose card places))
   unfolding stepTo
-  kept-lose lent card places =
+  kept-lose card places =
       record {
-        store = k .store;
+        held = k .held;
+        stored = k .stored;
         queued =
             with-all (λ (j : ℕ) (q : State). Backed (y .made) j (q .largest)) card (emptyQueue places) (y .queues) (nothing card) (k .queued);
         knowing = k .knowing;
@@ -478,88 +497,160 @@ module _ (v : Format) (n c : ℕ) (shape : T (shapeOk v n c)) (y : System) (k : 
         ordered = k .ordered;
         once = k .once;
         numbered = k .numbered;
+        sanctioned = k .sanctioned;
       }
 
   -- ---- the store answers
 
-  -- The largest pair of what was accepted is backed where what was sent is.
-  largest-backed : (start : List ℕ) (sent : List Sent) (j : ℕ)
-      → ((s : Sent) → Among s sent → formed v (s .command) ≡ true → Backed (y .made) (fieldsOf v (s .command) .card) (update (fieldsOf v (s .command))))
-      → Backed (y .made) j (largestPair j (history v start sent))
-  unfolding history
-  largest-backed start [] j b = nothing j
-  largest-backed start (s ∷ earlier) j b =
-      go (cases (accepted j event)) (largest-backed start earlier j (λ a m. b a (among-later s m)))
-    where
-      event : Event
-      event = eventOf v s (serve v (imageAfter v start earlier) (s .command) (s .lent))
-
-      own : accepted j event ≡ true → Backed (y .made) j (update (fieldsOf v (s .command)))
-      own h =
-          let means = accepted-means j event .0 h in
-          subst (λ (i : ℕ). Backed (y .made) i (update (fieldsOf v (s .command)))) (means .1)
-          (b s (among-here s earlier) (accepted-formed v (imageAfter v start earlier) (s .command) (s .lent) (means .0)))
-
-      go : (accepted j event ≡ true) ⊎ (accepted j event ≡ false) → Backed (y .made) j (largestPair j (history v start earlier))
-          → Backed (y .made) j (largestPair j (event ∷ history v start earlier))
-      go (inl h) rest = rw h (backed-larger (largestPair j (history v start earlier)) (update (fieldsOf v (s .command))) rest (own h))
-      go (inr h) rest = rw h rest
-
-  module _ (lent : ℕ → ℕ) (s : Sent) (bytes : SentBytes s) (h : allowed v y (send s) ≡ true) where
+  module _ (s : Sent) (bytes : SentBytes s) (h : sendsMade (y .version) (y .made) s ≡ true) where
     abbrev command : Command
-    command = fieldsOf v (s .command)
+    command = fieldsOf (y .version) (s .command)
 
-    -- The pair of a well-formed command is one that was proposed, now and before.
-    sent-backed : (a : Sent) → Among a (s ∷ k .store .sent) → formed v (a .command) ≡ true
-        → Backed (y .made) (fieldsOf v (a .command) .card) (update (fieldsOf v (a .command)))
-    sent-backed a m f = go (among-cases m)
+    abbrev cs : Cards
+    cs = k .held .cards
+
+    abbrev own-card : Card
+    own-card = getD (cs .cards) (command .card) (noCard (y .version))
+
+    proposal : formed (y .version) (s .command) ≡ true → Proposal (y .made) (command .card) (command .mode) (update command)
+    proposal g = is-made (y .made) (command .card) (command .mode) (update command) (if-formed (formed (y .version) (s .command)) h g)
+
+    -- The pair that an accepted command leaves.
+    raised-backed : numberOn (y .version) cs s ≡ 0 → Backed (y .made) (command .card) (largerOfEach (own-card .pair) (update command))
+    raised-backed e =
+        backed-larger (own-card .pair) (update command) (k .stored (command .card)) (proposal-backed (proposal (passed (y .version) cs s e .wellFormed)))
+
+    stored-next : (number : ℕ) → numberOn (y .version) cs s ≡ number → (j : ℕ) → Backed (y .made) j (getD (cardsBy (y .version) number cs s .cards) j (noCard (y .version)) .pair)
+    unfolding stepped raise
+    stored-next (suc i) e j = k .stored j
+    stored-next zero e j = go (cases (eqb (command .card) j))
       where
-        now : formed v (s .command) ≡ true → Backed (y .made) (command .card) (update command)
-        now g = proposal-backed (is-made (y .made) (command .card) (command .mode) (update command) (if-formed (formed v (s .command)) h g))
+        there : command .card < length (cs .cards)
+        there = ltb-true (command .card) (length (cs .cards)) (passed (y .version) cs s e .exists)
 
-        go : (a ≡ s) ⊎ Among a (k .store .sent) → Backed (y .made) (fieldsOf v (a .command) .card) (update (fieldsOf v (a .command)))
-        go (inl e) =
-            subst (λ (d : Sent). Backed (y .made) (fieldsOf v (d .command) .card) (update (fieldsOf v (d .command)))) (sym e)
-            (now (subst (λ (d : Sent). formed v (d .command) ≡ true) e f))
-        go (inr l) = k .store .backed a l f
+        next : Card
+        next = stepped own-card command (payload (y .version) (s .command))
+
+        go : (eqb (command .card) j ≡ true) ⊎ (eqb (command .card) j ≡ false) → Backed (y .made) j (getD (set (cs .cards) (command .card) next) j (noCard (y .version)) .pair)
+        go (inl same) =
+            subst (λ (i : ℕ). Backed (y .made) i (getD (set (cs .cards) (command .card) next) i (noCard (y .version)) .pair)) (eqb-true (command .card) j same)
+            (subst (λ (d : Card). Backed (y .made) (command .card) (d .pair)) (sym (getD-set-same (cs .cards) (command .card) next (noCard (y .version)) there)) (raised-backed e))
+        go (inr other) =
+            subst (λ (d : Card). Backed (y .made) j (d .pair))
+            (sym (getD-set-other (cs .cards) (command .card) j next (noCard (y .version)) (λ z. eqb-false (command .card) j other (sym z))))
+            (k .stored j)
+
+    -- The pair in the reply: none, the stored one, or the one that is left.
+    reply-backed : (number : ℕ) → numberOn (y .version) cs s ≡ number → Backed (y .made) (command .card) (eventBy (y .version) number cs s .answer .pair)
+    unfolding replied raise
+    reply-backed zero e = raised-backed e
+    reply-backed (suc i) e = go (blankReply (suc i))
+      where
+        go : (b : Bool) → Backed (y .made) (command .card) (cond b noPair (own-card .pair))
+        go true = nothing (command .card)
+        go false = k .stored (command .card)
 
     abbrev event : Event
-    event = eventOf v s (serve v (imageAfter v (fresh v n c) (k .store .sent)) (s .command) (s .lent))
+    event = eventOf (y .version) s (serve (y .version) (y .image) (s .command) (s .lent))
 
-    -- The reply shows the largest pair that was accepted, or zeros.
-    reply-backed : Backed (y .made) (command .card) (event .answer .pair)
-    unfolding history
-    reply-backed =
-        subst (Backed (y .made) (command .card)) (sym shown)
-        (go (blankReply (event .answer .number)) (largest-backed (fresh v n c) (s ∷ k .store .sent) (command .card) sent-backed))
-      where
-        shown : Shows event (history v (fresh v n c) (k .store .sent))
-        shown = shows-history v n c shape (s ∷ k .store .sent) (bytes, k .store .bytes) .0
+    event-is : event ≡ eventBy (y .version) (numberOn (y .version) cs s) cs s
+    event-is = ap (λ (i : List ℕ). eventOf (y .version) s (serve (y .version) i (s .command) (s .lent))) (k .held .image-is) ∙ same-event (y .version) cs s (k .held .good)
 
-        go : (b : Bool) → Backed (y .made) (command .card) (largestPair (command .card) (event ∷ history v (fresh v n c) (k .store .sent)))
-            → Backed (y .made) (command .card) (cond b noPair (largestPair (command .card) (event ∷ history v (fresh v n c) (k .store .sent))))
-        go true l = nothing (command .card)
-        go false l = l
-
-    pub kept-send : Kept v n c (stepTo v lent y (send s))
-    unfolding stepTo imageAfter
+    pub kept-send : Kept v n c (sendStep y s)
+    unfolding held-send
     kept-send =
         record {
-          store =
-              record {
-                sent = s ∷ k .store .sent;
-                image-is = ap (λ (i : List ℕ). serve v i (s .command) (s .lent) .image) (k .store .image-is);
-                bytes = (bytes, k .store .bytes);
-                backed = sent-backed;
-              };
+          held = held-send v n c (y .version) (y .image) (y .log) s bytes (k .held);
+          stored = stored-next (numberOn (y .version) cs s) refl;
           queued = k .queued;
           knowing = k .knowing;
           telling =
-              told-more (record { card = command .card; number = serve v (y .image) (s .command) (s .lent) .answer .number; pair = serve v (y .image) (s .command) (s .lent) .answer .pair })
-              (subst (λ (i : List ℕ). Backed (y .made) (command .card) (serve v i (s .command) (s .lent) .answer .pair)) (sym (k .store .image-is)) reply-backed);
+              told-more (record { card = command .card; number = event .answer .number; pair = event .answer .pair })
+              (subst (λ (e : Event). Backed (y .made) (command .card) (e .answer .pair)) (sym event-is) (reply-backed (numberOn (y .version) cs s) refl));
           making = k .making;
           marked = k .marked;
           ordered = k .ordered;
           once = k .once;
           numbered = k .numbered;
+          sanctioned = λ e a. go e (among-cases a);
         }
+      where
+        go : (e : Event) → (e ≡ event) ⊎ Among e (y .log) → Sanctioned (y .made) e
+        go e (inl same) = subst (Sanctioned (y .made)) (sym same) proposal
+        go e (inr a) = k .sanctioned e a
+
+  -- ---- a conversion
+
+  -- The cards and their pairs, of a version.
+  abbrev Pairing : Format → Type 0
+  Pairing f = (d : Held v n c f (y .image) (y .log)) × ((j : ℕ) → Backed (y .made) j (getD (d .cards .cards) j (noCard f) .pair))
+
+  widened-backed : (cs : Cards) → ((j : ℕ) → Backed (y .made) j (getD (cs .cards) j (noCard V1) .pair)) → (j : ℕ) → Backed (y .made) j (getD (widenedCards cs .cards) j (noCard V2) .pair)
+  widened-backed cs b j = go (cases (ltb j (length (cs .cards))))
+    where
+      go : (ltb j (length (cs .cards)) ≡ true) ⊎ (ltb j (length (cs .cards)) ≡ false) → Backed (y .made) j (getD (widenedCards cs .cards) j (noCard V2) .pair)
+      go (inl h) = subst (λ (d : Card). Backed (y .made) j (d .pair)) (sym (getD-map (cs .cards) j (ltb-true j (length (cs .cards)) h))) (b j)
+      go (inr h) =
+          let past = ltb-false j (length (cs .cards)) h in
+          let long = length-map (cs .cards) widened in
+          subst (λ (d : Card). Backed (y .made) j (d .pair)) (sym (List·getD-eq-default (widenedCards cs .cards) (noCard V2) (omega arith))) (nothing j)
+
+  pub kept-convert : (lent : ℕ) → Kept v n c (convertStep (y .version) lent y)
+  unfolding held-convert
+  kept-convert lent = go (y .version) (k .held, k .stored)
+    where
+      go : (f : Format) → Pairing f → Kept v n c (convertStep f lent y)
+      go V2 b = k
+      go V1 b = by-number (convertNumber (y .image) lent) refl
+        where
+          by-number : (number : ℕ) → convertNumber (y .image) lent ≡ number → Kept v n c (settled number (withStore V2 (converted (y .image)) (y .log) y) y)
+          by-number (suc i) e = k
+          by-number zero e =
+              record {
+                held = held-convert v n c (y .image) (y .log) lent (b .0) e;
+                stored = widened-backed (b .0 .cards) (b .1);
+                queued = k .queued;
+                knowing = k .knowing;
+                telling = k .telling;
+                making = k .making;
+                marked = k .marked;
+                ordered = k .ordered;
+                once = k .once;
+                numbered = k .numbered;
+                sanctioned = k .sanctioned;
+              }
+
+-- ---- requests one after the other, and a recovery
+
+pub sends-version : (y : System) (sent : List Sent) → sendSteps y sent .version ≡ y .version
+unfolding sendSteps
+sends-version y [] = refl
+sends-version y (s ∷ earlier) = sends-version y earlier
+
+sends-made : (y : System) (sent : List Sent) → sendSteps y sent .made ≡ y .made
+unfolding sendSteps
+sends-made y [] = refl
+sends-made y (s ∷ earlier) = sends-made y earlier
+
+kept-sends : (v : Format) (n c : ℕ) (y : System) → Kept v n c y → (sent : List Sent) → AllBytes sent → allMade (y .version) (y .made) sent ≡ true → Kept v n c (sendSteps y sent)
+unfolding sendSteps
+kept-sends v n c y k [] b h = k
+kept-sends v n c y k (s ∷ earlier) b h =
+    let here = and-left (sendsMade (y .version) (y .made) s) (allMade (y .version) (y .made) earlier) h in
+    let rest = and-right (sendsMade (y .version) (y .made) s) (allMade (y .version) (y .made) earlier) h in
+    kept-send v n c (sendSteps y earlier) (kept-sends v n c y k earlier (b .1) rest) s (b .0)
+    (subst (λ (f : Format). sendsMade f (sendSteps y earlier .made) s ≡ true) (sym (sends-version y earlier))
+    (subst (λ (made : List Made). sendsMade (y .version) made s ≡ true) (sym (sends-made y earlier)) here))
+
+-- What a recovery sends is bytes.
+pub recovery-bytes : (f : Format) (image : List ℕ) (cs : Cards) → image ≡ encode f cs → GoodCards f cs → (pairs : Pairs) (log : List ℕ) → FitsPairs pairs → Bytes log
+    → AllBytes (recoverySends f pairs log image)
+recovery-bytes V1 image cs e g pairs log fp lb = subst (λ (i : List ℕ). AllBytes (recovered pairs log i .sent)) (sym e) (recovered-bytes pairs log cs g fp lb)
+recovery-bytes V2 image cs e g pairs log fp lb = tt
+
+pub kept-recover : (v : Format) (n c : ℕ) (y : System) → Kept v n c y → (pairs : Pairs) (log : List ℕ) → FitsPairs pairs → Bytes log → allowed y (recover pairs log) ≡ true
+    → Kept v n c (stepTo y (recover pairs log))
+unfolding stepTo
+kept-recover v n c y k pairs log fp lb h =
+    kept-sends v n c y k (recoverySends (y .version) pairs log (y .image))
+    (recovery-bytes (y .version) (y .image) (k .held .cards) (k .held .image-is) (k .held .good) pairs log fp lb) h

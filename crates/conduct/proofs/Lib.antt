@@ -1,4 +1,6 @@
 pub mod Backing
+pub mod Store
 pub mod Kept
 pub mod Claims
 pub mod Trials
+pub mod Uses

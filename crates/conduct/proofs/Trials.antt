@@ -1,5 +1,7 @@
 -- The story and the runs that break one rule, by computation on bytes. Assumes nothing.
 use mathlib.Core.Path.{refl}
+use lib.Ieee.{ofBits, ofInt, add, sub, mul, div, neg, lt, le as atMost}
+use Rattle.floats.specs.Numbers.{wholeFloat, half}
 use Rattle.lists.specs.Parts.{part, splice, table, spread, every, zeros}
 use Rattle.lists.specs.Le.{le, toLe}
 use Rattle.lists.specs.Table.{all, allFrom}
@@ -12,20 +14,29 @@ use Rattle.image.specs.Layout.{shapeOk}
 use Rattle.image.specs.Bytes.{header, entryBytes, pad, readEntry, entryAt}
 use Rattle.image.specs.Image.{bodies, encode, cardAt, decode, tailZero, translationSound, cardSound, headerSound, sound, fresh}
 use Rattle.model.specs.Serve.{stepped, serveBy, serve}
-use Rattle.model.specs.Words.{imageAfter, history, logOf}
+use Rattle.image.specs.Convert.{converted}
+use Rattle.image.specs.Image.{makes}
+use Rattle.redo_log.specs.Log.{shaped, lastBegun, opened, follows, total, startAt, recordAt, recordOk, goodLog, records}
+use Rattle.redo_log.specs.Append.{stored, puts, lineBytes, stores, appended}
+use Rattle.redo_log_claims.specs.Claims.{appendedAll}
+use Rattle.recovery_model.specs.Recovery.{due, recoverySent, recoveryStep, recovering, recovered}
 use Rattle.lock_queue.specs.Queue.{stands, firstPlace}
 use Rattle.lock_queue.specs.Good.{distinct, good}
 use Rattle.lock_queue.specs.Requests.{joined, removed, without, upgrading, onto, answered, number, after, answer}
 use Rattle.proposals.specs.Propose.{learnt, nextT, pairFor, proposed}
-use Rattle.conduct.specs.System.{stepTo, course, byRules, sentBy}
-use Rattle.conduct.specs.Trials.{Story, RulesNeeded}
+use Rattle.conduct.specs.System.{sendSteps, stepTo, course, byRules}
+use Rattle.conduct.specs.Trials.{Story, LongStory, RulesNeeded}
 
 pub story-holds : Story
-unfolding byRules course stepTo sentBy learnt nextT pairFor proposed answered number after answer upgrading onto firstPlace good distinct stands joined removed without logOf history imageAfter serve serveBy stepped sound headerSound cardSound translationSound tailZero decode cardAt entryAt readEntry encode bodies pad entryBytes header shapeOk fresh replied raise entrySound commandBytes formed payload fieldsOf wellFormed all allFrom le toLe part splice table spread every zeros
+unfolding byRules course stepTo learnt nextT pairFor proposed answered number after answer upgrading onto firstPlace good distinct stands joined removed without serve serveBy stepped sound headerSound cardSound translationSound tailZero decode cardAt entryAt readEntry encode bodies pad entryBytes header shapeOk fresh replied raise entrySound commandBytes formed payload fieldsOf wellFormed all allFrom le toLe part splice table spread every zeros
 story-holds = record { rules = refl; answers = refl; shows = refl; carried = refl; below = refl }
 
+pub long-story : LongStory
+unfolding byRules course stepTo sendSteps due recoverySent recoveryStep recovering recovered appendedAll stored puts lineBytes stores appended shaped lastBegun opened follows total startAt recordAt recordOk goodLog records converted makes learnt nextT pairFor proposed answered number after answer upgrading onto firstPlace good distinct stands joined removed without serve serveBy stepped sound headerSound cardSound translationSound tailZero decode cardAt entryAt readEntry encode bodies pad entryBytes header shapeOk fresh replied raise entrySound commandBytes formed payload fieldsOf wellFormed all allFrom le toLe part splice table spread every zeros ofBits ofInt wholeFloat half add sub mul div neg lt atMost
+long-story = record { rules = refl; version = refl; answers = refl; shows = refl; not-proposed = refl; not-exclusive = refl }
+
 pub rules-needed : RulesNeeded
-unfolding byRules course stepTo sentBy learnt nextT pairFor proposed answered number after answer upgrading onto firstPlace good distinct stands joined removed without logOf history imageAfter serve serveBy stepped sound headerSound cardSound translationSound tailZero decode cardAt entryAt readEntry encode bodies pad entryBytes header shapeOk fresh replied raise entrySound commandBytes formed payload fieldsOf wellFormed all allFrom le toLe part splice table spread every zeros
+unfolding byRules course stepTo learnt nextT pairFor proposed answered number after answer upgrading onto firstPlace good distinct stands joined removed without serve serveBy stepped sound headerSound cardSound translationSound tailZero decode cardAt entryAt readEntry encode bodies pad entryBytes header shapeOk fresh replied raise entrySound commandBytes formed payload fieldsOf wellFormed all allFrom le toLe part splice table spread every zeros
 rules-needed =
     record {
       start-again = record { before = refl; refused = refl; after = refl; broken = refl };

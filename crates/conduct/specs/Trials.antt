@@ -5,37 +5,43 @@ use Prim.Native.Nat.{ℕ}
 use mathlib.Core.Path.{_≡_}
 use mathlib.Core.List.{List, [], _∷_, _++_, map, reverse}
 use mathlib.Core.Bool.{true, false}
-use lib.ListN.{take}
-use Rattle.formats.specs.Format.{V1}
+use lib.ListN.{length, take, replicate}
+use lib.Ieee.{binary64, ofBits}
+use Rattle.formats.specs.Format.{V1, V2}
 use Rattle.stamps.specs.Stamp.{stamp, shared, exclusive, noPair}
 use Rattle.stamps.specs.declared.Pair.{Pair}
 use Rattle.lock_queue.specs.Queue.{noWaiting}
+use Rattle.lock_queue.specs.Requests.{asks, leaves, lapses}
+use Rattle.lock_queue.specs.declared.Silence.{Silence}
 use Rattle.lock_queue.specs.declared.Waiting.{Waiting}
-use Rattle.commands.specs.Bytes.{fieldsOf}
+use Rattle.commands.specs.Bytes.{fieldsOf, commandBytes}
 use Rattle.model.specs.Serve.{serve}
-use Rattle.model.specs.Words.{Sent, received, logOf, carries, under, premise}
+use Rattle.model.specs.Words.{Sent, Event, carries, under, premise, commandsIn}
 use Rattle.model.specs.Cases.{pair, request, writeOriginal, requestOpening, text205, text401, long}
+use Rattle.redo_log_claims.specs.Claims.{appendedAll}
+use Rattle.redo_log_claims.specs.Cases.{beginOf, updateOf, commitOf, emptyLog}
+use Rattle.recovery_model.specs.Recovery.{Pairs}
 use Rattle.conduct.specs.System.{
   System,
   Move,
   Told,
   begin,
   propose,
-  ask,
-  leave,
+  atQueue,
   lose,
   send,
+  recover,
+  convert,
   learn,
   opening,
   allowed,
-  withImage,
+  withStore,
   withQueue,
   withKnown,
   withMade,
   stepTo,
   course,
   byRules,
-  sentBy,
 }
 
 -- Desks 1, 2 and 3, each with start 0, and desk 2 with start 1; a store with one card of room 16, and queues of two places.
@@ -51,8 +57,15 @@ deskTwoAgain = stamp 0 2 1
 abbrev pub deskThree : ℕ
 deskThree = stamp 0 3 0
 
-abbrev pub twoPlaces : ℕ → ℕ
-twoPlaces k = 2
+abbrev pub twoPlaces : ℕ → List Waiting
+twoPlaces k = noWaiting ∷ noWaiting ∷ []
+
+-- An ask and a leave at a queue of two places.
+abbrev pub ask : ℕ → Waiting → Move
+ask card new = atQueue card 2 (asks new)
+
+abbrev pub leave : ℕ → ℕ → Move
+leave card desk = atQueue card 2 (leaves desk)
 
 abbrev pub singleCard : System
 singleCard = opening V1 1 16 twoPlaces
@@ -122,10 +135,10 @@ abbrev pub heard : ℕ → ℕ → ℕ → Told
 heard number s x = record { card = 0; number = number; pair = pair s x }
 
 pub record Story : Type 0 where
-  pub rules : byRules V1 twoPlaces singleCard story ≡ true
+  pub rules : byRules singleCard story ≡ true
   -- the answers of the queue and of the store, in order
   pub answers :
-      reverse (course V1 twoPlaces singleCard story .told)
+      reverse (course singleCard story .told)
       ≡ heard 0 (stamp 0 1 0) 0
       ∷ heard 0 (stamp 0 1 0) 0
       ∷ heard 11 (stamp 0 1 0) 0
@@ -149,26 +162,130 @@ pub record Story : Type 0 where
       ∷ []
   -- what its commands show
   pub shows :
-      map (λ e. take (e .answer .length) (e .reply)) (reverse (logOf V1 1 16 (sentBy story)))
+      map (λ (e : Event). take (e .answer .length) (e .reply)) (reverse (course singleCard story .log))
       ≡ [] ∷ [] ∷ [] ∷ text205 ∷ [] ∷ [] ∷ [] ∷ [] ∷ text401 ∷ []
   -- the premise has something to say of it: a shared command carries the stamp of an exclusive one
   pub carried : carries (fieldsOf V1 (readUnder (stamp 1 1 0) (stamp 1 2 0) .command)) ≡ true
   pub below : under (stamp 1 2 0) (fieldsOf V1 (writeOriginal (stamp 0 1 0) (stamp 1 2 0) text205 .command)) ≡ true
 
+-- ---- a story with every other step: lapses, queues with other places, a recovery, a conversion
+
+-- Desk n, with start 0, fell silent: a lease of 1, no drift, since 0, and the time now by its bits.
+abbrev pub silence : ℕ → ℕ → ℕ → Silence
+silence n period now =
+    record {
+      desk = stamp 0 n 0;
+      lease = record { period = ofBits binary64 period; drift = ofBits binary64 0 };
+      begin = ofBits binary64 0;
+      now = ofBits binary64 now;
+    }
+
+-- A redo log in which `205` is committed for card 0, and the pair for it.
+abbrev pub committed : List ℕ
+committed = appendedAll (emptyLog 16) (beginOf 1 ∷ updateOf 0 1 text205 ∷ commitOf 1 ∷ [])
+
+abbrev pub pairsFor : ℕ → ℕ → Pairs
+pairsFor s x = record { s = s ∷ []; x = x ∷ [] }
+
+-- A command of version 2 for card 0 under a pair: a read of the original, and a write of a translation in a language.
+abbrev pub send2 : ℕ → ℕ → ℕ → ℕ → ℕ → List ℕ → List ℕ → Sent
+send2 act language s x edition text lent =
+    record {
+      command =
+          commandBytes V2
+          (record {
+            act = act;
+            mode = exclusive;
+            language = language;
+            card = 0;
+            pair = pair s x;
+            opened = noPair;
+            expected = record { desk = 0; transaction = 0 };
+            next = record { desk = 0; transaction = 0 };
+            edition = edition;
+            length = length text;
+          })
+          text;
+      lent = lent;
+    }
+
+abbrev pub longStory : List Move
+longStory =
+    begin deskOne
+    ∷ begin deskTwo
+    -- desk 1 asks exclusive under (0, 0.1.0) and recovers under it, twice
+    ∷ propose deskOne 0 exclusive
+    ∷ atQueue 0 2 (asks (waits exclusive 0 (stamp 0 1 0)))
+    ∷ recover (pairsFor 0 (stamp 0 1 0)) committed
+    ∷ recover (pairsFor 0 (stamp 0 1 0)) committed
+    -- no log at all, and no pair: nothing is sent, or what is malformed
+    ∷ recover (pairsFor 0 0) []
+    ∷ recover (pairsFor 0 0) committed
+    -- a desk that never started leaves; desk 1 lapses: out of range, not yet, over
+    ∷ atQueue 0 2 (leaves deskThree)
+    ∷ atQueue 0 2 (lapses (silence 1 0 0))
+    ∷ atQueue 0 2 (lapses (silence 1 0x3ff0_0000_0000_0000 0))
+    ∷ atQueue 0 2 (lapses (silence 1 0x3ff0_0000_0000_0000 0x3ff0_0000_0000_0000))
+    -- the queue is lost and begins again with three places, then with 33, which are too many
+    ∷ lose 0 (replicate 3 noWaiting)
+    ∷ atQueue 0 3 (asks (waits exclusive 0 (stamp 0 1 0)))
+    ∷ lose 0 (replicate 33 noWaiting)
+    ∷ atQueue 0 33 (asks (waits exclusive 0 (stamp 0 1 0)))
+    -- desk 2 learns from the guard's reply, the store is converted, into too few bytes and into enough, and once more
+    ∷ learn deskTwo 0 (pair 0 (stamp 0 1 0))
+    ∷ convert 143
+    ∷ convert 144
+    ∷ convert 144
+    -- a recovery leaves version 2 alone; desk 1's command comes late; desk 2 reads and writes in language 3
+    ∷ recover (pairsFor 0 (stamp 0 1 0)) committed
+    ∷ propose deskTwo 0 exclusive
+    ∷ send (send2 1 0 0 (stamp 0 2 0) 0 [] (long 3))
+    ∷ send (send2 3 0 0 (stamp 0 1 0) 0 text205 [])
+    ∷ send (send2 4 3 0 (stamp 0 2 0) 2 text401 [])
+    ∷ []
+
+pub record LongStory : Type 0 where
+  pub rules : byRules singleCard longStory ≡ true
+  pub version : course singleCard longStory .version ≡ V2
+  -- the answers, in order: an ask; three writes of recovery, the last malformed; a leave and three lapses; two asks; three commands of version 2
+  pub answers :
+      reverse (course singleCard longStory .told)
+      ≡ heard 0 0 (stamp 0 1 0)
+      ∷ heard 0 0 (stamp 0 1 0)
+      ∷ heard 0 0 (stamp 0 1 0)
+      ∷ heard 1 0 0
+      ∷ heard 15 0 (stamp 0 1 0)
+      ∷ heard 21 0 (stamp 0 1 0)
+      ∷ heard 25 0 (stamp 0 1 0)
+      ∷ heard 0 0 (stamp 0 1 0)
+      ∷ heard 0 0 (stamp 0 1 0)
+      ∷ heard 10 0 0
+      ∷ heard 0 0 (stamp 0 2 0)
+      ∷ heard 3 0 (stamp 0 2 0)
+      ∷ heard 0 0 (stamp 0 2 0)
+      ∷ []
+  -- the read after the conversion shows what the recovery wrote before it
+  pub shows :
+      map (λ (e : Event). take (e .answer .length) (e .reply)) (reverse (course singleCard longStory .log)) ≡ [] ∷ [] ∷ [] ∷ text205 ∷ [] ∷ [] ∷ []
+  -- a recovery under a pair that nobody proposed is not by the rules, nor under one that was proposed shared
+  pub not-proposed : allowed (course singleCard (begin deskOne ∷ [])) (recover (pairsFor 0 (stamp 0 1 0)) committed) ≡ false
+  pub not-exclusive :
+      allowed (course singleCard (begin deskOne ∷ propose deskOne 0 shared ∷ [])) (recover (pairsFor (stamp 0 1 0) (stamp 0 1 0)) committed) ≡ false
+
 -- ---- one rule broken
 
 -- Steps by the rules, one that is not, and steps by the rules: what was sent breaks the premise of card 0.
 pub record BrokenBy (lead : List Move) (wrong : Move) (rest : List Move) : Type 0 where
-  pub before : byRules V1 twoPlaces singleCard lead ≡ true
-  pub refused : allowed V1 (course V1 twoPlaces singleCard lead) wrong ≡ false
-  pub after : byRules V1 twoPlaces (stepTo V1 twoPlaces (course V1 twoPlaces singleCard lead) wrong) rest ≡ true
-  pub broken : premise 0 (map (received V1) (sentBy (lead ++ wrong ∷ rest))) ≡ false
+  pub before : byRules singleCard lead ≡ true
+  pub refused : allowed (course singleCard lead) wrong ≡ false
+  pub after : byRules (stepTo (course singleCard lead) wrong) rest ≡ true
+  pub broken : premise 0 (commandsIn (course singleCard (lead ++ wrong ∷ rest) .log)) ≡ false
 
 -- The same with a change of the system that is no step.
 pub record BrokenWith (lead : List Move) (wrong : System → System) (rest : List Move) : Type 0 where
-  pub before : byRules V1 twoPlaces singleCard lead ≡ true
-  pub after : byRules V1 twoPlaces (wrong (course V1 twoPlaces singleCard lead)) rest ≡ true
-  pub broken : premise 0 (map (received V1) (sentBy (lead ++ rest))) ≡ false
+  pub before : byRules singleCard lead ≡ true
+  pub after : byRules (wrong (course singleCard lead)) rest ≡ true
+  pub broken : premise 0 (commandsIn (course (wrong (course singleCard lead)) rest .log)) ≡ false
 
 -- Desk 3 asks under (0.3.0, 0), so that a pair with an s and no x is told.
 abbrev pub threeAsks : List Move
@@ -282,7 +399,7 @@ pub record RulesNeeded : Type 0 where
       BrokenWith (threeAsks ++ (begin deskOne ∷ begin deskTwo ∷ [])) (withKnown deskTwo (λ k. pair 0 (stamp 0 1 0)))
       (twoBelow ++ oneAbove)
   pub stored :
-      BrokenWith [] (λ y. withImage (serve V1 (y .image) (writeOriginal 0 (stamp 0 1 0) text205 .command) [] .image) y)
+      BrokenWith [] (λ y. withStore V1 (serve V1 (y .image) (writeOriginal 0 (stamp 0 1 0) text205 .command) [] .image) (y .log) y)
       (twoLearnsAt (send (readUnder (stamp 0 2 0) 0)) ++ oneFarAbove)
   pub queued :
       BrokenWith []

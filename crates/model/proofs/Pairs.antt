@@ -33,7 +33,7 @@ use Rattle.model.proofs.Simulation.{same-events}
 abbrev Pairs : Format → Cards → List Event → Type 0
 Pairs f cs before = (k : ℕ) → getD (cs .cards) k (noCard f) .pair ≡ largestPair k before
 
-no-card : (f : Format) (n k : ℕ) → getD (replicate n (noCard f)) k (noCard f) ≡ noCard f
+pub no-card : (f : Format) (n k : ℕ) → getD (replicate n (noCard f)) k (noCard f) ≡ noCard f
 no-card f n k = go (cases (ltb k n))
   where
     go : (ltb k n ≡ true) ⊎ (ltb k n ≡ false) → getD (replicate n (noCard f)) k (noCard f) ≡ noCard f

@@ -7,24 +7,26 @@ use mathlib.Core.List.{List, [], _∷_}
 use mathlib.Core.Bool.{Bool, true, false, cond, not, _&&_}
 use borrow.Author.Tests.{eqb-false, ltb-true, ltb-false, ne-eqb, not-true}
 use lib.Dec.{T, eqb, ltb, ltb→lt}
-use Rattle.lists.specs.Table.{all, allFrom, listed}
-use Rattle.lists.proofs.Tests.{cases, and-left, and-right, T-or-cases, T-and-right, not-in}
+use Rattle.lists.specs.Table.{row, first, all, allFrom, listed}
+use Rattle.lists.proofs.Tests.{to-T, from-T, cases, and-left, and-right, T-or-cases, T-and-right, not-in}
 use Rattle.stamps.specs.Stamp.{stamp, deskStart, deskOf, stampValid, sessionChecks, shared, exclusive, stale, largerOfEach}
 use Rattle.stamps.specs.declared.Pair.{Pair}
 use Rattle.lists.proofs.Table.{given, first-all}
 use Rattle.stamps.proofs.Stamp.{stamp-desk, stamp-desk-start, stamp-valid}
-use Rattle.lock_queue.specs.Queue.{State, desk}
+use lib.ListN.{length}
+use Rattle.lock_queue.specs.Good.{waitingFormed, good}
+use Rattle.lock_queue.specs.Queue.{State, standing, desk, desks}
 use Rattle.lock_queue.specs.declared.Waiting.{Waiting}
 use Rattle.lock_queue.specs.declared.Silence.{Silence}
-use Rattle.lock_queue.specs.Requests.{joined, without, Request, asks, leaves, lapses, answered, number, after, answer}
+use Rattle.lock_queue.specs.Requests.{joined, without, upgrading, denied, already, full, Request, asks, leaves, lapses, answered, number, after, answer}
 use Rattle.lock_queue.proofs.Judged.{accepted-after}
 use Rattle.lock_queue.proofs.After.{refusal-leaves, onto-largest}
-use Rattle.lock_queue_claims.proofs.Claims.{each-number}
+use Rattle.lock_queue_claims.proofs.Claims.{each-number, others-kept, stays-good}
 use Rattle.lock_queue_claims.specs.Course.{queueAfter}
 use Rattle.proposals.specs.declared.Known.{Known}
-use Rattle.proposals.specs.Propose.{learnt, nextT, ownAbove, lastT, pairFor, proposalRows, proposed}
+use Rattle.proposals.specs.Propose.{nextT, ownAbove, lastT, pairFor, proposalRows, proposed}
 use Rattle.proposals.proofs.Propose.{made-rules, own-above, own-least, made-pair}
-use Rattle.proposal_claims.specs.Claims.{OfDesk, Smallest, Spent, WellProposed, entered, quiet, NotDenied, EachProposal, Unmoved, proposalNumbers, ProposalListed}
+use Rattle.proposal_claims.specs.Claims.{OfDesk, Smallest, Spent, WellProposed, entered, quiet, retried, NotDenied, retryNumbers, RetryListed, EachProposal, Unmoved, proposalNumbers, ProposalListed}
 
 -- A number with this desk and start is the stamp of its T.
 own-stamp : (desk start m : ℕ) → OfDesk desk start m → m ≡ stamp (m / 4294967296) desk start
@@ -155,20 +157,68 @@ not-stale mode largest new s x t = go (T-or-cases (ltb (new .x) (largest .x)) (e
     go (inr h) = omega (arith, ltb→lt (new .s) (largest .s) (T-and-right (eqb mode exclusive) (ltb (new .s) (largest .s)) h))
 
 pub not-denied : NotDenied
-unfolding learnt
-not-denied lent q new between k mode e still made d =
+not-denied lent q new between k mode r d =
     let back = answer lent q (asks new) .largest in
     let now = queueAfter lent (after lent q (asks new)) between in
-    let known = learnt k back in
     let stays : now .largest ≡ q .largest =
-    all-quiet lent (after lent q (asks new)) between still ∙ ap (λ (s : State). s .largest) (refusal-leaves lent q (asks new) 10 e) in
-    let same : now .largest ≡ back = stays ∙ sym (denial-pair lent q new e) in
-    let pair : proposed known mode .pair ≡ pairFor known mode = made-pair known mode made in
-    let up = reaches known mode in
-    not-stale mode (now .largest) (proposed known mode .pair)
-    (subst (λ (p : Pair). p .s ≤ proposed known mode .pair .s) (sym same) (subst (λ (p : Pair). back .s ≤ p .s) (sym pair) (omega arith)))
-    (subst (λ (p : Pair). p .x ≤ proposed known mode .pair .x) (sym same) (subst (λ (p : Pair). back .x ≤ p .x) (sym pair) (omega arith)))
-    (each-number lent now (asks (record { mode = mode; pair = proposed known mode .pair })) 10 .0 d .0)
+    all-quiet lent (after lent q (asks new)) between (r .still) ∙ ap (λ (s : State). s .largest) (refusal-leaves lent q (asks new) 10 (r .denial)) in
+    let same : now .largest ≡ back = stays ∙ sym (denial-pair lent q new (r .denial)) in
+    let pair : proposed k mode .pair ≡ pairFor k mode = made-pair k mode (r .proposes) in
+    let up = reaches k mode in
+    let hs = r .heard-s in
+    let hx = r .heard-x in
+    not-stale mode (now .largest) (proposed k mode .pair)
+    (subst (λ (p : Pair). p .s ≤ proposed k mode .pair .s) (sym same) (subst (λ (p : Pair). back .s ≤ p .s) (sym pair) (omega arith)))
+    (subst (λ (p : Pair). p .x ≤ proposed k mode .pair .x) (sym same) (subst (λ (p : Pair). back .x ≤ p .x) (sym pair) (omega arith)))
+    (each-number lent now (asks (record { mode = mode; pair = proposed k mode .pair })) 10 .0 d .0)
+
+-- A queue that denies is good, and stays so.
+denier-good : (lent : ℕ) (q : State) (new : Waiting) → number lent q (asks new) ≡ 11 → T (good lent q)
+unfolding number
+denier-good lent q new e = go (cases (good lent q))
+  where
+    go : (good lent q ≡ true) ⊎ (good lent q ≡ false) → T (good lent q)
+    go (inl g) = to-T g
+    go (inr g) = let ten : number lent q (asks new) ≡ 10 = rw g in absurd (omega (arith, ten, e))
+
+good-through : (lent : ℕ) (q : State) (rs : List Request) → lent ≤ length (q .places) → T (good lent q) → T (good lent (queueAfter lent q rs))
+unfolding queueAfter
+good-through lent q [] l g = g
+good-through lent q (r ∷ rs) l g =
+    let long = others-kept lent q r l .1 in
+    good-through lent (after lent q r) rs (omega (arith, l, long)) (stays-good lent q r l g)
+
+pub retry-listed : RetryListed
+unfolding number
+retry-listed lent q new between k mode r l d i vs vx =
+    subst (λ (n : ℕ). T (listed retryNumbers n)) (sym is)
+    (go (already (upgrading mode (desk asked) (standing now)) (desk asked) (desks (standing now))) (denied (now .largest) asked) (full (upgrading mode (desk asked) (standing now)) lent (now .count))
+    (λ e. not-denied lent q new between k mode r (is ∙ e)))
+  where
+    now : State
+    now = queueAfter lent (after lent q (asks new)) between
+
+    asked : Waiting
+    asked = record { mode = mode; pair = proposed k mode .pair }
+
+    is-good : good lent now ≡ true
+    is-good =
+        let g = denier-good lent q new (r .denial) in
+        let same = refusal-leaves lent q (asks new) 10 (r .denial) in
+        from-T (good lent now)
+        (good-through lent (after lent q (asks new)) between (subst (λ (p : State). lent ≤ length (p .places)) (sym same) l) (subst (λ (p : State). T (good lent p)) (sym same) g))
+
+    is-formed : waitingFormed asked ≡ true
+    is-formed = well-proposed k mode d i vs vx (r .proposes) .rules
+
+    is : retried lent q new between k mode ≡ first (row (already (upgrading mode (desk asked) (standing now)) (desk asked) (desks (standing now))) 12 ∷ row (denied (now .largest) asked) 11 ∷ row (full (upgrading mode (desk asked) (standing now)) lent (now .count)) 13 ∷ [])
+    is = rw (is-good, is-formed)
+
+    go : (a b c : Bool) → (first (row a 12 ∷ row b 11 ∷ row c 13 ∷ []) ≡ 11 → ⊥) → T (listed retryNumbers (first (row a 12 ∷ row b 11 ∷ row c 13 ∷ [])))
+    go true b c n = tt
+    go false true c n = absurd (n refl)
+    go false false true n = tt
+    go false false false n = tt
 
 -- ---- the numbers
 

@@ -6,15 +6,16 @@ use mathlib.Core.Logic.{_↔_}
 use mathlib.Core.List.{List, [], _∷_}
 use mathlib.Core.Bool.{Bool, true, false, not, _&&_}
 use lib.Dec.{T, eqb}
+use lib.ListN.{length}
 use Rattle.lists.specs.Table.{all, applies, noRow, earlier, listed}
 use Rattle.stamps.specs.Stamp.{deskNumber, deskOf, stampValid, sessionChecks, noPair}
 use Rattle.lock_queue.specs.Queue.{State}
 use Rattle.lock_queue.specs.declared.Waiting.{Waiting}
-use Rattle.lock_queue.specs.Numbers.{PAIR-DENIED}
+use Rattle.lock_queue.specs.Numbers.{PAIR-DENIED, STANDS-ALREADY, QUEUE-FULL}
 use Rattle.lock_queue.specs.Requests.{Request, asks, leaves, lapses, number, after, answer}
 use Rattle.lock_queue_claims.specs.Course.{queueAfter}
 use Rattle.proposals.specs.declared.Known.{Known}
-use Rattle.proposals.specs.Propose.{learnt, nextT, ownAbove, lastT, proposalRows, proposed}
+use Rattle.proposals.specs.Propose.{nextT, ownAbove, lastT, proposalRows, proposed}
 
 -- A stamp of this desk and start.
 pub record OfDesk (desk start n : ℕ) : Type 0 where
@@ -57,17 +58,33 @@ unfoldable pub quiet : ℕ → State → List Request → Bool
 quiet lent q [] = true
 quiet lent q (r ∷ rs) = not (entered lent q r) && quiet lent (after lent q r) rs
 
--- Rule 10.10: an ask is denied, requests come of which none enters, and the desk, which has learnt the denial's pair, proposes and asks: it is
--- not denied. Of any queue, with whatever the desk knew before, in either mode.
+-- An ask is denied, requests come of which none enters, and a desk that knows at least the denial's pair proposes. Of any queue, whoever was denied, in either mode.
+pub record Retries (lent : ℕ) (q : State) (new : Waiting) (between : List Request) (k : Known) (mode : ℕ) : Type 0 where
+  pub denial : number lent q (asks new) ≡ PAIR-DENIED
+  pub still : quiet lent (after lent q (asks new)) between ≡ true
+  pub heard-s : answer lent q (asks new) .largest .s ≤ k .pair .s
+  pub heard-x : answer lent q (asks new) .largest .x ≤ k .pair .x
+  pub proposes : proposed k mode .number ≡ 0
+
+-- The number that it gets when it then asks with its proposal.
+abbrev pub retried : ℕ → State → Waiting → List Request → Known → ℕ → ℕ
+retried lent q new between k mode = number lent (queueAfter lent (after lent q (asks new)) between) (asks (record { mode = mode; pair = proposed k mode .pair }))
+
+-- Rule 10.10: it is not denied.
 abbrev pub NotDenied : Type 0
 NotDenied =
-    (lent : ℕ) (q : State) (new : Waiting) (between : List Request) (k : Known) (mode : ℕ) →
-    number lent q (asks new) ≡ PAIR-DENIED →
-    quiet lent (after lent q (asks new)) between ≡ true →
-    proposed (learnt k (answer lent q (asks new) .largest)) mode .number ≡ 0 →
-    number lent (queueAfter lent (after lent q (asks new)) between)
-    (asks (record { mode = mode; pair = proposed (learnt k (answer lent q (asks new) .largest)) mode .pair }))
-    ≡ PAIR-DENIED → ⊥
+    (lent : ℕ) (q : State) (new : Waiting) (between : List Request) (k : Known) (mode : ℕ) → Retries lent q new between k mode →
+    retried lent q new between k mode ≡ PAIR-DENIED → ⊥
+
+-- Rule 10.10: where what it knows are valid stamps, it is accepted, or it stands already, or the queue is full. The places are at least as many as are lent.
+abbrev pub retryNumbers : List ℕ
+retryNumbers = STANDS-ALREADY ∷ QUEUE-FULL ∷ []
+
+abbrev pub RetryListed : Type 0
+RetryListed =
+    (lent : ℕ) (q : State) (new : Waiting) (between : List Request) (k : Known) (mode : ℕ) → Retries lent q new between k mode →
+    lent ≤ length (q .places) → k .desk < 65536 → k .start < 65536 → stampValid (k .pair .s) ≡ true → stampValid (k .pair .x) ≡ true →
+    T (listed retryNumbers (retried lent q new between k mode))
 
 -- Rule 10.6: each number exactly when its row applies and none above it does.
 abbrev pub EachProposal : Type 0

@@ -6,3 +6,4 @@ pub mod Order
 pub mod Full
 pub mod Cases
 pub mod Edges
+pub mod Uses
