@@ -1,11 +1,12 @@
-//! Any bytes get an answer or an error, never a panic; what is read is written back as the same bytes; what is no sound
-//! image breaks a rule that is named.
+//! The bytes are those that the second program reads and writes. Any bytes get an answer or an error, never a panic;
+//! what is read is written back as the same bytes; what is no sound image breaks a rule that is named.
 
 use lupaniele::{
     Act, Action, Broken, Command, Image, Language, Log, Mark, Mode, Pair, Record, Side, Stamp,
     Step, Stream, Text, Unit, Version,
 };
 use second::random::Random;
+use second::{CommandFields, Format, Layout};
 
 const VERSIONS: [Version; 2] = [Version::One, Version::Two];
 
@@ -59,6 +60,7 @@ fn commands_there_and_back() {
                 continue;
             };
             assert_eq!(bytes.len(), command.length(version));
+            as_the_second_reads_it(version, &command, &bytes);
             assert_eq!(Command::parse(version, &bytes), Ok(command));
             assert_eq!(
                 Stream::new(version, &bytes).collect::<Vec<_>>(),
@@ -207,4 +209,102 @@ fn records_there_and_back() {
         assert_eq!(log.append(record), Ok(()));
     }
     assert!(log.records().eq(records));
+    let read = second::read_back(log.bytes()).expect("a good log");
+    let bodies = read
+        .records
+        .iter()
+        .map(|logged| format!("{:?}", logged.record));
+    let texts = [
+        "Begin(7)",
+        "Update { card: 300, side: 2, text: [52, 48, 49] }",
+        "Commit(7)",
+        "Synced { card: 300, transaction: 7 }",
+    ];
+    assert!(bodies.eq(texts));
+}
+
+fn format(version: Version) -> Format {
+    match version {
+        Version::One => Format::V1,
+        Version::Two => Format::V2,
+    }
+}
+
+fn pair(pair: Pair) -> second::Pair {
+    second::Pair::new(pair.s.number(), pair.x.number())
+}
+
+fn mark(mark: Mark) -> second::Mark {
+    second::Mark::new(mark.desk, mark.transaction)
+}
+
+/// The second program reads the same numbers out of a command's bytes.
+fn as_the_second_reads_it(version: Version, command: &Command, bytes: &[u8]) {
+    let (language, edition, text) = match command.action {
+        Action::ReadTranslation(language) => (language, 0, &[][..]),
+        Action::WriteOriginal(text) => (Language::First, 0, text),
+        Action::WriteTranslation {
+            language,
+            edition,
+            text,
+        } => (language, edition, text),
+        Action::ReadOriginal | Action::Verify => (Language::First, 0, &[][..]),
+    };
+    let fields = CommandFields {
+        format: format(version),
+        act: command.action.act().number(),
+        mode: command.mode.number(),
+        card: command.card,
+        pair: pair(command.verifier),
+        update: pair(command.update.unwrap_or_default()),
+        language: language.number(),
+        reserved: [0; 15],
+        expected: mark(command.expected),
+        next: mark(command.next),
+        edition,
+        length: text.len() as u16,
+    };
+    assert_eq!(
+        CommandFields::from_bytes(format(version), bytes),
+        Some(fields)
+    );
+    assert!(bytes.ends_with(text));
+}
+
+/// The second program reads the same entries and texts out of an image.
+#[test]
+fn cards_as_the_second_reads_them() {
+    let mut random = Random::new(6);
+    for _ in 0..4_000 {
+        for version in VERSIONS {
+            let image = image(&mut random, version);
+            let layout = Layout::of_sound(format(version), image.bytes()).expect("a sound image");
+            assert_eq!(
+                (layout.cards(), layout.room()),
+                (image.count().into(), image.room().into())
+            );
+            for card in image.cards() {
+                let entry = layout
+                    .entry(image.bytes(), card.number())
+                    .expect("an entry");
+                assert_eq!(
+                    (entry.pair, entry.mark, entry.edition),
+                    (pair(card.pair()), mark(card.mark()), card.edition())
+                );
+                let text = |language| layout.text(image.bytes(), card.number(), language);
+                assert_eq!(text(second::Language::Original), Some(card.original()));
+                for language in version.languages() {
+                    let number = language.number();
+                    assert_eq!(
+                        text(second::Language::Translation(number)),
+                        card.translation(*language)
+                    );
+                    assert_eq!(
+                        Some(entry.translation(number).from),
+                        card.translated_from(*language)
+                    );
+                }
+            }
+        }
+    }
 }

@@ -14,8 +14,8 @@ use crate::{Answer, BuildError, Mark, Number};
 pub enum Failed<E> {
     /// The store refused it.
     Refused(Refusal),
-    /// No answer came back. Whether the store got it is not known: what was read still is not changed by it, what was
-    /// written may be.
+    /// No answer came back. Whether the store got the command is not known: what it was to write may be written, or be
+    /// later.
     Transport(E),
     /// The desk can propose no pair for this card.
     NoPair(Number),
