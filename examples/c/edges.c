@@ -115,7 +115,8 @@ static void room(size_t length) {
     printf(", %u, %s; ", (unsigned)lupaniele_command_bytes_v2(&write, bytes, size_v2 - 1),
            bytes[0] == 0 ? "none written" : "WRITTEN");
     printf("just long enough: %u", (unsigned)lupaniele_command_bytes(&write, bytes, size));
-    printf(", %u\n", (unsigned)lupaniele_command_bytes_v2(&write, bytes, size_v2));
+    printf(", %u", (unsigned)lupaniele_command_bytes_v2(&write, bytes, size_v2));
+    printf(", %s\n", bytes[0] == 0 ? "none written" : "written");
 }
 
 /* Bodies of records in buffers that are just long enough, and one byte too short. */
