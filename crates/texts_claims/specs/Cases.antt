@@ -121,7 +121,7 @@ textCases =
     ∷ textCase (holding 1 c205) (holding 1 (3 ∷ 67 ∷ 2 ∷ [])) 19 0
     ∷ []
 
--- The places of four rows, in bytes: from 7, 4 and 5 on stands a step of the first text; up to 10 and up to 7 stands a section of it, behind its kind and as a whole.
+-- The places of five rows, in bytes: from 7, 4 and 5 on stands a step of the first text; up to 10 and up to 7 stands a section of it, behind its kind and as a whole.
 pub record PlacesWorked : Type 0 where
   pub drop-behind-words : drop 7 (holding 2 (abc ++ c205)) ≡ c205
   pub section-step : drop 4 (holding 2 (noWords ++ sectionStep 1 c205)) ≡ sectionStep 1 c205
