@@ -19,6 +19,7 @@ use Rattle.guard.specs.Replies.{replied}
 use Rattle.image.specs.Layout.{shapeOk}
 use Rattle.image.specs.Bytes.{header, entryBytes, pad, readEntry, entryAt}
 use Rattle.image.specs.Image.{bodies, encode, cardAt, decode, tailZero, translationSound, cardSound, headerSound, sound, fresh}
+use Rattle.model.specs.Words.{history, imageAfter}
 use Rattle.model.specs.Serve.{stepped, serveBy, serve}
 use Rattle.model.specs.Cases.{stamp1, stamp2, text205}
 use Rattle.model.proofs.ByTest.{bytes-by}
@@ -26,8 +27,8 @@ use Rattle.redo_log.specs.Log.{LogRecord, shaped, lastBegun, opened, follows, t
 use Rattle.redo_log.specs.Append.{stored, puts, lineBytes, stores, appendNumber, appended}
 use Rattle.redo_log_claims.specs.Claims.{appendedAll, allStores, admittedOf, wholly, cutAfter, BytesOfRecords}
 use Rattle.redo_log_claims.specs.Cases.{beginOf, updateOf, commitOf, emptyLog}
-use Rattle.recovery_model.specs.Recovery.{FitsPairs, due, recoverySent, recoveryStep, recovering, recovered}
-use Rattle.recovery_model.specs.Claims.{Mixed, oneRecovery, neverAnswered, textIn, textOf}
+use Rattle.recovery_model.specs.Recovery.{Pairs, FitsPairs, due, recoverySent, recoveryStep, recovering, recovered}
+use Rattle.recovery_model.specs.Claims.{NoneRefused, Mixed, oneRecovery, neverAnswered, textIn, textOf}
 use Rattle.recovery_model.specs.Cases.{pairs1, pairs2, blankImage}
 use Rattle.recovery_model.proofs.Never.{recovery-never}
 use Rattle.recovery_model.proofs.Sending.{demand3-mixed}
@@ -58,10 +59,6 @@ shape = tt
 blank-bytes : Bytes blankImage
 unfolding fresh header toLe
 blank-bytes = bytes-by blankImage tt
-
-blank-sound : sound V1 blankImage ≡ true
-unfolding sound headerSound cardSound translationSound tailZero entryAt readEntry fresh header shapeOk entrySound all allFrom le toLe part every zeros
-blank-sound = refl
 
 -- One transaction: 16, 18 and 16 stores.
 abbrev three : List LogRecord
@@ -95,21 +92,30 @@ mixed = demand3-mixed 2 16 shape (oneRecovery pairs1 [] ∷ []) ((fits1, bytes-b
 
 -- ---- a second run under other pairs (rule 11.21)
 
-once : recovered pairs1 after blankImage .number ≡ 0
-unfolding due recoverySent recoveryStep recovering recovered appendedAll stored puts lineBytes stores appended shaped lastBegun opened follows total startAt recordAt recordOk goodLog records serve serveBy stepped sound headerSound cardSound translationSound tailZero decode cardAt entryAt readEntry encode bodies pad entryBytes header shapeOk fresh replied raise entrySound commandBytes formed payload fieldsOf wellFormed all allFrom le toLe part splice table spread every zeros
-once = refl
+once : NoneRefused blankImage (recovered pairs1 after blankImage)
+unfolding history imageAfter due recoverySent recoveryStep recovering recovered appendedAll stored puts lineBytes stores appended shaped lastBegun opened follows total startAt recordAt recordOk goodLog records serve serveBy stepped sound headerSound cardSound translationSound tailZero decode cardAt entryAt readEntry encode bodies pad entryBytes header shapeOk fresh replied raise entrySound commandBytes formed payload fieldsOf wellFormed all allFrom le toLe part splice table spread every zeros
+once = (refl, tt)
 
-again : recovered pairs2 after (recovered pairs1 after blankImage .image) .number ≡ 0
-unfolding due recoverySent recoveryStep recovering recovered appendedAll stored puts lineBytes stores appended shaped lastBegun opened follows total startAt recordAt recordOk goodLog records serve serveBy stepped sound headerSound cardSound translationSound tailZero decode cardAt entryAt readEntry encode bodies pad entryBytes header shapeOk fresh replied raise entrySound commandBytes formed payload fieldsOf wellFormed all allFrom le toLe part splice table spread every zeros
-again = refl
+again : NoneRefused (recovered pairs1 after blankImage .image) (recovered pairs2 after (recovered pairs1 after blankImage .image))
+unfolding history imageAfter due recoverySent recoveryStep recovering recovered appendedAll stored puts lineBytes stores appended shaped lastBegun opened follows total startAt recordAt recordOk goodLog records serve serveBy stepped sound headerSound cardSound translationSound tailZero decode cardAt entryAt readEntry encode bodies pad entryBytes header shapeOk fresh replied raise entrySound commandBytes formed payload fieldsOf wellFormed all allFrom le toLe part splice table spread every zeros
+again = (refl, tt)
 
 same-text : textIn (recovered pairs2 after (recovered pairs1 after blankImage .image) .image) original 0 ≡ textIn (recovered pairs1 after blankImage .image) original 0
-same-text = twice pairs1 pairs2 after blankImage fits1 fits2 after-bytes blank-bytes blank-sound once again original 0
+same-text = twice pairs1 pairs2 after blankImage fits1 fits2 after-bytes blank-bytes once again original 0
 
--- ---- numbers that never come (rule 11.22)
+-- From no log, on what is no image: nothing is sent, and nothing is refused.
+nothing-sent : (pairs : Pairs) → NoneRefused (1 ∷ []) (recovered pairs [] (1 ∷ []))
+unfolding history recovered goodLog
+nothing-sent pairs = tt
 
-never : none (eqb (recovered pairs1 after blankImage .number)) neverAnswered ≡ true
-never = recovery-never pairs1 after blankImage fits1 after-bytes blank-bytes blank-sound
+same-none : textIn (recovered pairs2 [] (1 ∷ []) .image) original 0 ≡ textIn (1 ∷ []) original 0
+unfolding recovered goodLog
+same-none = twice pairs1 pairs2 [] (1 ∷ []) fits1 fits2 (bytes-by [] tt) (bytes-by (1 ∷ []) tt) (nothing-sent pairs1) (nothing-sent pairs2) original 0
+
+-- ---- numbers that never come (rule 11.22), on what is no image too
+
+never : none (eqb (recovered pairs1 after (1 ∷ []) .number)) neverAnswered ≡ true
+never = recovery-never pairs1 after (1 ∷ []) fits1 after-bytes (bytes-by (1 ∷ []) tt)
 
 -- ---- a cut one store before the end of an append (rule 11.13), and one anywhere (rules 11.14 and 11.21)
 
@@ -125,4 +131,4 @@ unfolding due recoverySent recoveryStep recovering recovered allStores appendedA
 cut49 = refl
 
 cut49-text : textIn (recovered pairs1 (cutAfter 49 before three) blankImage .image) original 0 ≡ textOf (records before ++ wholly 49 (admittedOf before three)) original 0 (textIn blankImage original 0)
-cut49-text = cut-anywhere 49 before three before-good pairs1 blankImage fits1 before-bytes three-bytes blank-bytes blank-sound cut49 original 0
+cut49-text = cut-anywhere 49 before three before-good pairs1 blankImage fits1 before-bytes three-bytes blank-bytes cut49 original 0
