@@ -1,5 +1,6 @@
--- Theorems on the guard and on commands, used where their hypotheses only just hold: stamps that did not grow, a command of the last language with no payload, bytes that are no command. A
--- stricter hypothesis or a sentence left out is noticed here. Assumes nothing.
+-- Theorems on the guard and on commands, used where their hypotheses only just hold: stamps that did not grow, a
+-- command of the last language with no payload, bytes that are no command. A stricter hypothesis or a sentence left
+-- out is noticed here. Assumes nothing.
 use native.Mathlib.Omega.{arith}
 use mathlib.Core.Path.{_≡_}
 use mathlib.Core.List.{[]}

@@ -14,7 +14,8 @@ use Rattle.store.specs.declared.Ran.{Ran}
 use Rattle.program.specs.Program.{streamOf, outputWithin}
 use Rattle.program_claims.specs.Cases.{inputP, outputP}
 
--- The stream of case P: commands of 55, 52, 55 and 55 bytes, and five bytes more. One of version 2: commands of 71, 69, 70, 71 and 72 bytes.
+-- The stream of case P: commands of 55, 52, 55 and 55 bytes, and five bytes more. One of version 2: commands of 71,
+-- 69, 70, 71 and 72 bytes.
 abbrev pub streamP : List ℕ
 streamP = streamOf inputP
 

@@ -1,5 +1,5 @@
--- Theorems on streams, used where their hypotheses only just hold: no bytes, a place beyond the end, no commands in front of a rest. A stricter hypothesis or a sentence left out is noticed
--- here. Assumes nothing.
+-- Theorems on streams, used where their hypotheses only just hold: no bytes, a place beyond the end, no commands in
+-- front of a rest. A stricter hypothesis or a sentence left out is noticed here. Assumes nothing.
 use Prim.Native.Nat.{_≤_}
 use native.Mathlib.Omega.{arith}
 use mathlib.Core.Path.{_≡_, refl}
