@@ -1,4 +1,5 @@
--- Worked cases of what stands where in the arrays and numbers that callers in C hand over. Proved by computation in proofs/Cases.antt.
+-- Worked cases of what stands where in the arrays and numbers that callers in C hand over. Proved by computation in
+-- proofs/Cases.antt.
 -- Assumes nothing.
 use mathlib.Core.Path.{_≡_}
 use mathlib.Core.List.{[], _∷_}

@@ -1,4 +1,5 @@
--- The store among the desks: the cards that its bytes stand for, and the requests that left them, over a conversion too. Nothing here asks for the rules. Assumes nothing.
+-- The store among the desks: the cards that its bytes stand for, and the requests that left them, over a conversion
+-- too. Nothing here asks for the rules. Assumes nothing.
 use Prim.Native.Nat.{ℕ, zero, suc}
 use native.Mathlib.Omega.{arith}
 use mathlib.Core.Path.{_≡_, refl, sym, ap, subst, _∙_}

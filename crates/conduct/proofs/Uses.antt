@@ -1,5 +1,6 @@
--- Theorems on desks, used on the long story and where their hypotheses only just hold: no step at all, 33 places, a desk that never started, a conversion. A stricter hypothesis or a sentence
--- left out is noticed here. Assumes nothing.
+-- Theorems on desks, used on the long story and where their hypotheses only just hold: no step at all, 33 places, a
+-- desk that never started, a conversion. A stricter hypothesis or a sentence left out is noticed here.
+-- Assumes nothing.
 use Prim.Native.Nat.{ℕ, zero, suc, _<_}
 use mathlib.Core.Path.{_≡_, refl}
 use mathlib.Core.Logic.{_⊎_, inl, inr}

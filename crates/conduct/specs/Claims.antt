@@ -1,4 +1,5 @@
--- What is claimed of desks by the rules (docs/RULES.md, rules 10.8, 10.11 to 10.13 and 10.17). The theorems stand in proofs/.
+-- What is claimed of desks by the rules (docs/RULES.md, rules 10.8, 10.11 to 10.13 and 10.17). The theorems stand in
+-- proofs/.
 -- Assumes nothing.
 use Prim.Native.Nat.{ℕ}
 use mathlib.Core.Path.{_≡_}
@@ -21,7 +22,8 @@ use Rattle.proposal_claims.specs.Claims.{Fine}
 use Rattle.recovery_model.specs.Recovery.{Pairs, FitsPairs, recoveryPair, recovered}
 use Rattle.conduct.specs.System.{System, Move, Made, recover, opening, isMade, inUse, knows, allowed, stepTo, course, byRules, AllFit}
 
--- Steps by the rules from the opening, over a store of a version and of any N and C that can be made and queues over any places.
+-- Steps by the rules from the opening, over a store of a version and of any N and C that can be made and queues over
+-- any places.
 pub record ByRules (v : Format) (n c : ℕ) (places : ℕ → List Waiting) (steps : List Move) : Type 0 where
   pub shape : T (shapeOk v n c)
   pub fits : AllFit steps
@@ -37,8 +39,9 @@ PremiseKept =
     (v : Format) (n c : ℕ) (places : ℕ → List Waiting) (steps : List Move) → ByRules v n c places steps → (k : ℕ)
     → premise k (commandsIn (finally v n c places steps .log)) ≡ true
 
--- Rule 10.12: so demand 3's sentence on isolation holds of these desks with no premise. No accepted command of another desk for
--- the card stands between two accepted ones of a session, unless both are shared, whether a conversion came in between or not.
+-- Rule 10.12: so demand 3's sentence on isolation holds of these desks with no premise. No accepted command of another
+-- desk for the card stands between two accepted ones of a session, unless both are shared, whether a conversion came
+-- in between or not.
 abbrev pub DesksIsolated : Type 0
 DesksIsolated =
     (v : Format) (n c : ℕ) (places : ℕ → List Waiting) (steps : List Move) → ByRules v n c places steps →
@@ -49,7 +52,8 @@ DesksIsolated =
     OneSession a b →
     none (intrudes k b) between ≡ true
 
--- The store among the desks is demand 3's: its log is that of a list of requests to a fresh store, or of two lists with a conversion between them, and its bytes are as they leave them.
+-- The store among the desks is demand 3's: its log is that of a list of requests to a fresh store, or of two lists
+-- with a conversion between them, and its bytes are as they leave them.
 pub data StoreOf (v : Format) (n c : ℕ) (y : System) : Type 0 where
   oneVersion :
       (sent : List Sent) → y .version ≡ v → y .log ≡ logOf v n c sent → y .image ≡ imageAfter v (fresh v n c) (reverse sent)
@@ -75,7 +79,8 @@ StampsOnce =
     q .mode ≡ exclusive →
     p .pair .x ≡ q .pair .x → ⊥
 
--- Rule 10.17: desks by the rules know only valid stamps, so that what one of them proposes keeps a session's rules and names the desk and start that makes it.
+-- Rule 10.17: desks by the rules know only valid stamps, so that what one of them proposes keeps a session's rules and
+-- names the desk and start that makes it.
 pub record KnowsValid (y : System) : Type 0 where
   pub known-s : (who card : ℕ) → stampValid (y .known who card .s) ≡ true
   pub known-x : (who card : ℕ) → stampValid (y .known who card .x) ≡ true
@@ -85,7 +90,8 @@ abbrev pub DesksValid : Type 0
 DesksValid =
     (v : Format) (n c : ℕ) (places : ℕ → List Waiting) (steps : List Move) → ByRules v n c places steps → KnowsValid (finally v n c places steps)
 
--- Rule 10.8: a recovery whose pairs were proposed exclusive, each for its card, is by the rules; cards without an x there have none. It leaves the store as a recovery does.
+-- Rule 10.8: a recovery whose pairs were proposed exclusive, each for its card, is by the rules; cards without an x
+-- there have none. It leaves the store as a recovery does.
 pub record RecoversByRules (y : System) (pairs : Pairs) (log : List ℕ) : Type 0 where
   pub allows : allowed y (recover pairs log) ≡ true
   pub leaves : stepTo y (recover pairs log) .image ≡ recovered pairs log (y .image) .image

@@ -1,6 +1,7 @@
--- Desks by the rules, a lock queue for each card, and the store (docs/RULES.md, section 10): what there is, what can happen, and when it is by the rules.
--- Minuet: clients, lock managers and a disk with its guard. A request may be late, lost or repeated: a step is the moment at which it arrives, if ever and
--- however often; an answer is learnt by a step of its own. Recoveries and a conversion are steps too.
+-- Desks by the rules, a lock queue for each card, and the store (docs/RULES.md, section 10): what there is, what can
+-- happen, and when it is by the rules. Minuet: clients, lock managers and a disk with its guard. A request may be
+-- late, lost or repeated: a step is the moment at which it arrives, if ever and however often; an answer is learnt by
+-- a step of its own. Recoveries and a conversion are steps too.
 -- Assumes nothing.
 use Prim.Native.Nat.{ℕ, _/_, _%_}
 use mathlib.Core.List.{List, [], _∷_}
@@ -29,7 +30,8 @@ use Rattle.proposals.specs.Propose.{learnt, proposed}
 
 -- ---- what there is
 
--- A proposal that was made for a card. Whose it is stands in it: the desk and start of s if it is shared, of x if it is exclusive (`WellProposed`).
+-- A proposal that was made for a card. Whose it is stands in it: the desk and start of s if it is shared, of x if it
+-- is exclusive (`WellProposed`).
 pub record Made : Type 0 where
   pub card : ℕ
   pub mode : ℕ
@@ -41,8 +43,9 @@ pub record Told : Type 0 where
   pub number : ℕ
   pub pair : Pair
 
--- The version and the bytes of the store, and demand 3's log: the events of all that reached it, latest first; each card's queue; each desk and start (a number of 32 bits, as in a stamp) that
--- was ever used; what each of them knows of each card; and all proposals and answers so far, latest first.
+-- The version and the bytes of the store, and demand 3's log: the events of all that reached it, latest first; each
+-- card's queue; each desk and start (a number of 32 bits, as in a stamp) that was ever used; what each of them knows
+-- of each card; and all proposals and answers so far, latest first.
 pub record System : Type 0 where
   pub version : Format
   pub image : List ℕ
@@ -74,7 +77,8 @@ pub data Move : Type 0 where
   begin : (who : ℕ) → Move
   -- a desk proposes
   propose : (who card mode : ℕ) → Move
-  -- a request reaches the queue of a card, whose keeper lends so many places for it: an ask, a leave or a lapse, whoever sent it
+  -- a request reaches the queue of a card, whose keeper lends so many places for it: an ask, a leave or a lapse,
+  -- whoever sent it
   atQueue : (card lent : ℕ) (r : Request) → Move
   -- a lock manager loses the queue of a card: it is empty again, over whatever places it now has
   lose : (card : ℕ) (places : List Waiting) → Move
@@ -103,7 +107,8 @@ isMade made card mode pair = any (λ m. eqb (m .card) card && eqb (m .mode) mode
 abbrev pub wasTold : List Told → ℕ → Pair → Bool
 wasTold told card pair = any (λ t. eqb (t .card) card && samePair (t .pair) pair) told
 
--- Rule 10.8: an ask carries a pair that was proposed for the card, in the mode in which it was proposed; a malformed one may carry anything. Who leaves carries no pair.
+-- Rule 10.8: an ask carries a pair that was proposed for the card, in the mode in which it was proposed; a malformed
+-- one may carry anything. Who leaves carries no pair.
 abbrev pub asksMade : List Made → ℕ → Request → Bool
 asksMade made card (asks new) = not (wellFormed new) || isMade made card (new .mode) (new .pair)
 asksMade made card (leaves desk) = true
@@ -168,7 +173,8 @@ abbrev pub withTold : Told → System → System
 withTold t y =
     record { version = y .version; image = y .image; log = y .log; queues = y .queues; started = y .started; known = y .known; made = y .made; told = t ∷ y .told }
 
--- What a desk and start knows of a card, as the operations `learn` and `propose` take it; and that it now knows this pair of the card.
+-- What a desk and start knows of a card, as the operations `learn` and `propose` take it; and that it now knows this
+-- pair of the card.
 abbrev pub knows : System → ℕ → ℕ → Known
 knows y who card = record { desk = who / 65536; start = who % 65536; pair = y .known who card }
 
@@ -181,7 +187,8 @@ queueStep lent y card r =
     withTold (record { card = card; number = answer lent (y .queues card) r .number; pair = answer lent (y .queues card) r .largest })
     (withQueue card (after lent (y .queues card) r) y)
 
--- A request reaches the store, which answers what `serve` answers, and that is what the operation `answer` does. Its event joins the log.
+-- A request reaches the store, which answers what `serve` answers, and that is what the operation `answer` does. Its
+-- event joins the log.
 abbrev pub sendStep : System → Sent → System
 sendStep y s =
     withTold

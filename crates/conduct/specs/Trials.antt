@@ -1,5 +1,5 @@
--- Desks by the rules in a computed story, and for each rule one run in which it alone is broken, and with it demand 3's premise. Proved by computation in
--- proofs/Trials.antt.
+-- Desks by the rules in a computed story, and for each rule one run in which it alone is broken, and with it demand
+-- 3's premise. Proved by computation in proofs/Trials.antt.
 -- Assumes nothing.
 use Prim.Native.Nat.{ℕ}
 use mathlib.Core.Path.{_≡_}
@@ -44,7 +44,8 @@ use Rattle.conduct.specs.System.{
   byRules,
 }
 
--- Desks 1, 2 and 3, each with start 0, and desk 2 with start 1; a store with one card of room 16, and queues of two places.
+-- Desks 1, 2 and 3, each with start 0, and desk 2 with start 1; a store with one card of room 16, and queues of two
+-- places.
 abbrev pub deskOne : ℕ
 deskOne = stamp 0 1 0
 
@@ -91,7 +92,8 @@ story =
     ∷ propose deskOne 0 shared
     ∷ ask 0 (waits shared (stamp 0 1 0) 0)
     ∷ send (readUnder (stamp 0 1 0) 0)
-    -- desk 2 knows nothing, asks exclusive under (0, 0.2.0) and is denied; with the denial's pair it proposes (0.1.0, 1.2.0), and writes
+    -- desk 2 knows nothing, asks exclusive under (0, 0.2.0) and is denied; with the denial's pair it proposes (0.1.0,
+    -- 1.2.0), and writes
     ∷ propose deskTwo 0 exclusive
     ∷ ask 0 (waits exclusive 0 (stamp 0 2 0))
     ∷ learn deskTwo 0 (pair (stamp 0 1 0) 0)
@@ -247,7 +249,8 @@ longStory =
 pub record LongStory : Type 0 where
   pub rules : byRules singleCard longStory ≡ true
   pub version : course singleCard longStory .version ≡ V2
-  -- the answers, in order: an ask; three writes of recovery, the last malformed; a leave and three lapses; two asks; three commands of version 2
+  -- the answers, in order: an ask; three writes of recovery, the last malformed; a leave and three lapses; two asks;
+  -- three commands of version 2
   pub answers :
       reverse (course singleCard longStory .told)
       ≡ heard 0 0 (stamp 0 1 0)
@@ -304,7 +307,8 @@ twoReads =
     ∷ send (readUnder (stamp 0 2 0) (stamp 0 1 0))
     ∷ []
 
--- Desk 1, which knows no x, learns desk 3's s, proposes (0.3.0, 0.1.0) and writes: with what it wrote and desk 2 read before, that breaks the premise.
+-- Desk 1, which knows no x, learns desk 3's s, proposes (0.3.0, 0.1.0) and writes: with what it wrote and desk 2 read
+-- before, that breaks the premise.
 abbrev pub oneAbove : List Move
 oneAbove =
     learn deskOne 0 (pair (stamp 0 3 0) 0)
@@ -362,8 +366,8 @@ oneFarAbove =
 pub record RulesNeeded : Type 0 where
   -- rule 10.9: desk 1 starts again under the same start, and proposes its old exclusive stamp with a larger s
   pub start-again : BrokenBy (threeAsks ++ (oneWrites ++ twoReads)) (begin deskOne) oneAbove
-  -- rule 10.8: a command under a pair that nobody proposed; one that relies on a pair that was proposed and opens one that was not; under one that was
-  -- proposed in the other mode; for another card
+  -- rule 10.8: a command under a pair that nobody proposed; one that relies on a pair that was proposed and opens one
+  -- that was not; under one that was proposed in the other mode; for another card
   pub never-proposed : BrokenBy (oneWrites ++ twoReads) (send (writeOriginal (stamp 0 3 0) (stamp 0 1 0) text401)) []
   pub never-proposed-update :
       BrokenBy (oneWrites ++ twoReads) (send (writeOpening (pair 0 (stamp 0 1 0)) (pair (stamp 0 3 0) (stamp 0 1 0)) text401)) []

@@ -1,5 +1,6 @@
--- Theorems on the history engine, used where their hypotheses only just hold: no card, no room, nothing sent, more said to be used than is lent. A stricter hypothesis or a sentence left
--- out is noticed here. (Cases uses the rest.) Assumes nothing.
+-- Theorems on the history engine, used where their hypotheses only just hold: no card, no room, nothing sent, more
+-- said to be used than is lent. A stricter hypothesis or a sentence left out is noticed here. (Cases uses the rest.)
+-- Assumes nothing.
 use Prim.Native.Nat.{ℕ}
 use mathlib.Core.Path.{_≡_}
 use mathlib.Core.List.{List, [], _∷_, map}
@@ -16,7 +17,8 @@ use Rattle.history_claims.proofs.Bytes.{bytes-kept}
 use Rattle.history_claims.proofs.Claims.{keeps-accepted, engine-numbers}
 use Rattle.history_claims.proofs.Lent.{engine-over-bytes}
 
--- No shape is asked for: with no card and no room, and with one malformed request, the engine keeps what it accepted and is within its limits.
+-- No shape is asked for: with no card and no room, and with one malformed request, the engine keeps what it accepted
+-- and is within its limits.
 accepted-none : keptAfter 0 0 [] ≡ map (λ (e : Event). e .sent .command) (those wasAccepted (engineEvents 0 0 []))
 accepted-none = keeps-accepted 0 0 [] .those-accepted
 

@@ -1,5 +1,5 @@
--- Worked cases of what the history engine works out of the kept commands, field by field, and of 22 behind every other row (rules 14.5 to 14.9). Proved by computation in
--- proofs/Edges.antt.
+-- Worked cases of what the history engine works out of the kept commands, field by field, and of 22 behind every other
+-- row (rules 14.5 to 14.9). Proved by computation in proofs/Edges.antt.
 -- Assumes nothing.
 use Prim.Native.Nat.{ℕ}
 use mathlib.Core.Path.{_≡_}
@@ -13,13 +13,15 @@ use Rattle.model.specs.Cases.{pair, stamp1, stamp2, stamp3, markOf, withPairs, 
 use Rattle.history.specs.WorkedOut.{entryFrom, textFrom}
 use Rattle.history.specs.Engine.{deduced}
 
--- A kept command by act, card, update pair, next mark, edition and text; its verifier and its expected mark are not looked at.
+-- A kept command by act, card, update pair, next mark, edition and text; its verifier and its expected mark are not
+-- looked at.
 abbrev pub keeps : ℕ → ℕ → ℕ → ℕ → ℕ → ℕ → ℕ → List ℕ → List ℕ
 keeps act card s x desk transaction edition text =
     sends (withPairs act exclusive card (pair 9 9) (pair s x) (markOf 8 8) (markOf desk transaction) edition (length text)) text [] .command
 
--- Of card 0, from the oldest: the original 401 under s 3.3.0; the original 205 under x 2.2.0; the translation 401, which names edition 7; a verify under smaller stamps, which leaves the
--- mark (5, 6). Of card 1 the original 205 alone, in the midst of them. (The latest stands first.)
+-- Of card 0, from the oldest: the original 401 under s 3.3.0; the original 205 under x 2.2.0; the translation 401,
+-- which names edition 7; a verify under smaller stamps, which leaves the mark (5, 6). Of card 1 the original 205
+-- alone, in the midst of them. (The latest stands first.)
 abbrev pub keptFive : List (List ℕ)
 keptFive =
     keeps 5 0 stamp1 stamp1 5 6 0 []
@@ -33,7 +35,8 @@ abbrev pub entryBy : ℕ → ℕ → ℕ → ℕ → ℕ → ℕ → ℕ → ℕ
 entryBy s x desk transaction edition made first second =
     record { pair = pair s x; mark = markOf desk transaction; edition = edition; from = made; original = first; translation = second }
 
--- Requests to a history that is full, N 1, C 16: malformed; no such card; stale; too long; behind; a reply buffer too short; and one that would be accepted.
+-- Requests to a history that is full, N 1, C 16: malformed; no such card; stale; too long; behind; a reply buffer too
+-- short; and one that would be accepted.
 abbrev pub fullHistory : List (List ℕ)
 fullHistory = keeps 3 0 stamp2 stamp2 0 0 0 text205 ∷ replicate 199 (verify shared stamp1 0 .command)
 
@@ -50,7 +53,8 @@ toFull =
     ∷ []
 
 pub record HistoryEdges : Type 0 where
-  -- rule 14.5: each largest stamp by itself; the last mark; two editions; the edition that the translation names; the last lengths
+  -- rule 14.5: each largest stamp by itself; the last mark; two editions; the edition that the translation names; the
+  -- last lengths
   pub entry0 : entryFrom keptFive 0 ≡ entryBy stamp3 stamp2 5 6 2 7 3 3
   pub entry1 : entryFrom keptFive 1 ≡ entryBy stamp2 stamp3 1 9 1 0 3 0
   pub entry2 : entryFrom keptFive 2 ≡ entryBy 0 0 0 0 0 0 0 0

@@ -1,5 +1,6 @@
--- Worked cases of every layout, in bytes: commands, entries and whole images of both versions, with a number of its own in each field, so that no two fields can be exchanged unnoticed
--- (rules 1.1, 2.3 to 2.5, 3.1, 3.4 and 15.3 to 15.6). Proved by computation in proofs/Layouts.antt.
+-- Worked cases of every layout, in bytes: commands, entries and whole images of both versions, with a number of its
+-- own in each field, so that no two fields can be exchanged unnoticed (rules 1.1, 2.3 to 2.5, 3.1, 3.4 and 15.3 to
+-- 15.6). Proved by computation in proofs/Layouts.antt.
 -- Assumes nothing.
 use Prim.Native.Nat.{ℕ, suc, _+_}
 use mathlib.Core.Path.{_≡_}
@@ -38,7 +39,8 @@ cardWith original translated =
 abbrev pub from : ℕ → List ℕ → Translation
 from edition text = record { from = edition; text = text }
 
--- With one translation, of edition 13, and with four, of editions 13 to 16; the bytes of both images, sixteen to a line.
+-- With one translation, of edition 13, and with four, of editions 13 to 16; the bytes of both images, sixteen to a
+-- line.
 abbrev pub cardIn1 : Cards
 cardIn1 = cardWith (50 ∷ 48 ∷ 53 ∷ []) (from 13 (52 ∷ 48 ∷ []) ∷ [])
 
@@ -67,7 +69,8 @@ imageOf2 =
     ++ (67 ∷ 67 ∷ 67 ∷ 0 ∷ 0 ∷ 0 ∷ 0 ∷ 0 ∷ 0 ∷ 0 ∷ 0 ∷ 0 ∷ 0 ∷ 0 ∷ 0 ∷ 0 ∷ [])
     ++ (68 ∷ 68 ∷ 68 ∷ 68 ∷ 0 ∷ 0 ∷ 0 ∷ 0 ∷ 0 ∷ 0 ∷ 0 ∷ 0 ∷ 0 ∷ 0 ∷ 0 ∷ 0 ∷ [])
 
--- The write of rule 3.4, the shared verify there that opens a session, and the write in language 1 at the end of section 15, in bytes.
+-- The write of rule 3.4, the shared verify there that opens a session, and the write in language 1 at the end of
+-- section 15, in bytes.
 abbrev pub write205 : List ℕ
 write205 = (3 ∷ 2 ∷ 0 ∷ 0 ∷ 0 ∷ 0 ∷ 1 ∷ 0 ∷ 1 ∷ 0 ∷ 0 ∷ 0 ∷ 0 ∷ 0 ∷ 1 ∷ 0 ∷ 1 ∷ 0 ∷ 0 ∷ 0 ∷ []) ++ (replicate 30 0 ++ (3 ∷ 0 ∷ 50 ∷ 48 ∷ 53 ∷ []))
 
@@ -165,7 +168,8 @@ pub record LayoutCases : Type 0 where
       }
   pub payload1 : payload V1 (rising 54) ≡ 53 ∷ 54 ∷ []
   pub payload2 : payload V2 (rising 70) ≡ 69 ∷ 70 ∷ []
-  -- rules 3.4 and 15.6: three commands from numbers to bytes; they are well formed, and one with a byte of 21 to 35 set, or with language 4, is not
+  -- rules 3.4 and 15.6: three commands from numbers to bytes; they are well formed, and one with a byte of 21 to 35
+  -- set, or with language 4, is not
   pub bytes1 : commandBytes V1 numbers205 (50 ∷ 48 ∷ 53 ∷ []) ≡ write205
   pub bytesNew : commandBytes V1 numbersNew [] ≡ verifyNew
   pub bytes2 : commandBytes V2 numbers402 (52 ∷ 48 ∷ 50 ∷ []) ≡ write402

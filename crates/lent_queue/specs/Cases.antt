@@ -1,4 +1,5 @@
--- Worked cases of a queue as arrays and over lent places: which number stands where (rule 7.14). Proved by computation in proofs/Cases.antt.
+-- Worked cases of a queue as arrays and over lent places: which number stands where (rule 7.14). Proved by computation
+-- in proofs/Cases.antt.
 -- Assumes nothing.
 use mathlib.Core.Path.{_≡_}
 use mathlib.Core.List.{[], _∷_}

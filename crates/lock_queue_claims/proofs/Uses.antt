@@ -1,5 +1,6 @@
--- Each theorem on the queue, used where its hypotheses only just hold: as many places as are lent, a refused request, the last place. A stricter hypothesis or a sentence left out
--- is noticed here. (Those on upgrades, lists and leases are used in Trials and LeaseCases.) Assumes nothing.
+-- Each theorem on the queue, used where its hypotheses only just hold: as many places as are lent, a refused request,
+-- the last place. A stricter hypothesis or a sentence left out is noticed here. (Those on upgrades, lists and leases
+-- are used in Trials and LeaseCases.) Assumes nothing.
 use Prim.Native.Nat.{_≤_}
 use native.Mathlib.Omega.{arith}
 use mathlib.Core.Path.{_≡_, refl}

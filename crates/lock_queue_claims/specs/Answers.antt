@@ -1,4 +1,5 @@
--- Worked cases of the queue's whole answers, and of every way in which a queue is bad or an ask malformed (rules 7.4 to 7.15 and 13.5). Proved by computation in proofs/Answers.antt.
+-- Worked cases of the queue's whole answers, and of every way in which a queue is bad or an ask malformed (rules 7.4
+-- to 7.15 and 13.5). Proved by computation in proofs/Answers.antt.
 -- Assumes nothing.
 use Prim.Native.Nat.{ℕ}
 use mathlib.Core.Path.{_≡_}
@@ -13,7 +14,8 @@ use Rattle.lock_queue.specs.declared.Waiting.{Waiting}
 use Rattle.lock_queue_claims.specs.Trials.{guest, asker, twoShared}
 use Rattle.lock_queue_claims.specs.LeaseCases.{oneStands, silent, absent}
 
--- An answer by its numbers: number, whether the desk holds the lock, the largest s and x, how many entries were looked at.
+-- An answer by its numbers: number, whether the desk holds the lock, the largest s and x, how many entries were looked
+-- at.
 abbrev pub given : ℕ → Bool → ℕ → ℕ → ℕ → LockAnswer
 given n held s x seen = record { number = n; holds = held; largest = record { s = s; x = x }; looked = seen }
 
@@ -83,8 +85,8 @@ oneOfThree =
       largest = record { s = stamp 5 1 0; x = stamp 4 1 0 };
     }
 
--- Shared: a smaller s is no matter, an equal x passes, one below is denied. Exclusive: an equal s passes, one below is denied, and so is an x below. Each largest stamp is raised by
--- itself, and a smaller one raises nothing.
+-- Shared: a smaller s is no matter, an equal x passes, one below is denied. Exclusive: an equal s passes, one below is
+-- denied, and so is an x below. Each largest stamp is raised by itself, and a smaller one raises nothing.
 abbrev pub TablePairs : Type 0
 TablePairs =
     map (answer 3 oneOfThree)
@@ -127,7 +129,8 @@ LeavesMiddle =
       largest = record { s = stamp 4 4 0; x = stamp 3 3 0 };
     }
 
--- The two in front hold, the exclusive one and who stands behind it do not, nor does a stranger; when both in front have left, the exclusive one holds alone.
+-- The two in front hold, the exclusive one and who stands behind it do not, nor does a stranger; when both in front
+-- have left, the exclusive one holds alone.
 abbrev pub WhoHolds : Type 0
 WhoHolds =
     map (λ (q : State). map (λ (n : ℕ). holds (seat n) (standing q)) (1 ∷ 2 ∷ 3 ∷ 4 ∷ 9 ∷ []))
@@ -136,7 +139,8 @@ WhoHolds =
 
 -- ---- Bad queues (rule 7.4).
 
--- A queue with one lent place more than it may have, and one whose count is above the lent places, by the number of lent places.
+-- A queue with one lent place more than it may have, and one whose count is above the lent places, by the number of
+-- lent places.
 pub record LentQueue : Type 0 where
   pub lent : ℕ
   pub queue : State
@@ -167,7 +171,8 @@ badQueues =
     ∷ lentQueue 1 (asker exclusive 0 (stamp 2 2 0) ∷ []) 1 (stamp 2 2 0) (stamp 2 1 0)
     ∷ []
 
--- Queues at the edge that are good: nothing in 1 and in 32 places, a full one, one place that is not looked at, a desk with two starts, a largest stamp that nobody has any more.
+-- Queues at the edge that are good: nothing in 1 and in 32 places, a full one, one place that is not looked at, a desk
+-- with two starts, a largest stamp that nobody has any more.
 abbrev pub goodQueues : List LentQueue
 goodQueues =
     lentQueue 1 (noWaiting ∷ []) 0 0 0
@@ -178,8 +183,8 @@ goodQueues =
     ∷ lentQueue 1 (noWaiting ∷ []) 0 (stamp 9 9 0) (stamp 9 9 9)
     ∷ []
 
--- Of a bad queue every request gets 10 and nothing else: a well-formed ask, a malformed one, a leave, a lapse, in range and out of range. A good one answers 15 to the leave of a desk
--- that does not stand.
+-- Of a bad queue every request gets 10 and nothing else: a well-formed ask, a malformed one, a leave, a lapse, in
+-- range and out of range. A good one answers 15 to the leave of a desk that does not stand.
 pub record QueuesJudged : Type 0 where
   pub asks-10 : map (λ (b : LentQueue). answer (b .lent) (b .queue) (asks (asker exclusive (stamp 9 9 0) (stamp 9 9 0)))) badQueues ≡ replicate 14 (given 10 false 0 0 0)
   pub malformed-10 : map (λ (b : LentQueue). answer (b .lent) (b .queue) (asks noWaiting)) badQueues ≡ replicate 14 (given 10 false 0 0 0)

@@ -1,5 +1,6 @@
--- Demand 3 and its like, used where the hypotheses only just hold: nothing sent, the largest shape, a conversion with nothing before it or nothing behind it. A stricter hypothesis or a
--- sentence left out is noticed here. Assumes nothing.
+-- Demand 3 and its like, used where the hypotheses only just hold: nothing sent, the largest shape, a conversion with
+-- nothing before it or nothing behind it. A stricter hypothesis or a sentence left out is noticed here.
+-- Assumes nothing.
 use mathlib.Core.Path.{_≡_}
 use mathlib.Core.List.{List, [], _∷_, _++_}
 use lib.Dec.{T}
@@ -40,7 +41,8 @@ nothing-sent = demand3 V1 89 352 largest1 [] tt
 odd-sent : Claim 15 odd (logOf V2 15 864 odd)
 odd-sent = demand3 V2 15 864 largest2 odd odd-bytes
 
--- Over a conversion, with the whole limit of 65,536 bytes used by the new image: nothing before it and nothing behind it; nothing before it; the story of both.
+-- Over a conversion, with the whole limit of 65,536 bytes used by the new image: nothing before it and nothing behind
+-- it; nothing before it; the story of both.
 converts-nothing : convertNumber (imageBefore 15 864 []) (sizeOf V2 15 864) ≡ 0
 converts-nothing = demand3-across 15 864 largest2 [] [] tt tt .converts
 

@@ -1,5 +1,5 @@
--- Theorems on the program, used where their hypotheses only just hold: case P's input, an image with no stream behind it, no input. A stricter hypothesis or a sentence left out is noticed
--- here. Assumes nothing.
+-- Theorems on the program, used where their hypotheses only just hold: case P's input, an image with no stream behind
+-- it, no input. A stricter hypothesis or a sentence left out is noticed here. Assumes nothing.
 use Prim.Native.Nat.{_<_}
 use native.Mathlib.Omega.{arith}
 use mathlib.Core.Path.{_≡_, refl}

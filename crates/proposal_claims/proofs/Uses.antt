@@ -1,5 +1,6 @@
--- Theorems on proposals, used where their hypotheses only just hold: a shared denial and an exclusive ask, exactly the denial's pair, the last desk and start, a refusal. A stricter hypothesis
--- or a sentence left out is noticed here. Assumes nothing.
+-- Theorems on proposals, used where their hypotheses only just hold: a shared denial and an exclusive ask, exactly the
+-- denial's pair, the last desk and start, a refusal. A stricter hypothesis or a sentence left out is noticed here.
+-- Assumes nothing.
 use Prim.Native.Nat.{_≤_}
 use native.Mathlib.Omega.{arith}
 use mathlib.Core.Path.{_≡_, refl}

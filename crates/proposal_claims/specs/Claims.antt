@@ -1,4 +1,5 @@
--- What is claimed of a desk's proposals, by themselves and with the lock queue of one card (docs/RULES.md, section 10). The theorems stand in proofs/.
+-- What is claimed of a desk's proposals, by themselves and with the lock queue of one card (docs/RULES.md, section
+-- 10). The theorems stand in proofs/.
 -- Assumes nothing.
 use Prim.Native.Nat.{ℕ, suc, _+_, _*_, _%_, _≤_, _<_}
 use mathlib.Core.Path.{_≡_}
@@ -31,13 +32,15 @@ pub record SmallestAbove (desk start n r : ℕ) : Type 0 where
 abbrev pub Smallest : Type 0
 Smallest = (desk start n : ℕ) → desk < 65536 → start < 65536 → SmallestAbove desk start n (ownAbove desk start n)
 
--- Rule 10.6: the test for 16 holds exactly where none of the desk's own stamps, which are numbers of 64 bits, is above n.
+-- Rule 10.6: the test for 16 holds exactly where none of the desk's own stamps, which are numbers of 64 bits, is above
+-- n.
 abbrev pub Spent : Type 0
 Spent =
     (desk start n : ℕ) → desk < 65536 → start < 65536 →
     (lastT < nextT desk start n) ↔ ((m : ℕ) → m < 18446744073709551616 → OfDesk desk start m → m ≤ n)
 
--- Rules 10.4, 10.5 and 1: a proposal made from valid stamps keeps a session's rules, and names the desk and start that makes it.
+-- Rules 10.4, 10.5 and 1: a proposal made from valid stamps keeps a session's rules, and names the desk and start that
+-- makes it.
 pub record Fine (k : Known) (mode : ℕ) : Type 0 where
   pub rules : all (sessionChecks mode (proposed k mode .pair)) ≡ true
   pub desk : deskOf mode (proposed k mode .pair) ≡ k .desk * 65536 + k .start
@@ -58,7 +61,8 @@ unfoldable pub quiet : ℕ → State → List Request → Bool
 quiet lent q [] = true
 quiet lent q (r ∷ rs) = not (entered lent q r) && quiet lent (after lent q r) rs
 
--- An ask is denied, requests come of which none enters, and a desk that knows at least the denial's pair proposes. Of any queue, whoever was denied, in either mode.
+-- An ask is denied, requests come of which none enters, and a desk that knows at least the denial's pair proposes. Of
+-- any queue, whoever was denied, in either mode.
 pub record Retries (lent : ℕ) (q : State) (new : Waiting) (between : List Request) (k : Known) (mode : ℕ) : Type 0 where
   pub denial : number lent q (asks new) ≡ PAIR-DENIED
   pub still : quiet lent (after lent q (asks new)) between ≡ true
@@ -76,7 +80,8 @@ NotDenied =
     (lent : ℕ) (q : State) (new : Waiting) (between : List Request) (k : Known) (mode : ℕ) → Retries lent q new between k mode →
     retried lent q new between k mode ≡ PAIR-DENIED → ⊥
 
--- Rule 10.10: where what it knows are valid stamps, it is accepted, or it stands already, or the queue is full. The places are at least as many as are lent.
+-- Rule 10.10: where what it knows are valid stamps, it is accepted, or it stands already, or the queue is full. The
+-- places are at least as many as are lent.
 abbrev pub retryNumbers : List ℕ
 retryNumbers = STANDS-ALREADY ∷ QUEUE-FULL ∷ []
 

@@ -1,5 +1,5 @@
--- Theorems on recovery, used where their hypotheses only just hold: a log that is no log, other pairs in a second run, a cut in front of the last store. A stricter hypothesis or a
--- sentence left out is noticed here. Assumes nothing.
+-- Theorems on recovery, used where their hypotheses only just hold: a log that is no log, other pairs in a second run,
+-- a cut in front of the last store. A stricter hypothesis or a sentence left out is noticed here. Assumes nothing.
 use Prim.Native.Nat.{ℕ, zero, suc, _<_}
 use mathlib.Core.Path.{_≡_, refl}
 use mathlib.Core.List.{List, [], _∷_, _++_}

@@ -1,5 +1,6 @@
--- Worked cases of recovery that notice a rule misread in definition and code alike: whose pair a write is under, what it leaves in the entry, the bytes that are sent, and the numbers
--- that only some stores give. Proved by computation in proofs/Edges.antt.
+-- Worked cases of recovery that notice a rule misread in definition and code alike: whose pair a write is under, what
+-- it leaves in the entry, the bytes that are sent, and the numbers that only some stores give. Proved by computation
+-- in proofs/Edges.antt.
 -- Assumes nothing.
 use Prim.Native.Nat.{ℕ}
 use mathlib.Core.Path.{_≡_}
@@ -29,7 +30,8 @@ pairsAhead = record { s = stamp1 ∷ []; x = stamp 1000001 1 0 ∷ [] }
 abbrev pub bothOf1 : List LogRecord
 bothOf1 = beginOf 1 ∷ updateOf 1 1 text205 ∷ updateOf 1 2 text401 ∷ commitOf 1 ∷ []
 
--- What is asked of a run: the number and the line, the pair and the edition that cards 0 and 1 then have, and all that was sent, latest first.
+-- What is asked of a run: the number and the line, the pair and the edition that cards 0 and 1 then have, and all that
+-- was sent, latest first.
 pub record Left : Type 0 where
   pub number : ℕ
   pub line : ℕ
@@ -50,7 +52,8 @@ leftBy r =
 abbrev pub runLeft : Pairs → List LogRecord → List ℕ → Left
 runLeft pairs rs image = leftBy (recovering pairs rs image (length rs))
 
--- A write of recovery by what it carries: act, card, pair, the mark that it expects and leaves, the edition that it names, the text.
+-- A write of recovery by what it carries: act, card, pair, the mark that it expects and leaves, the edition that it
+-- names, the text.
 abbrev pub write : ℕ → ℕ → Pair → ℕ → ℕ → ℕ → List ℕ → Sent
 write act card p desk transaction edition text = sends (withNumbers act exclusive card p (markOf desk transaction) (markOf desk transaction) edition (length text)) text []
 
@@ -58,7 +61,8 @@ abbrev pub left : ℕ → ℕ → List Pair → List ℕ → List Sent → Left
 left number line pairs editions sent = record { number = number; line = line; pairs = pairs; editions = editions; sent = sent }
 
 pub record RecoveryEdges : Type 0 where
-  -- rules 11.16 and 11.17: card 1's writes are under card 1's pair, s as s and x as x; the translation names the edition that its original has just made
+  -- rules 11.16 and 11.17: card 1's writes are under card 1's pair, s as s and x as x; the translation names the
+  -- edition that its original has just made
   pub own-pair :
       runLeft pairsOf1 bothOf1 blankImage
       ≡ left 0 0 (noPair ∷ pair stamp1 stamp2 ∷ []) (0 ∷ 1 ∷ []) (write 4 1 (pair stamp1 stamp2) 0 0 1 text401 ∷ write 3 1 (pair stamp1 stamp2) 0 0 0 text205 ∷ [])

@@ -1,5 +1,6 @@
--- Theorems on the redo log, used where their hypotheses only just hold: any bytes as a log, a cut at the first and at the last store, a refused append among others. A stricter hypothesis or a
--- sentence left out is noticed here. Assumes nothing.
+-- Theorems on the redo log, used where their hypotheses only just hold: any bytes as a log, a cut at the first and at
+-- the last store, a refused append among others. A stricter hypothesis or a sentence left out is noticed here.
+-- Assumes nothing.
 use native.Mathlib.Omega.{arith}
 use mathlib.Core.Path.{_≡_, refl}
 use mathlib.Core.List.{List, [], _∷_, _++_}

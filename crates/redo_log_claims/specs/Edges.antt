@@ -1,5 +1,5 @@
--- Worked cases of a redo log that notice a rule misread in definition and code alike: a log written out in bytes, what damages it, the order of records and the limits. Proved in
--- proofs/Edges.antt.
+-- Worked cases of a redo log that notice a rule misread in definition and code alike: a log written out in bytes, what
+-- damages it, the order of records and the limits. Proved in proofs/Edges.antt.
 -- Assumes nothing.
 use Prim.Native.Nat.{ℕ}
 use mathlib.Core.Path.{_≡_}
