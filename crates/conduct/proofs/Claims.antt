@@ -10,17 +10,17 @@ use lib.Dec.{T, eqb}
 use Rattle.formats.specs.Format.{Format, V1, V2}
 use Rattle.lists.specs.Search.{none}
 use Rattle.lists.specs.Table.{settled}
-use Rattle.lists.proofs.Tests.{from-T, cases, and-in, and-left, and-right, or-left, or-right, not-in, never-both}
+use Rattle.lists.proofs.Tests.{cases, and-in, and-left, and-right, or-left, or-right, not-in, never-both}
 use Rattle.stamps.specs.Stamp.{exclusive, own}
 use Rattle.stamps.specs.declared.Pair.{Pair}
 use Rattle.commands.specs.Command.{update}
 use Rattle.commands.specs.Bytes.{fieldsOf, formed}
 use Rattle.commands.proofs.Rules.{command-rules}
 use Rattle.image.specs.Layout.{shapeOk}
-use Rattle.image.specs.Image.{Card, noCard, encode, sound, fresh, freshCards}
+use Rattle.image.specs.Image.{Card, noCard, encode, fresh, freshCards}
 use Rattle.image.specs.Convert.{converted, convertNumber}
 use Rattle.image_claims.proofs.Claims.{goodEncodes}
-use Rattle.model.specs.Words.{Sent, Received, Event, commandOf, imageAfter, history, logOf, formedFor, carries, under, premise, commandsIn}
+use Rattle.model.specs.Words.{Sent, Received, Event, commandOf, imageAfter, history, logOf, formedFor, carries, under, commandsIn}
 use Rattle.model.specs.Claims.{AllBytes, Claim}
 use Rattle.model.specs.Conversion.{imageBefore, logAcross}
 use Rattle.model.specs.Meaning.{Among, Ordered}
@@ -309,4 +309,4 @@ recovery-allowed v n c places steps r pairs log fp lb version given =
     under-all =
         let good = goodEncodes V1 (held .cards) (held .good) in
         subst (λ (i : List ℕ). AllUnder pairs (recovered pairs log i .sent)) (sym (held .image-is))
-        (under-pairs.under pairs log (encode V1 (held .cards)) fp lb (good .bytes) (from-T (sound V1 (encode V1 (held .cards))) (good .sounds)))
+        (under-pairs.under pairs log (encode V1 (held .cards)) fp lb (good .bytes))

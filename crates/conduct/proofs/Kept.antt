@@ -32,7 +32,8 @@ use Rattle.model.specs.Meaning.{Among}
 use Rattle.model.proofs.Machine.{numberOn, eventBy, cardsBy, passed}
 use Rattle.model.proofs.Meaning.{among-here, among-later, any-means}
 use Rattle.model.proofs.Simulation.{same-event}
-use Rattle.recovery_model.specs.Recovery.{Pairs, FitsPairs, recovered}
+use Rattle.recovery_model.specs.Recovery.{Pairs, FitsPairs}
+use Rattle.image.proofs.Cards.{Bytes-encode}
 use Rattle.recovery_model.proofs.Sending.{recovered-bytes}
 use Rattle.lock_queue.specs.Queue.{State, emptyQueue}
 use Rattle.lock_queue.specs.declared.Waiting.{Waiting}
@@ -645,7 +646,7 @@ kept-sends v n c y k (s ∷ earlier) b h =
 -- What a recovery sends is bytes.
 pub recovery-bytes : (f : Format) (image : List ℕ) (cs : Cards) → image ≡ encode f cs → GoodCards f cs → (pairs : Pairs) (log : List ℕ) → FitsPairs pairs → Bytes log
     → AllBytes (recoverySends f pairs log image)
-recovery-bytes V1 image cs e g pairs log fp lb = subst (λ (i : List ℕ). AllBytes (recovered pairs log i .sent)) (sym e) (recovered-bytes pairs log cs g fp lb)
+recovery-bytes V1 image cs e g pairs log fp lb = recovered-bytes pairs log image (subst Bytes (sym e) (Bytes-encode V1 cs g)) fp lb
 recovery-bytes V2 image cs e g pairs log fp lb = tt
 
 pub kept-recover : (v : Format) (n c : ℕ) (y : System) → Kept v n c y → (pairs : Pairs) (log : List ℕ) → FitsPairs pairs → Bytes log → allowed y (recover pairs log) ≡ true
