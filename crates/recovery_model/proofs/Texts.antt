@@ -53,7 +53,7 @@ settles rs l k (suc i) = go (rewrites rs l k i) refl (settles rs l k i)
     go false e (inl h) = inl (λ a b. rw e (h a b))
     go false e (inr h) = inr (λ a. rw e (h a))
 
-again-same : (rs : List LogRecord) (l : Language) (k i : ℕ) (a : List ℕ) → rewritten rs l k i (rewritten rs l k i a) ≡ rewritten rs l k i a
+pub again-same : (rs : List LogRecord) (l : Language) (k i : ℕ) (a : List ℕ) → rewritten rs l k i (rewritten rs l k i a) ≡ rewritten rs l k i a
 again-same rs l k i a = go (settles rs l k i)
   where
     go : ((a b : List ℕ) → rewritten rs l k i a ≡ rewritten rs l k i b) ⊎ ((a : List ℕ) → rewritten rs l k i a ≡ a) → rewritten rs l k i (rewritten rs l k i a) ≡ rewritten rs l k i a
@@ -114,17 +114,15 @@ module _ (pairs : Pairs) (rs : List LogRecord) (cs : Cards) (gc : GoodCards V1 c
   abbrev pub at : ℕ → Cards
   at i = C pairs rs cs gc fp fit i
 
-  before-zero : (i : ℕ) → R pairs rs (encode V1 cs) (suc i) .number ≡ 0 → R pairs rs (encode V1 cs) i .number ≡ 0
+  pub before-zero : (i : ℕ) → R pairs rs (encode V1 cs) (suc i) .number ≡ 0 → R pairs rs (encode V1 cs) i .number ≡ 0
   before-zero i z = go (next pairs rs (encode V1 cs) i)
     where
       go : Idle pairs rs (encode V1 cs) i ⊎ Sends pairs rs (encode V1 cs) i → R pairs rs (encode V1 cs) i .number ≡ 0
       go (inl idle) = sym (ap (λ (r : Recovery). r .number) (idle .same)) ∙ z
       go (inr s) = s .so-far
 
-  module _ (i : ℕ) (h : i < length rs) (z : R pairs rs (encode V1 cs) (suc i) .number ≡ 0) (l : Language) (k : ℕ) where
-    abbrev old : List ℕ
-    old = text l (getD (at i .cards) k (noCard V1))
-
+  -- The request for record i, on the cards before it.
+  module _ (i : ℕ) (h : i < length rs) where
     abbrev r : LogRecord
     r = recordIn rs i
 
@@ -134,19 +132,18 @@ module _ (pairs : Pairs) (rs : List LogRecord) (cs : Cards) (gc : GoodCards V1 c
     image-here : R pairs rs (encode V1 cs) i .image ≡ encode V1 (at i)
     image-here = image-is pairs rs cs gc fp fit i bytes-so-far
 
-    number-here : Sends pairs rs (encode V1 cs) i → numberOn V1 (at i) (S pairs rs (encode V1 cs) i) ≡ 0
+    pub number-here : Sends pairs rs (encode V1 cs) i → numberOn V1 (at i) (S pairs rs (encode V1 cs) i) ≡ R pairs rs (encode V1 cs) (suc i) .number
     unfolding recoveryStep replied
     number-here s =
         ap (λ (e : Event). e .answer .number) (sym (same-event V1 (at i) (S pairs rs (encode V1 cs) i) (cards-good pairs rs cs gc fp fit i bytes-so-far)))
         ∙ ap (λ (im : List ℕ). serve V1 im (S pairs rs (encode V1 cs) i .command) (S pairs rs (encode V1 cs) i .lent) .answer .number) (sym image-here)
         ∙ sym (ap (λ (q : Recovery). q .number) (s .now))
-        ∙ z
 
-    cards-next : Sends pairs rs (encode V1 cs) i → at (suc i) ≡ cardsBy V1 (numberOn V1 (at i) (S pairs rs (encode V1 cs) i)) (at i) (S pairs rs (encode V1 cs) i)
+    pub cards-next : Sends pairs rs (encode V1 cs) i → at (suc i) ≡ cardsBy V1 (numberOn V1 (at i) (S pairs rs (encode V1 cs) i)) (at i) (S pairs rs (encode V1 cs) i)
     unfolding recoveryStep cardsFrom
     cards-next s = ap (λ (q : Recovery). cardsFrom V1 cs (q .sent)) (s .now)
 
-    fields-here : fieldsOf V1 (S pairs rs (encode V1 cs) i .command) ≡ writeOf pairs (R pairs rs (encode V1 cs) i .image) r
+    pub fields-here : fieldsOf V1 (S pairs rs (encode V1 cs) i .command) ≡ writeOf pairs (R pairs rs (encode V1 cs) i .image) r
     unfolding recoverySent
     fields-here = fields-command (writeOf pairs (R pairs rs (encode V1 cs) i .image) r) (recordText r) V1 (fits-here pairs rs cs gc fp fit i bytes-so-far h) (lit< tt)
 
@@ -154,23 +151,27 @@ module _ (pairs : Pairs) (rs : List LogRecord) (cs : Cards) (gc : GoodCards V1 c
     unfolding recoverySent
     payload-here = payload-command (writeOf pairs (R pairs rs (encode V1 cs) i .image) r) (recordText r) V1
 
-    text-more : text l (getD (at (suc i) .cards) k (noCard V1)) ≡ cond (rewrites rs l k i) (recordText r) old
+  module _ (i : ℕ) (h : i < length rs) (z : R pairs rs (encode V1 cs) (suc i) .number ≡ 0) (l : Language) (k : ℕ) where
+    abbrev old : List ℕ
+    old = text l (getD (at i .cards) k (noCard V1))
+
+    text-more : text l (getD (at (suc i) .cards) k (noCard V1)) ≡ cond (rewrites rs l k i) (recordText (r i h)) old
     text-more = go (next pairs rs (encode V1 cs) i)
       where
-        mixed : (a b : Bool) → cond a (cond b (recordText r) old) old ≡ cond (a && b) (recordText r) old
+        mixed : (a b : Bool) → cond a (cond b (recordText (r i h)) old) old ≡ cond (a && b) (recordText (r i h)) old
         mixed true b = refl
         mixed false b = refl
 
-        go : Idle pairs rs (encode V1 cs) i ⊎ Sends pairs rs (encode V1 cs) i → text l (getD (at (suc i) .cards) k (noCard V1)) ≡ cond (rewrites rs l k i) (recordText r) old
+        go : Idle pairs rs (encode V1 cs) i ⊎ Sends pairs rs (encode V1 cs) i → text l (getD (at (suc i) .cards) k (noCard V1)) ≡ cond (rewrites rs l k i) (recordText (r i h)) old
         go (inl idle) =
             ap (λ (q : Recovery). text l (getD (cardsFrom V1 cs (q .sent) .cards) k (noCard V1))) (idle .same)
             ∙ sym (rw (idle .why (before-zero i z)))
         go (inr s) =
-            ap (λ (m : Cards). text l (getD (m .cards) k (noCard V1))) (cards-next s)
-            ∙ text-after (at i) (S pairs rs (encode V1 cs) i) (writeOf pairs (R pairs rs (encode V1 cs) i .image) r) (recordText r) fields-here payload-here (number-here s) l k
-            ∙ ap (λ (m : List ℕ). cond (eqb (recordCard r) k) m old) (step-text (getD (at i .cards) k (noCard V1)) (recoveryPair pairs (recordCard r)) (entryFor (R pairs rs (encode V1 cs) i .image) (recordCard r)) r l (counted (at i) (cards-good pairs rs cs gc fp fit i bytes-so-far) k))
-            ∙ mixed (eqb (recordCard r) k) (sideIs l (recordSide r))
-            ∙ sym (ap (λ (d : Bool). cond (d && (eqb (recordCard r) k && sideIs l (recordSide r))) (recordText r) old) (s .is-due))
+            ap (λ (m : Cards). text l (getD (m .cards) k (noCard V1))) (cards-next i h s)
+            ∙ text-after (at i) (S pairs rs (encode V1 cs) i) (writeOf pairs (R pairs rs (encode V1 cs) i .image) (r i h)) (recordText (r i h)) (fields-here i h) (payload-here i h) (number-here i h s ∙ z) l k
+            ∙ ap (λ (m : List ℕ). cond (eqb (recordCard (r i h)) k) m old) (step-text (getD (at i .cards) k (noCard V1)) (recoveryPair pairs (recordCard (r i h))) (entryFor (R pairs rs (encode V1 cs) i .image) (recordCard (r i h))) (r i h) l (counted (at i) (cards-good pairs rs cs gc fp fit i (bytes-so-far i h)) k))
+            ∙ mixed (eqb (recordCard (r i h)) k) (sideIs l (recordSide (r i h)))
+            ∙ sym (ap (λ (d : Bool). cond (d && (eqb (recordCard (r i h)) k && sideIs l (recordSide (r i h)))) (recordText (r i h)) old) (s .is-due))
 
   pub texts : (i : ℕ) → i ≤ length rs → R pairs rs (encode V1 cs) i .number ≡ 0 → (l : Language) (k : ℕ)
       → text l (getD (at i .cards) k (noCard V1)) ≡ rewritten rs l k i (text l (getD (cs .cards) k (noCard V1)))
