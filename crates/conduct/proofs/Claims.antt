@@ -88,7 +88,7 @@ module _ (v : Format) (lent : ℕ → ℕ) where
   made-next y (send s) m a = a
   made-next y (learn who card pair) m a = a
 
-  made-run : (y : System) (steps : List Move) (m : Made) → Among m (y .made) → Among m (course v lent y steps .made)
+  pub made-run : (y : System) (steps : List Move) (m : Made) → Among m (y .made) → Among m (course v lent y steps .made)
   unfolding course
   made-run y [] m a = a
   made-run y (s ∷ steps) m a = made-run (stepTo v lent y s) steps m (made-next y s m a)
@@ -152,7 +152,7 @@ module _ (v : Format) (lent : ℕ → ℕ) where
       go (suc n) = refl
 
   -- The image is as the list of what was sent leaves it.
-  image-run : (y : System) (steps : List Move) → course v lent y steps .image ≡ imageAfter v (y .image) (reverse (sentBy steps))
+  pub image-run : (y : System) (steps : List Move) → course v lent y steps .image ≡ imageAfter v (y .image) (reverse (sentBy steps))
   unfolding course stepTo sentBy imageAfter
   image-run y [] = refl
   image-run y (send s ∷ steps) =

@@ -23,8 +23,8 @@ use Rattle.lock_queue_claims.proofs.Claims.{each-number}
 use Rattle.lock_queue_claims.specs.Course.{queueAfter}
 use Rattle.proposals.specs.declared.Known.{Known}
 use Rattle.proposals.specs.Propose.{learnt, nextT, ownAbove, lastT, pairFor, proposalRows, proposed}
-use Rattle.proposals.proofs.Propose.{made-rules, own-above, own-least, made-pair}
-use Rattle.proposal_claims.specs.Claims.{OfDesk, Smallest, Spent, WellProposed, entered, quiet, NotDenied, EachProposal, Unmoved, proposalNumbers, ProposalListed}
+use Rattle.proposals.proofs.Propose.{made-rules, own-above, own-least, pair-exclusive, made-pair}
+use Rattle.proposal_claims.specs.Claims.{OfDesk, Smallest, Spent, WellProposed, PassesPair, PassesLearnt, entered, quiet, NotDenied, EachProposal, Unmoved, proposalNumbers, ProposalListed}
 
 -- A number with this desk and start is the stamp of its T.
 own-stamp : (desk start m : ℕ) → OfDesk desk start m → m ≡ stamp (m / 4294967296) desk start
@@ -169,6 +169,14 @@ not-denied lent q new between k mode e still made d =
     (subst (λ (p : Pair). p .s ≤ proposed known mode .pair .s) (sym same) (subst (λ (p : Pair). back .s ≤ p .s) (sym pair) (omega arith)))
     (subst (λ (p : Pair). p .x ≤ proposed known mode .pair .x) (sym same) (subst (λ (p : Pair). back .x ≤ p .x) (sym pair) (omega arith)))
     (each-number lent now (asks (record { mode = mode; pair = proposed known mode .pair })) 10 .0 d .0)
+
+pub passes-learnt : PassesLearnt
+unfolding learnt
+passes-learnt k p d i e =
+    let known : Known = learnt k p in
+    let up : known .pair .x < ownAbove (k .desk) (k .start) (known .pair .x) = own-above (k .desk) (k .start) (known .pair .x) d i in
+    subst (PassesPair p) (sym (made-pair known exclusive e ∙ pair-exclusive known))
+    (record { x = omega (arith, up); s = omega arith })
 
 -- ---- the numbers
 

@@ -582,7 +582,7 @@ joint-own ruled y j d (append budget q) b r w h = joint-append ruled y j d r bud
 joint-own ruled y j d crash b r w h = joint-crash ruled y j d r
 joint-own ruled y j d (recover pairs lines) b r w h = joint-recover ruled y j d r pairs lines b h
 
-joint-next : (ruled : ℕ → Bool) (y : Desks) (m : DeskStep) → Joint ruled y → DeskStepBytes m → lawfulDeskStep ruled y m ≡ true → Joint ruled (afterDeskStep y m)
+pub joint-next : (ruled : ℕ → Bool) (y : Desks) (m : DeskStep) → Joint ruled y → DeskStepBytes m → lawfulDeskStep ruled y m ≡ true → Joint ruled (afterDeskStep y m)
 joint-next ruled y (outside s) j b h = joint-outside ruled y j s b h
 joint-next ruled y (own d m) j b h =
     let two = and-left (ruled d && ownStep m) (lawful d (seenBy d y) m) h in
@@ -597,7 +597,7 @@ joint-run ruled y (m ∷ steps) j b h =
     (b .1)
     (and-right (lawfulDeskStep ruled y m) (lawfulDeskSteps ruled (afterDeskStep y m) steps) h)
 
-joint-opening : (ruled : ℕ → Bool) (y : Desks) (r : DesksMoment ruled y) → Joint ruled (desksOpening (r .image) (r .logs))
+pub joint-opening : (ruled : ℕ → Bool) (y : Desks) (r : DesksMoment ruled y) → Joint ruled (desksOpening (r .image) (r .logs))
 joint-opening ruled y r =
     let back = soundReadsBack V1 (r .image) (r .store .bytes) (to-T (r .store .sounds)) in
     record {

@@ -37,7 +37,7 @@ use Rattle.transactions.specs.Desks.{Desks, DeskStep, own, lawfulDeskStep, afte
 use Rattle.transactions_cases.specs.Cases.{begins, preparesBoth, commits, Ordinary, Cut, CrashRecovered, Hazard, rewritesHalf, rewritesAll, Rewritten, atFirst, agrees, BrokenAt, OrderRulesNeeded, Seen, seeing, text190, text380, text210, logs, bothRuled, twoDesks, bothBegin, sixCommits, sixFinishes, fiveCommits, seeDesks, TwoDesks}
 
 -- Numbers below a bound, by a test of each.
-belowTest : ℕ → List ℕ → Bool
+unfoldable pub belowTest : ℕ → List ℕ → Bool
 belowTest bound [] = true
 belowTest bound (b ∷ l) = ltb b bound && belowTest bound l
 
@@ -50,10 +50,10 @@ below-tested bound (b ∷ l) h e (suc i) = below-tested bound l h (and-right (lt
 bytes-tested : (l : List ℕ) → belowTest 256 l ≡ true → Bytes l
 bytes-tested l e = below-tested 256 l (lit< tt) e
 
-sentTest : Sent → Bool
+unfoldable pub sentTest : Sent → Bool
 sentTest s = belowTest 256 (s .command) && belowTest 256 (s .lent)
 
-sent-tested : (s : Sent) → sentTest s ≡ true → SentBytes s
+pub sent-tested : (s : Sent) → sentTest s ≡ true → SentBytes s
 unfolding sentTest
 sent-tested s e =
     record {
@@ -61,7 +61,7 @@ sent-tested s e =
       lent = bytes-tested (s .lent) (and-right (belowTest 256 (s .command)) (belowTest 256 (s .lent)) e);
     }
 
-pairsTest : Pairs → Bool
+unfoldable pub pairsTest : Pairs → Bool
 pairsTest p = belowTest 18446744073709551616 (p .s) && belowTest 18446744073709551616 (p .x)
 
 pairs-tested : (p : Pairs) → pairsTest p ≡ true → FitsPairs p
@@ -72,7 +72,7 @@ pairs-tested p e =
       x = below-tested 18446744073709551616 (p .x) (lit< tt) (and-right (belowTest 18446744073709551616 (p .s)) (belowTest 18446744073709551616 (p .x)) e);
     }
 
-stepTest : Step → Bool
+unfoldable pub stepTest : Step → Bool
 stepTest (other s) = sentTest s
 stepTest (order s line from) = sentTest s
 stepTest (arrive i) = true
@@ -80,7 +80,7 @@ stepTest (append budget r) = belowTest 256 (r .body)
 stepTest crash = true
 stepTest (recover pairs lines) = pairsTest pairs
 
-step-tested : (m : Step) → stepTest m ≡ true → StepBytes m
+pub step-tested : (m : Step) → stepTest m ≡ true → StepBytes m
 unfolding stepTest
 step-tested (other s) e = sent-tested s e
 step-tested (order s line from) e = sent-tested s e
