@@ -3,21 +3,20 @@ use Prim.Native.Nat.{ℕ, zero, suc, _≤_, _<_}
 use native.Mathlib.Omega.{arith}
 use mathlib.Core.Path.{_≡_, refl, sym, ap, _∙_, subst}
 use mathlib.Core.Logic.{_⊎_, inl, inr}
-use mathlib.Core.List.{List, [], _∷_}
-use mathlib.Core.Bool.{Bool, true, false, cond, not, _&&_, _||_}
-use borrow.Author.Tests.{eqb-true, eqb-false, eq-eqb, ne-eqb, ltb-true, not-true}
+use mathlib.Core.List.{List, _∷_}
+use mathlib.Core.Bool.{Bool, true, false, cond, not, _&&_}
+use borrow.Author.Tests.{eqb-true, eqb-false, ne-eqb, ltb-true, not-true}
 use lib.ListN.{length, getD}
-use lib.Dec.{eqb, ltb}
+use lib.Dec.{eqb}
 use Rattle.formats.specs.Format.{V1}
 use Rattle.lists.specs.Table.{settled}
 use Rattle.lists.proofs.Tests.{cases, never-both, and-left, and-right}
 use Rattle.stamps.specs.declared.Mark.{Mark}
 use Rattle.commands.specs.declared.Command.{Command}
-use Rattle.commands.specs.Command.{Language, isWrite, writes, verifier, update}
-use Rattle.commands.specs.Bytes.{payload, formed}
+use Rattle.commands.specs.Command.{Language, isWrite, writes}
+use Rattle.commands.specs.Bytes.{payload}
 use Rattle.guard.specs.declared.Answer.{Answer}
 use Rattle.image.specs.Image.{Card, Cards, text, encode}
-use Rattle.model.specs.Serve.{Outcome}
 use Rattle.model.specs.Words.{Sent}
 use Rattle.model.proofs.Machine.{numberOn}
 use Rattle.redo_log.specs.Log.{LogRecord, recordText, records}
@@ -26,9 +25,9 @@ use Rattle.recovery_model.specs.Claims.{rewrites, rewritten}
 use Rattle.transactions.specs.System.{OneDesk, Order, Shown, Holding, unknown, held, free, arrive, noOrder, commandIn, expects, leaves, prepares, writesOut, releases, lawful, outcome, heardOf, noting, reachOf, afterStep}
 use Rattle.transactions.proofs.Records.{All, all-map}
 use Rattle.transactions.proofs.Due.{rewritten-none, rewritten-some}
-use Rattle.transactions.proofs.Serving.{at, then, Taken, taken, kept, shown-mark}
-use Rattle.transactions.proofs.Kept.{bears, Clear, Reached, Later, Onward, Stands, cardFor, relies, Ready, Fine, preparing, releasing, writing, Safe, Told, Held, Knows, Kept, safe-raised, told-raised, all-at, all-moved, stands-as}
-use Rattle.transactions.proofs.Requests.{knows-shown, no-writes, onward-none, outcome-is, number-now, image-now, x-now, mark-shown, good-now, knows-heard, knows-with}
+use Rattle.transactions.proofs.Serving.{at, then, Taken, taken, kept}
+use Rattle.transactions.proofs.Kept.{bears, Clear, Reached, Later, Onward, Stands, cardFor, relies, Ready, Fine, preparing, releasing, writing, Safe, Told, Held, Knows, Kept, safe-raised, told-raised, all-at, all-moved}
+use Rattle.transactions.proofs.Requests.{knows-shown, no-writes, onward-none, number-now, image-now, x-now, mark-shown, good-now, knows-heard, knows-with}
 
 module _ (d : ℕ) (y : OneDesk) (k : Kept d y) (i : ℕ) (h : lawful d y (arrive i) ≡ true) where
   abbrev rs : List LogRecord

@@ -3,8 +3,8 @@ use Prim.Native.Nat.{ℕ, zero, suc, _≤_, _<_}
 use native.Mathlib.Omega.{arith}
 use mathlib.Core.Path.{_≡_, refl, sym, ap, _∙_, subst}
 use mathlib.Core.Logic.{_⊎_, inl, inr}
-use mathlib.Core.List.{List, [], _∷_, _++_}
-use mathlib.Core.Bool.{Bool, true, false, cond, not, _&&_}
+use mathlib.Core.List.{List, [], _∷_}
+use mathlib.Core.Bool.{Bool, true, false, cond, _&&_}
 use borrow.Author.Tests.{eqb-false, eq-eqb, ne-eqb, le-leb, lt-ltb, ltb-true}
 use lib.ListN.{length, getD, take, replicate, length-replicate}
 use lib.Dec.{eqb, lit<}
@@ -12,9 +12,9 @@ use Rattle.formats.specs.Format.{V1}
 use Rattle.lists.specs.Parts.{Bytes, every, table}
 use Rattle.lists.proofs.Bytes.{Bytes-replicate}
 use Rattle.lists.proofs.Tests.{cases, never-both, and-left, and-right, from-T, to-T}
-use Rattle.commands.specs.Command.{Language, isWrite, reads}
+use Rattle.commands.specs.Command.{Language, isWrite}
 use Rattle.commands.specs.Bytes.{payload}
-use Rattle.image.specs.Image.{Card, Cards, text, noCard, encode, decode, sound, fresh, freshCards}
+use Rattle.image.specs.Image.{Cards, text, noCard, encode, decode, sound, fresh, freshCards}
 use Rattle.image_claims.proofs.Claims.{soundReadsBack, goodEncodes, freshSound}
 use Rattle.model.specs.Serve.{Outcome, serve}
 use Rattle.model.proofs.Machine.{numberOn}
@@ -23,9 +23,9 @@ use Rattle.redo_log.specs.Log.{LogRecord, bodiesFrom, mostLog, commitKind, reco
 use Rattle.redo_log.specs.Append.{appendNumber}
 use Rattle.recovery_model.specs.Claims.{textIn, rewritten, textOf}
 use Rattle.recovery_model.proofs.Texts.{texts-left}
-use Rattle.transactions.specs.System.{OneDesk, Order, noOrder, Step, other, order, arrive, append, crash, recover, oneDeskOpening, commandIn, markIn, expects, writtenOut, withUpdates, lawful, outcome, meantAfter, meantLogged, afterStep, afterSteps, lawfulAll}
-use Rattle.transactions.specs.Claims.{StepBytes, AllSteps, FreshClean, ZerosBlank, Moment, Refines, RecoversMeant, CommitsAtOnce, OnlyThen, MeantOnlyThen, ShowsAll, ReadsMeant, OrdersOnce, NeverHalf}
-use Rattle.transactions.proofs.Records.{All, Ordered, ordered-none}
+use Rattle.transactions.specs.System.{OneDesk, Order, noOrder, Step, other, order, arrive, append, crash, recover, oneDeskOpening, commandIn, markIn, writtenOut, withUpdates, lawful, outcome, meantAfter, meantLogged, afterStep, afterSteps, lawfulAll}
+use Rattle.transactions.specs.Claims.{StepBytes, AllSteps, FreshClean, ZerosBlank, Moment, Refines, RecoversMeant, CommitsAtOnce, MeantOnlyThen, ShowsAll, ReadsMeant, OrdersOnce, NeverHalf}
+use Rattle.transactions.proofs.Records.{Ordered, ordered-none}
 use Rattle.transactions.proofs.Due.{rewritten-none}
 use Rattle.transactions.proofs.Serving.{at, then, taken, number-is, shown-text}
 use Rattle.transactions.proofs.Kept.{bears, cardFor, relies, Safe, Kept, decoded, all-at}

@@ -9,13 +9,13 @@ use borrow.Author.Tests.{eqb-true, eqb-false, eq-eqb, ne-eqb, ltb-true, ltb-fals
 use lib.ListN.{length}
 use lib.Dec.{eqb, ltb, leb}
 use Rattle.lists.specs.Search.{any}
-use Rattle.lists.proofs.Tests.{cases, never-both, and-left, and-right, and-in, not-in}
+use Rattle.lists.proofs.Tests.{cases, never-both, and-left, and-right, and-in}
 use Rattle.commands.specs.Command.{Language}
-use Rattle.redo_log.specs.Log.{LogRecord, noRecord, updateKind, commitKind, syncedKind, recordCard, recordSide, recordText, recordTransaction, opened}
+use Rattle.redo_log.specs.Log.{LogRecord, updateKind, commitKind, syncedKind, recordCard, recordSide, recordText, recordTransaction, opened}
 use Rattle.recovery_model.specs.Recovery.{recordIn, transactionIn, commitsTo, syncsFrom, due}
 use Rattle.recovery_model.specs.Claims.{sideIs, rewrites, rewritten}
 use Rattle.transactions.specs.System.{updateIn, changesText, withUpdates}
-use Rattle.transactions.proofs.Records.{All, any-more, none-of, more, length-more, in-old, in-new, transaction-old, past, due-past, closing, Below, Ordered, Followed, kind-not}
+use Rattle.transactions.proofs.Records.{any-more, none-of, more, length-more, in-old, in-new, transaction-old, due-past, closing, Below, Ordered, Followed, kind-not}
 
 -- Where a number stands: among the first n, at n, or behind.
 pub placed : (i n : ℕ) → (i < n) ⊎ (i ≡ n) ⊎ (n < i)

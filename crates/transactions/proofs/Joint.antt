@@ -4,18 +4,18 @@ use native.Mathlib.Omega.{arith}
 use mathlib.Core.Path.{_≡_, refl, sym, ap, _∙_, subst}
 use mathlib.Core.Logic.{_⊎_, inl, inr}
 use mathlib.Core.List.{List, [], _∷_}
-use mathlib.Core.Bool.{Bool, true, false, cond, not, _&&_, _||_}
+use mathlib.Core.Bool.{Bool, true, false, cond, not, _&&_}
 use borrow.Author.Tests.{eqb-true, eqb-false, eq-eqb, ne-eqb, ltb-true, not-true}
 use lib.ListN.{length, getD, take}
 use lib.Dec.{eqb}
 use Rattle.formats.specs.Format.{V1}
 use Rattle.lists.specs.Parts.{Bytes}
-use Rattle.lists.proofs.Tests.{cases, never-both, and-left, and-right, or-cases, or-right, not-in, from-T, to-T}
+use Rattle.lists.proofs.Tests.{cases, never-both, and-left, and-right, or-cases, or-right, from-T, to-T}
 use Rattle.stamps.specs.declared.Mark.{Mark}
 use Rattle.commands.specs.declared.Command.{Command}
-use Rattle.commands.specs.Command.{Language, isWrite, writes, reads}
+use Rattle.commands.specs.Command.{Language, isWrite, writes}
 use Rattle.commands.specs.Bytes.{payload, formed}
-use Rattle.image.specs.Image.{Card, Cards, GoodCards, text, noCard, encode, decode, sound}
+use Rattle.image.specs.Image.{Card, Cards, GoodCards, text, encode, decode, sound}
 use Rattle.image_claims.proofs.Claims.{soundReadsBack, goodEncodes}
 use Rattle.model.specs.Serve.{Outcome, serve}
 use Rattle.model.specs.Words.{Sent}
@@ -26,12 +26,12 @@ use Rattle.redo_log.specs.Log.{LogRecord, goodLog, records}
 use Rattle.redo_log.specs.Append.{appendNumber, appended}
 use Rattle.recovery_model.specs.Recovery.{Pairs, FitsPairs, recovering}
 use Rattle.recovery_model.specs.Claims.{rewritten}
-use Rattle.transactions.specs.System.{OneDesk, Order, Shown, Holding, unknown, held, free, Step, other, order, arrive, append, crash, recover, noOrder, commandIn, expects, leaves, prepares, writesOut, releases, lawful, outcome, meantAfter, meantLogged, afterStep}
+use Rattle.transactions.specs.System.{OneDesk, Order, Shown, Holding, unknown, held, free, Step, other, order, arrive, append, crash, recover, noOrder, commandIn, expects, leaves, lawful, meantAfter, meantLogged, afterStep}
 use Rattle.transactions.specs.Claims.{StepBytes}
-use Rattle.transactions.specs.Desks.{Part, Desks, seenBy, partOf, desksOpening, DeskStep, outside, own, ownStep, lawfulDeskStep, metBy, afterDeskStep, afterDeskSteps, lawfulDeskSteps, DeskStepBytes, AllDeskSteps, DesksMoment, DesksRefine, DesksCommitAtOnce, DesksMeantOnlyThen, DesksReadsMeant}
+use Rattle.transactions.specs.Desks.{Part, Desks, seenBy, partOf, desksOpening, DeskStep, outside, own, ownStep, lawfulDeskStep, afterDeskStep, afterDeskSteps, lawfulDeskSteps, DeskStepBytes, AllDeskSteps, DesksMoment, DesksCommitAtOnce, DesksMeantOnlyThen, DesksReadsMeant}
 use Rattle.transactions.proofs.Records.{All, all-map, Ordered, ordered-none}
 use Rattle.transactions.proofs.Serving.{at, then, Taken, taken, kept, number-is, shown-text}
-use Rattle.transactions.proofs.Kept.{bears, Stands, cardFor, Fine, preparing, releasing, writing, Safe, Told, Held, Knows, Kept, decoded, safe-raised, told-raised, all-at}
+use Rattle.transactions.proofs.Kept.{bears, Stands, cardFor, Fine, preparing, releasing, writing, Safe, Told, Knows, Kept, decoded, safe-raised, told-raised, all-at}
 use Rattle.transactions.proofs.Requests.{kept-other, kept-crash}
 use Rattle.transactions.proofs.Orders.{kept-order}
 use Rattle.transactions.proofs.Arrivals.{kept-arrive}

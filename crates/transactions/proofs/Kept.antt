@@ -2,11 +2,11 @@
 use Prim.Native.Nat.{ℕ, zero, suc, _≤_, _<_}
 use native.Mathlib.Omega.{arith}
 use native.Mathlib.Nat.{not-suc-le-zero, le-of-suc-le-suc}
-use mathlib.Core.Path.{_≡_, refl, sym, ap, _∙_, subst}
+use mathlib.Core.Path.{_≡_, sym, ap, _∙_, subst}
 use mathlib.Core.Logic.{_⊎_, inl, inr}
 use mathlib.Core.List.{List, [], _∷_}
-use mathlib.Core.Bool.{Bool, true, false, cond, not, _&&_, _||_}
-use borrow.Author.Tests.{eqb-true, eqb-false}
+use mathlib.Core.Bool.{Bool, true, false}
+use borrow.Author.Tests.{eqb-true}
 use lib.ListN.{length, getD}
 use lib.Dec.{eqb}
 use Rattle.formats.specs.Format.{V1}
@@ -16,7 +16,6 @@ use Rattle.commands.specs.Command.{Language, writes, verifier, update}
 use Rattle.commands.specs.Bytes.{payload}
 use Rattle.image.specs.Image.{Card, Cards, GoodCards, text, encode, decode}
 use Rattle.image_claims.proofs.Claims.{goodEncodes}
-use Rattle.model.specs.Words.{Sent}
 use Rattle.model.specs.Claims.{SentBytes}
 use Rattle.redo_log.specs.Log.{LogRecord, recordText, goodLog, records}
 use Rattle.recovery_model.specs.Recovery.{recordIn}

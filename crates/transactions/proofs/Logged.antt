@@ -1,22 +1,21 @@
 -- What holds at every moment is kept by an append to the log, cut or not. Assumes nothing.
 use Prim.Native.Nat.{ℕ, zero, suc, _≤_, _<_}
 use native.Mathlib.Omega.{arith}
-use native.Mathlib.Nat.{not-suc-le-zero, le-of-suc-le-suc}
 use Prim.Native.Nat.{suc-le-suc, zero-le}
 use mathlib.Core.Path.{_≡_, refl, sym, ap, _∙_, subst}
 use mathlib.Core.Logic.{_⊎_, inl, inr}
-use mathlib.Core.List.{List, [], _∷_, _++_}
-use mathlib.Core.Bool.{Bool, true, false, cond, not, _&&_, _||_, or-false}
-use borrow.Author.Tests.{eqb-true, eqb-false, eq-eqb, ne-eqb, ltb-true, not-true}
+use mathlib.Core.List.{List, [], _∷_}
+use mathlib.Core.Bool.{Bool, true, false, cond, not, _&&_, _||_}
+use borrow.Author.Tests.{eqb-true, ne-eqb, not-true}
 use lib.ListN.{length, getD}
-use lib.Dec.{T, eqb, ltb}
+use lib.Dec.{eqb}
 use Rattle.lists.specs.Parts.{Bytes, every}
 use Rattle.lists.specs.Search.{any}
 use Rattle.lists.proofs.Every.{every-out}
 use Rattle.lists.proofs.Tests.{cases, never-both, and-left, and-right, or-cases, from-T}
 use Rattle.commands.specs.Command.{Language}
-use Rattle.image.specs.Image.{Card, Cards, text}
-use Rattle.redo_log.specs.Log.{LogRecord, commitKind, syncedKind, recordCard, recordSide, recordText, recordTransaction, recordCount, recordAt, lastBegun, opened, shaped, follows, goodLog, records}
+use Rattle.image.specs.Image.{Card, text}
+use Rattle.redo_log.specs.Log.{LogRecord, commitKind, syncedKind, recordCard, recordText, recordTransaction, recordCount, recordAt, lastBegun, opened, shaped, follows, goodLog, records}
 use Rattle.redo_log.specs.Append.{appendNumber, appended, accepts}
 use Rattle.redo_log.proofs.Records.{last-ext, opened-ext}
 use Rattle.redo_log.proofs.ReadBack.{length-records, record-of}
@@ -25,7 +24,7 @@ use Rattle.redo_log_claims.specs.Claims.{appendNumbers}
 use Rattle.redo_log_claims.proofs.Claims.{appends, log-listed}
 use Rattle.recovery_model.specs.Recovery.{recordIn, transactionIn, commitsTo}
 use Rattle.recovery_model.specs.Claims.{rewrites, rewritten}
-use Rattle.transactions.specs.System.{OneDesk, Order, Shown, Holding, unknown, held, free, append, noOrder, noShown, writtenOut, updateIn, withUpdates, isHeld, isFree, appendable, lawful, meantLogged, afterStep}
+use Rattle.transactions.specs.System.{OneDesk, Order, Shown, Holding, unknown, held, free, append, noOrder, noShown, writtenOut, updateIn, withUpdates, isHeld, isFree, lawful, meantLogged, afterStep}
 use Rattle.transactions.proofs.Records.{All, more, length-more, in-old, Ordered, Followed, followed, ordered-more}
 use Rattle.transactions.proofs.Due.{same-apart, no-more, rewritten-same, text-same, text-commit, same-commit, applied-away}
 use Rattle.transactions.proofs.Serving.{at}

@@ -5,13 +5,12 @@ use mathlib.Core.Path.{_≡_, refl, sym, ap, _∙_, subst}
 use mathlib.Core.Logic.{_⊎_, inl, inr}
 use mathlib.Core.List.{List, [], _∷_}
 use mathlib.Core.Bool.{Bool, true, false, cond, not, _&&_, _||_}
-use borrow.Author.Tests.{eqb-true, eqb-false, eq-eqb, ne-eqb, ltb-true, ltb-false, leb-true, not-true, le-ltb}
+use borrow.Author.Tests.{eqb-true, eqb-false, ne-eqb, ltb-true, ltb-false, not-true, le-ltb}
 use lib.ListN.{length, getD}
-use lib.Dec.{eqb, ltb, leb}
+use lib.Dec.{eqb, ltb}
 use Rattle.formats.specs.Format.{V1}
-use Rattle.lists.specs.Parts.{every}
 use Rattle.lists.proofs.Every.{every-out}
-use Rattle.lists.proofs.Tests.{cases, never-both, and-left, and-right, and-in, or-cases, eqb-comm}
+use Rattle.lists.proofs.Tests.{cases, never-both, and-left, and-right, or-cases}
 use Rattle.commands.specs.declared.Command.{Command}
 use Rattle.commands.specs.Command.{Language, original, translation, writes, verifier, update}
 use Rattle.commands.specs.Bytes.{fieldsOf, payload}
@@ -21,11 +20,11 @@ use Rattle.model.specs.Claims.{SentBytes}
 use Rattle.redo_log.specs.Log.{LogRecord, recordCard, recordSide, recordText, records}
 use Rattle.recovery_model.specs.Recovery.{recordIn, due}
 use Rattle.recovery_model.specs.Claims.{sideIs, rewrites, rewritten}
-use Rattle.transactions.specs.System.{OneDesk, Order, Shown, Holding, unknown, held, free, order, noShown, commandIn, prepares, writesOut, releases, dueFor, writtenOut, sameBytes, writesLine, opensAbove, orderly, lawful, noting, afterStep}
-use Rattle.transactions.proofs.Records.{All, due-past}
+use Rattle.transactions.specs.System.{OneDesk, Order, Shown, unknown, order, noShown, commandIn, prepares, writesOut, releases, dueFor, writtenOut, sameBytes, writesLine, opensAbove, orderly, lawful, noting, afterStep}
+use Rattle.transactions.proofs.Records.{due-past}
 use Rattle.transactions.proofs.Due.{placed, rewritten-none}
 use Rattle.transactions.proofs.Serving.{at}
-use Rattle.transactions.proofs.Kept.{bears, Clear, Reached, Later, Onward, cardFor, relies, Ready, Fine, preparing, releasing, writing, Safe, Told, Knows, Kept, all-at}
+use Rattle.transactions.proofs.Kept.{bears, Clear, Reached, Later, Onward, relies, Ready, Fine, preparing, releasing, writing, Told, Knows, Kept, all-at}
 use Rattle.transactions.proofs.Requests.{knows-order}
 
 pub same-bytes : (a b : List ℕ) → sameBytes a b ≡ true → a ≡ b

@@ -1,23 +1,19 @@
 -- A record more in the log: which updates are due, and what texts they leave. Assumes nothing.
-use Prim.Native.Nat.{ℕ, zero, suc, _+_, _≤_, _<_}
+use Prim.Native.Nat.{ℕ, suc, _+_, _≤_, _<_}
 use native.Mathlib.Omega.{arith}
-use native.Mathlib.Nat.{le-of-suc-le-suc, eq-or-lt-of-le}
 use mathlib.Core.Path.{_≡_, refl, sym, ap, _∙_, subst}
 use mathlib.Core.Logic.{_⊎_, inl, inr}
 use mathlib.Core.List.{List, [], _∷_, _++_}
 use mathlib.Core.Bool.{Bool, true, false, cond, not, _&&_, _||_, or-false}
-use borrow.Author.Tests.{eqb-true, eqb-false, eq-eqb, ne-eqb, ltb-true, ltb-false, leb-true, lt-leb}
-use lib.ListN.{length, getD, List·getD-append, List·getD-eq-default, length-append}
+use borrow.Author.Tests.{eqb-true, ltb-true, ltb-false}
+use lib.ListN.{length, List·getD-append, List·getD-eq-default, length-append}
 use lib.Seq.{getD-append-seam}
-use lib.Dec.{eqb, ltb, leb}
+use lib.Dec.{eqb, ltb}
 use Rattle.lists.specs.Search.{any}
-use Rattle.lists.proofs.Tests.{cases, never-both, and-left, and-right, or-cases, or-fails}
-use Rattle.commands.specs.Command.{Language}
-use Rattle.redo_log.specs.Log.{LogRecord, noRecord, beginKind, updateKind, commitKind, syncedKind, recordCard, recordSide, recordText, recordTransaction, lastBegun, opened, follows, joins, shaped}
+use Rattle.lists.proofs.Tests.{cases, never-both, and-left, and-right, or-cases}
+use Rattle.redo_log.specs.Log.{LogRecord, noRecord, beginKind, updateKind, commitKind, syncedKind, recordTransaction, lastBegun, opened, follows}
 use Rattle.redo_log.proofs.Records.{last-ext, opened-ext}
-use Rattle.recovery_model.specs.Recovery.{recordIn, transactionIn, commitsTo, syncsFrom, due}
-use Rattle.recovery_model.specs.Claims.{sideIs, rewrites, rewritten, textOf}
-use Rattle.transactions.specs.System.{dueFor, updateIn, changesText, withUpdates}
+use Rattle.recovery_model.specs.Recovery.{recordIn, transactionIn, commitsTo, due}
 
 -- ---- lists
 

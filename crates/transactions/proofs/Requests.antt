@@ -1,38 +1,32 @@
 -- What holds at every moment is kept by everybody else's requests, and by an order that is sent. Assumes nothing.
-use Prim.Native.Nat.{ℕ, zero, suc, _≤_, _<_}
+use Prim.Native.Nat.{ℕ, zero, suc, _≤_}
 use native.Mathlib.Omega.{arith}
 use mathlib.Core.Path.{_≡_, refl, sym, ap, _∙_, subst}
 use mathlib.Core.Logic.{_⊎_, inl, inr}
-use mathlib.Core.List.{List, [], _∷_}
+use mathlib.Core.List.{List, _∷_}
 use mathlib.Core.Bool.{Bool, true, false, cond, not, _&&_, _||_}
-use borrow.Author.Tests.{eqb-true, eqb-false, eq-eqb, ne-eqb, ltb-true, ltb-false, leb-true, not-true}
-use lib.ListN.{length, getD}
-use lib.Dec.{eqb, ltb, leb}
+use borrow.Author.Tests.{eqb-true, eqb-false, eq-eqb, ne-eqb, not-true}
+use lib.Dec.{eqb}
 use Rattle.formats.specs.Format.{V1}
-use Rattle.lists.specs.Parts.{every}
-use Rattle.lists.proofs.Every.{every-out}
 use Rattle.lists.specs.Table.{settled}
 use Rattle.stamps.specs.declared.Mark.{Mark}
-use Rattle.lists.proofs.Tests.{cases, never-both, and-left, and-right, and-in, or-cases, or-fails, not-in}
+use Rattle.lists.proofs.Tests.{cases, never-both, and-left, and-right, or-cases, or-fails}
 use Rattle.commands.specs.declared.Command.{Command}
-use Rattle.commands.specs.Command.{Language, original, translation, isWrite, writes, writesTranslation, verifier, update}
+use Rattle.commands.specs.Command.{Language, original, translation, isWrite, writes, writesTranslation}
 use Rattle.commands.proofs.Languages.{none-written}
-use Rattle.commands.specs.Bytes.{fieldsOf, payload, formed}
+use Rattle.commands.specs.Bytes.{payload, formed}
 use Rattle.guard.specs.declared.Answer.{Answer}
-use Rattle.image.specs.Image.{Card, Cards, GoodCards, text, encode}
+use Rattle.image.specs.Image.{Card, Cards, GoodCards, encode}
 use Rattle.model.specs.Serve.{Outcome, serve}
 use Rattle.model.specs.Words.{Sent}
 use Rattle.model.specs.Claims.{SentBytes}
 use Rattle.model.proofs.Machine.{numberOn}
 use Rattle.model.proofs.Simulation.{good-more, same-image}
-use Rattle.redo_log.specs.Log.{LogRecord, recordCard, recordSide, recordText, records}
-use Rattle.recovery_model.specs.Recovery.{recordIn, due}
-use Rattle.recovery_model.specs.Claims.{sideIs, rewrites, rewritten}
-use Rattle.transactions.specs.System.{OneDesk, Order, Shown, Holding, unknown, held, free, other, order, crash, noShown, commandIn, expects, leaves, prepares, writesOut, releases, dueFor, writtenOut, sameBytes, writesLine, opensAbove, orderly, lawful, outcome, meantAfter, heardOf, noting, afterStep}
-use Rattle.transactions.proofs.Records.{All, all-map, due-past}
-use Rattle.transactions.proofs.Due.{rewritten-none}
+use Rattle.redo_log.specs.Log.{LogRecord, records}
+use Rattle.recovery_model.specs.Claims.{rewritten}
+use Rattle.transactions.specs.System.{OneDesk, Order, Shown, Holding, unknown, held, free, other, crash, commandIn, expects, leaves, prepares, lawful, outcome, meantAfter, heardOf, noting, afterStep}
 use Rattle.transactions.proofs.Serving.{at, then, Taken, taken, kept, number-is, shown-x, shown-mark}
-use Rattle.transactions.proofs.Kept.{bears, Clear, Onward, Stands, cardFor, relies, Ready, Fine, preparing, releasing, writing, Safe, Told, Held, Knows, Kept, all-at, all-moved, stands-as}
+use Rattle.transactions.proofs.Kept.{bears, Clear, Onward, Stands, cardFor, Fine, preparing, releasing, writing, Safe, Told, Knows, Kept, all-moved, stands-as}
 
 -- What is free where malformed holds where it is not.
 if-formed : (f : Bool) {P : Bool} → (not f || P) ≡ true → f ≡ true → P ≡ true

@@ -1,19 +1,19 @@
 -- An append that is cut and made again is the append: what comes between its stores makes no difference to the log. Assumes nothing.
-use Prim.Native.Nat.{ℕ, zero, suc, _+_, _≤_}
+use Prim.Native.Nat.{ℕ, zero, suc}
 use native.Mathlib.Omega.{arith}
 use mathlib.Core.Path.{_≡_, refl, sym, ap, _∙_, subst}
 use mathlib.Core.Logic.{_⊎_, inl, inr}
 use mathlib.Core.List.{List, [], _∷_}
-use mathlib.Core.Bool.{Bool, true, false, _&&_, _||_}
-use borrow.Author.Tests.{eqb-true, eqb-false, ltb-true, ltb-false, le-ltb}
-use lib.ListN.{length, take, set}
+use mathlib.Core.Bool.{Bool, true, false}
+use borrow.Author.Tests.{eqb-true, eqb-false, ltb-true, le-ltb}
+use lib.ListN.{take, set}
 use lib.Seq.{set-set, set-comm, take-all}
 use lib.Dec.{eqb, ltb}
 use Rattle.lists.specs.Search.{any}
 use Rattle.lists.proofs.Tests.{cases, never-both, or-cases, or-left, or-right}
-use Rattle.redo_log.specs.Log.{LogRecord, mostRecords, recordCount, recordAt, startAt, lastBegun, opened, joins, goodLog}
+use Rattle.redo_log.specs.Log.{LogRecord, recordCount, recordAt, startAt, lastBegun, opened, goodLog}
 use Rattle.redo_log.specs.Append.{Store, stored, stores, accepts, lacks, appendNumber, appended, Admitted}
-use Rattle.redo_log.proofs.Stores.{length-stores, written, stores-written}
+use Rattle.redo_log.proofs.Stores.{length-stores, stores-written}
 use Rattle.redo_log.proofs.Steps.{admitted, left-23, left-24, left-26, left-0}
 use Rattle.redo_log_claims.specs.Claims.{needed}
 use Rattle.redo_log_claims.proofs.Claims.{appends}

@@ -3,10 +3,10 @@ use Prim.Native.Nat.{ℕ, zero, suc, _≤_, _<_, max}
 use native.Mathlib.Omega.{arith}
 use mathlib.Core.Path.{_≡_, refl, sym, ap, _∙_, subst}
 use mathlib.Core.Logic.{_⊎_, inl, inr}
-use mathlib.Core.List.{List, [], _∷_}
+use mathlib.Core.List.{List, _∷_}
 use mathlib.Core.Bool.{Bool, true, false, cond, not, _&&_, _||_}
-use borrow.Author.Tests.{eqb-true, eqb-false, eq-eqb, ltb-true, leb-true, not-true}
-use lib.ListN.{length, getD}
+use borrow.Author.Tests.{eqb-true, eq-eqb, ltb-true, leb-true, not-true}
+use lib.ListN.{length}
 use lib.Dec.{eqb, ltb, leb}
 use Rattle.formats.specs.Format.{V1}
 use Rattle.lists.specs.Parts.{every}
@@ -16,17 +16,17 @@ use Rattle.lists.proofs.Tests.{cases, never-both, and-left, and-right, and-in, 
 use Rattle.stamps.specs.declared.Mark.{Mark}
 use Rattle.commands.specs.declared.Command.{Command}
 use Rattle.commands.specs.Command.{Language, update}
-use Rattle.image.specs.Image.{Card, Cards, GoodCards, text, noCard, encode, decode}
+use Rattle.image.specs.Image.{Card, Cards, GoodCards, text, encode, decode}
 use Rattle.image_claims.proofs.Claims.{goodEncodes}
 use Rattle.model.specs.Words.{Sent}
-use Rattle.model.proofs.Machine.{numberOn, cardsBy, cardsFrom}
+use Rattle.model.proofs.Machine.{cardsBy, cardsFrom}
 use Rattle.redo_log.specs.Log.{LogRecord, recordCard, recordText, records}
 use Rattle.recovery_model.specs.Recovery.{Pairs, FitsPairs, Recovery, recordIn, due, recoveryPair, writeOf, recovering}
 use Rattle.recovery_model.specs.Claims.{rewrites, rewritten}
 use Rattle.recovery_model.proofs.Steps.{R, S, Idle, Sends, next}
 use Rattle.recovery_model.proofs.Sending.{FitsRecords, fits-log, C, cards-good, image-is, decode-is, all-bytes}
 use Rattle.recovery_model.proofs.Texts.{again-same, before-zero, number-here, cards-next, fields-here, texts}
-use Rattle.transactions.specs.System.{OneDesk, Order, Shown, Holding, unknown, held, free, recover, commandIn, markIn, storedX, dueFor, writtenOut, rewritable, recoverable, lawful, shownBy, forgetting, afterStep}
+use Rattle.transactions.specs.System.{OneDesk, Order, Shown, unknown, recover, commandIn, markIn, storedX, dueFor, writtenOut, rewritable, lawful, shownBy, forgetting, afterStep}
 use Rattle.transactions.proofs.Records.{All, all-map}
 use Rattle.transactions.proofs.Due.{placed}
 use Rattle.transactions.proofs.Serving.{at, then, Taken, taken}

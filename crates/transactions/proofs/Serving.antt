@@ -6,31 +6,28 @@ use mathlib.Core.Logic.{_⊎_, inl, inr}
 use mathlib.Core.List.{List}
 use mathlib.Core.Bool.{Bool, true, false, cond, not, _&&_, _||_}
 use borrow.Author.Tests.{eqb-true, eqb-false, ltb-true, ltb-false, not-true}
-use lib.ListN.{length, getD, take, set, List·getD-eq-default}
+use lib.ListN.{length, getD, take, List·getD-eq-default}
 use lib.Seq.{getD-set-same, getD-set-other}
 use lib.Dec.{eqb, ltb, T}
 use Rattle.formats.specs.Format.{V1}
 use Rattle.lists.specs.Table.{Row, applies}
 use Rattle.lists.proofs.Table.{given}
-use Rattle.lists.proofs.Tests.{cases, never-both, and-left, or-cases, or-fails, from-T, from-false}
+use Rattle.lists.proofs.Tests.{never-both, and-left, or-cases, or-fails, from-T}
 use Rattle.lists.proofs.Parts.{splice-front}
-use Rattle.stamps.specs.declared.Mark.{Mark}
 use Rattle.stamps.specs.Stamp.{exclusive, noPair, noMark}
 use Rattle.commands.specs.declared.Command.{Command}
 use Rattle.commands.specs.Command.{Language, original, translation, reads, writes, verifier, update}
-use Rattle.commands.specs.Bytes.{fieldsOf, payload, formed}
+use Rattle.commands.specs.Bytes.{payload, formed}
 use Rattle.commands.proofs.Languages.{reads-named, reads-act}
 use Rattle.commands.proofs.CommandBytes.{language-within}
 use Rattle.guard.specs.Judge.{raise}
 use Rattle.guard.specs.Replies.{blankReply, readLength, replied}
 use Rattle.guard.specs.declared.Answer.{Answer}
-use Rattle.image.specs.Image.{Card, Cards, GoodCards, view, text, noCard, encode, decode}
-use Rattle.image_claims.proofs.Claims.{goodEncodes}
+use Rattle.image.specs.Image.{Card, Cards, GoodCards, view, text, noCard, encode}
 use Rattle.model.specs.Serve.{serve, stepped, textRead, requestRows, answerBy, replyBy}
 use Rattle.model.specs.Words.{Sent, Event}
-use Rattle.model.specs.Claims.{SentBytes}
-use Rattle.model.proofs.Machine.{numberOn, eventBy, cardsBy, Passed, passed}
-use Rattle.model.proofs.Simulation.{good-more, same-event, same-image}
+use Rattle.model.proofs.Machine.{numberOn, cardsBy, Passed, passed}
+use Rattle.model.proofs.Simulation.{same-event}
 use Rattle.model.proofs.Stepped.{text-step}
 use Rattle.recovery_model.proofs.Sending.{counted}
 use Rattle.transactions.specs.System.{commandIn}

@@ -8,7 +8,7 @@ use mathlib.Core.Bool.{Bool, true, false, cond, _||_}
 use lib.ListN.{length, take, drop}
 use lib.Dec.{eqb}
 use Rattle.formats.specs.Format.{V1}
-use Rattle.stamps.specs.Stamp.{stamp, exclusive, noMark, noPair}
+use Rattle.stamps.specs.Stamp.{stamp, exclusive, noMark}
 use Rattle.stamps.specs.declared.Mark.{Mark}
 use Rattle.commands.specs.Command.{original}
 use Rattle.image.specs.Image.{fresh}

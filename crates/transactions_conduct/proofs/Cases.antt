@@ -1,5 +1,4 @@
 -- The run by both sections, by computation. Assumes nothing.
-use Prim.Native.Nat.{ℕ}
 use native.Mathlib.Omega.{arith}
 use mathlib.Core.Path.{_≡_, refl}
 use mathlib.Core.List.{List, [], _∷_}
@@ -26,7 +25,7 @@ use Rattle.recovery_model.specs.Claims.{rewritten}
 use Rattle.proposals.specs.Propose.{learnt, nextT, pairFor, proposed}
 use Rattle.conduct.specs.System.{stepTo, course, byRules}
 use Rattle.transactions.specs.System.{withUpdates, shownBy, afterStep}
-use Rattle.transactions.specs.Desks.{DeskStep, outside, own, afterDeskStep, afterDeskSteps, lawfulDeskSteps, DeskStepBytes, AllDeskSteps}
+use Rattle.transactions.specs.Desks.{DeskStep, outside, own, afterDeskStep, afterDeskSteps, lawfulDeskSteps, AllDeskSteps}
 use Rattle.transactions.proofs.Claims.{zeros-blank}
 use Rattle.transactions_cases.proofs.Cases.{belowTest, sentTest, sent-tested, pairsTest, stepTest, step-tested}
 use Rattle.transactions_conduct.specs.Together.{movesIn, stepsIn, sendsAlong}

@@ -1,23 +1,21 @@
 -- A run by both sections is a run of each over one store, and proposals keep the rule of orders. Assumes nothing.
-use Prim.Native.Nat.{ℕ, zero, suc, _<_, _/_, _%_}
+use Prim.Native.Nat.{ℕ, _<_}
 use native.Mathlib.Omega.{arith}
 use mathlib.Core.Path.{_≡_, refl, sym, ap, _∙_, subst}
-use mathlib.Core.Logic.{_⊎_, inl, inr}
-use mathlib.Core.List.{List, [], _∷_, _++_, map, reverse, reverse-append, reverse-reverse, append-assoc}
-use mathlib.Core.Bool.{Bool, true, false, cond, not, _&&_, _||_}
+use mathlib.Core.List.{List, [], _∷_, _++_, reverse, reverse-append, reverse-reverse, append-assoc}
+use mathlib.Core.Bool.{Bool, true, not, _&&_}
 use borrow.Author.Tests.{eq-eqb, leb-true, ltb-true, lt-ltb}
 use lib.ListN.{length, getD}
 use lib.Dec.{eqb, leb}
 use Rattle.lists.specs.Parts.{every}
 use Rattle.formats.specs.Format.{V1}
 use Rattle.lists.specs.Table.{settled}
-use Rattle.lists.specs.Search.{any}
 use Rattle.lists.proofs.Tests.{never-both, and-left, and-right, and-in, or-right}
 use Rattle.stamps.specs.Stamp.{exclusive}
 use Rattle.stamps.specs.declared.Pair.{Pair}
 use Rattle.commands.specs.Command.{verifier, update}
 use Rattle.commands.specs.Bytes.{formed}
-use Rattle.image.specs.Image.{fresh, encode, decode}
+use Rattle.image.specs.Image.{fresh, decode}
 use Rattle.model.specs.Words.{Sent, imageAfter}
 use Rattle.model.specs.Claims.{SentBytes, AllBytes}
 use Rattle.model.specs.Meaning.{Among}
@@ -30,17 +28,17 @@ use Rattle.recovery_model.proofs.Sending.{fits-log, all-bytes, after-append, by
 use Rattle.proposals.specs.declared.Known.{Known}
 use Rattle.proposals.specs.Propose.{learnt, proposed}
 use Rattle.proposal_claims.proofs.Claims.{passes-learnt}
-use Rattle.conduct.specs.System.{System, Made, Move, begin, propose, ask, leave, lose, send, learn, opening, samePair, isMade, allowed, withMade, knows, nowKnows, stepTo, course, byRules, sentOf, sentBy}
+use Rattle.conduct.specs.System.{System, Made, Move, begin, propose, ask, leave, lose, send, learn, opening, samePair, isMade, withMade, knows, nowKnows, stepTo, course, sentOf, sentBy}
 use Rattle.conduct.specs.Claims.{ByRules}
 use Rattle.conduct.proofs.Claims.{made-run, image-run, premise-kept}
 use Rattle.transactions.specs.Claims.{StepBytes}
-use Rattle.transactions.specs.System.{Order, Step, rewritable, other, order, arrive, append, crash, recover, noOrder, commandIn, opensAbove, lawful, afterStep}
+use Rattle.transactions.specs.System.{Order, Step, rewritable, other, order, arrive, append, crash, recover, noOrder, commandIn, lawful, afterStep}
 use Rattle.transactions.specs.Desks.{Desks, DeskStep, outside, own, ownStep, seenBy, desksOpening, lawfulDeskStep, afterDeskStep, afterDeskSteps, lawfulDeskSteps, DeskStepBytes, AllDeskSteps, DesksMoment}
 use Rattle.transactions.proofs.Serving.{at}
 use Rattle.transactions.proofs.Kept.{cardFor, Safe, all-at}
 use Rattle.transactions.proofs.Claims.{fresh-clean}
 use Rattle.transactions.proofs.Joint.{Joint, joint-next, joint-opening, desks-commit-at-once}
-use Rattle.transactions_conduct.specs.Together.{Deal, beside, along, sendEach, movesOf, movesIn, stepsIn, sendsNone, sendsAlong, ByBoth, OneRun, BothAreOne, Proposes, MayOrder, ProposalsOrder}
+use Rattle.transactions_conduct.specs.Together.{Deal, beside, along, sendEach, movesOf, movesIn, stepsIn, sendsNone, sendsAlong, BothAreOne, Proposes, MayOrder, ProposalsOrder}
 
 -- ---- what moves send
 
