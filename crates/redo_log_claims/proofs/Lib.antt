@@ -1,4 +1,5 @@
 pub mod Same
 pub mod Written
 pub mod Claims
+pub mod Life
 pub mod Cases

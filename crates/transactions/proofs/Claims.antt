@@ -23,7 +23,7 @@ use Rattle.redo_log.specs.Log.{LogRecord, bodiesFrom, mostLog, commitKind, reco
 use Rattle.redo_log.specs.Append.{appendNumber}
 use Rattle.recovery_model.specs.Claims.{textIn, rewritten, textOf}
 use Rattle.recovery_model.proofs.Texts.{texts-left}
-use Rattle.transactions.specs.System.{OneDesk, Order, noOrder, Step, other, order, arrive, append, crash, recover, oneDeskOpening, commandIn, markIn, writtenOut, withUpdates, lawful, outcome, meantAfter, meantLogged, afterStep, afterSteps, lawfulAll}
+use Rattle.transactions.specs.System.{OneDesk, Order, noOrder, Step, other, order, arrive, append, crash, recover, renew, oneDeskOpening, commandIn, markIn, writtenOut, withUpdates, lawful, outcome, meantAfter, meantLogged, afterStep, afterSteps, lawfulAll}
 use Rattle.transactions.specs.Claims.{StepBytes, AllSteps, FreshClean, ZerosBlank, Moment, Refines, RecoversMeant, CommitsAtOnce, MeantOnlyThen, ShowsAll, ReadsMeant, OrdersOnce, NeverHalf}
 use Rattle.transactions.proofs.Records.{Ordered, ordered-none}
 use Rattle.transactions.proofs.Due.{rewritten-none}
@@ -34,6 +34,7 @@ use Rattle.transactions.proofs.Orders.{out-clear, kept-order}
 use Rattle.transactions.proofs.Arrivals.{all-stale, kept-arrive}
 use Rattle.transactions.proofs.Logged.{kept-append}
 use Rattle.transactions.proofs.Rewriting.{kept-recover}
+use Rattle.transactions.proofs.Renewing.{kept-renew}
 
 -- ---- the beginning, and a run
 
@@ -61,6 +62,7 @@ kept-next d y (arrive i) k b h = kept-arrive d y k i h
 kept-next d y (append budget r) k b h = kept-append d y k budget r b h
 kept-next d y crash k b h = kept-crash d y k
 kept-next d y (recover pairs lines) k b h = kept-recover d y k pairs lines b h
+kept-next d y renew k b h = kept-renew d y k h
 
 kept-run : (d : ℕ) (y : OneDesk) (steps : List Step) → Kept d y → AllSteps steps → lawfulAll d y steps ≡ true → Kept d (afterSteps d y steps)
 unfolding afterSteps lawfulAll
@@ -233,6 +235,7 @@ meant-only-then d y =
       uncommitted = λ budget r e i k l. after-other y k l budget r e i;
       crashed = refl;
       recovered = λ pairs lines. refl;
+      renews = refl;
     }
 
 pub never-half : NeverHalf

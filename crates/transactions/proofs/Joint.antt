@@ -24,9 +24,10 @@ use Rattle.model.proofs.Machine.{numberOn}
 use Rattle.model.proofs.Simulation.{good-more, same-image}
 use Rattle.redo_log.specs.Log.{LogRecord, goodLog, records}
 use Rattle.redo_log.specs.Append.{appendNumber, appended}
+use Rattle.redo_log_claims.specs.Life.{renewed}
 use Rattle.recovery_model.specs.Recovery.{Pairs, FitsPairs, recovering}
 use Rattle.recovery_model.specs.Claims.{rewritten}
-use Rattle.transactions.specs.System.{OneDesk, Order, Shown, Holding, unknown, held, free, Step, other, order, arrive, append, crash, recover, noOrder, commandIn, expects, leaves, lawful, meantAfter, meantLogged, afterStep}
+use Rattle.transactions.specs.System.{OneDesk, Order, Shown, Holding, unknown, held, free, Step, other, order, arrive, append, crash, recover, renew, noOrder, commandIn, expects, leaves, lawful, meantAfter, meantLogged, afterStep}
 use Rattle.transactions.specs.Claims.{StepBytes}
 use Rattle.transactions.specs.Desks.{Part, Desks, seenBy, partOf, desksOpening, DeskStep, outside, own, ownStep, lawfulDeskStep, afterDeskStep, afterDeskSteps, lawfulDeskSteps, DeskStepBytes, AllDeskSteps, DesksMoment, DesksCommitAtOnce, DesksMeantOnlyThen, DesksReadsMeant}
 use Rattle.transactions.proofs.Records.{All, all-map, Ordered, ordered-none}
@@ -37,6 +38,7 @@ use Rattle.transactions.proofs.Orders.{kept-order}
 use Rattle.transactions.proofs.Arrivals.{kept-arrive}
 use Rattle.transactions.proofs.Logged.{kept-append, unborne-meant}
 use Rattle.transactions.proofs.Rewriting.{Raised, stays, rises, raised, kept-recover}
+use Rattle.transactions.proofs.Renewing.{kept-renew}
 use Rattle.transactions.proofs.Claims.{meant-only-then}
 
 -- ---- what holds at every moment
@@ -397,6 +399,58 @@ module _ (ruled : ℕ → Bool) (y : Desks) (j : Joint ruled y) (d : ℕ) (r : r
       ap (λ (t : Bool). cond t (y .meant k l) (text l (at before k))) (ne-eqb (at before k .mark .desk) d (λ f. never-both r (subst (λ (n : ℕ). ruled n ≡ false) f free)))
       ∙ j .texts k .plain free l
 
+  -- Its log begins again: the cards that bear its mark go by the new log, the others as before.
+  module _ (h : lawful d (seenBy d y) renew ≡ true) where
+    abbrev part-renewed : ℕ → Part
+    part-renewed e = cond (eqb e d) (partOf (afterStep d (seenBy d y) renew)) (y .part e)
+
+    own-renewed : Kept d (afterStep d (alone d y) renew)
+    own-renewed = kept-renew d (alone d y) mine h
+
+    renewed-here : part-renewed d .log ≡ renewed (y .part d .log)
+    unfolding afterStep
+    renewed-here = ap (λ (t : Bool). (cond t (partOf (afterStep d (seenBy d y) renew)) (y .part d)) .log) (eq-eqb d d refl)
+
+    renewed-there : (e : ℕ) → eqb e d ≡ false → y .part e .log ≡ part-renewed e .log
+    renewed-there e x = sym (ap (λ (t : Bool). (cond t (partOf (afterStep d (seenBy d y) renew)) (y .part e)) .log) x)
+
+    stands-renewed : (k : ℕ) → Stands d (records (renewed (y .part d .log))) (alone d y .meant k) k (at before k)
+    unfolding afterStep
+    stands-renewed k = stands-of d (afterStep d (alone d y) renew) own-renewed k
+
+    stand-renew : (k : ℕ) → Stand ruled (λ (e : ℕ). part-renewed e .log) (y .meant k) k (at before k)
+    stand-renew k = go (cases (bears d (at before k)))
+      where
+        go : (bears d (at before k) ≡ true) ⊎ (bears d (at before k) ≡ false) → Stand ruled (λ (e : ℕ). part-renewed e .log) (y .meant k) k (at before k)
+        go (inl b) =
+            let here : at before k .mark .desk ≡ d = eqb-true (at before k .mark .desk) d b in
+            record {
+              plain = λ w l. absurd (never-both r (subst (λ (n : ℕ). ruled n ≡ false) here w));
+              marked = λ w l.
+                  subst (λ (n : ℕ). rewritten (records (part-renewed n .log)) l k (length (records (part-renewed n .log))) (text l (at before k)) ≡ y .meant k l) (sym here)
+                  (subst (λ (g : List ℕ). rewritten (records g) l k (length (records g)) (text l (at before k)) ≡ y .meant k l) (sym renewed-here)
+                  (stands-renewed k .marked b l ∙ meant-own k (inr here) l));
+            }
+        go (inr b) =
+            record {
+              plain = λ w l. j .texts k .plain w l;
+              marked = λ w l.
+                  subst (λ (g : List ℕ). rewritten (records g) l k (length (records g)) (text l (at before k)) ≡ y .meant k l) (renewed-there (at before k .mark .desk) b) (j .texts k .marked w l);
+            }
+
+    joint-renew : Joint ruled (afterDeskStep y (own d renew))
+    unfolding afterDeskStep afterStep
+    joint-renew =
+        record {
+          nobody = j .nobody;
+          same = j .same;
+          good = j .good;
+          texts = stand-renew;
+          side = λ e.
+              by-desk (λ (n : ℕ) (p : Part). ruled n ≡ true → Side n (y .image) p) (partOf (afterStep d (seenBy d y) renew)) (y .part)
+              (λ x. side-of d (afterStep d (alone d y) renew) own-renewed) (λ n x w. j .side n w) e;
+        }
+
   -- It recovers: the cards that are written bear its mark, and their x rises.
   module _ (pairs : Pairs) (lines : ℕ) (fp : FitsPairs pairs) (h : lawful d (seenBy d y) (recover pairs lines) ≡ true) where
     abbrev after-recover : OneDesk
@@ -581,6 +635,7 @@ joint-own ruled y j d (arrive i) b r w h = joint-arrive ruled y j d r i h
 joint-own ruled y j d (append budget q) b r w h = joint-append ruled y j d r budget q b h
 joint-own ruled y j d crash b r w h = joint-crash ruled y j d r
 joint-own ruled y j d (recover pairs lines) b r w h = joint-recover ruled y j d r pairs lines b h
+joint-own ruled y j d renew b r w h = joint-renew ruled y j d r h
 
 pub joint-next : (ruled : ℕ → Bool) (y : Desks) (m : DeskStep) → Joint ruled y → DeskStepBytes m → lawfulDeskStep ruled y m ≡ true → Joint ruled (afterDeskStep y m)
 joint-next ruled y (outside s) j b h = joint-outside ruled y j s b h
@@ -653,4 +708,5 @@ desks-meant-only-then y =
       uncommitted = λ d budget r e. meant-only-then d (seenBy d y) .uncommitted budget r e;
       crashed = λ d. meant-only-then d (seenBy d y) .crashed;
       recovered = λ d pairs lines. meant-only-then d (seenBy d y) .recovered pairs lines;
+      renews = λ d. meant-only-then d (seenBy d y) .renews;
     }

@@ -7,6 +7,6 @@ pub mod Orders
 pub mod Arrivals
 pub mod Logged
 pub mod Rewriting
+pub mod Renewing
 pub mod Claims
-pub mod Resumes
 pub mod Joint

@@ -14,8 +14,7 @@ use Rattle.image.specs.Image.{sound, fresh}
 use Rattle.model.specs.Words.{Sent}
 use Rattle.model.specs.Claims.{SentBytes}
 use Rattle.redo_log.specs.Log.{LogRecord, bodiesFrom, mostLog, commitKind, recordTransaction, goodLog, records}
-use Rattle.redo_log.specs.Append.{appendNumber, appended}
-use Rattle.redo_log_claims.specs.Claims.{needed}
+use Rattle.redo_log.specs.Append.{appendNumber}
 use Rattle.recovery_model.specs.Recovery.{Pairs, FitsPairs, recovered}
 use Rattle.recovery_model.specs.Claims.{textIn, textOf}
 use Rattle.transactions.specs.System.{
@@ -27,6 +26,7 @@ use Rattle.transactions.specs.System.{
   append,
   crash,
   recover,
+  renew,
   noOrder,
   oneDeskOpening,
   commandIn,
@@ -50,6 +50,7 @@ StepBytes (arrive i) = Unit {0}
 StepBytes (append budget r) = Bytes (r .body)
 StepBytes crash = Unit {0}
 StepBytes (recover pairs lines) = FitsPairs pairs
+StepBytes renew = Unit {0}
 
 abbrev pub AllSteps : List Step → Type 0
 AllSteps [] = Unit {0}
@@ -102,7 +103,7 @@ abbrev pub CommitsAtOnce : Type 0
 CommitsAtOnce = (d : ℕ) (y : OneDesk) → Moment d y → Refines d y
 
 -- Rule 16.2: what is meant changes by somebody else's accepted write and by a commit whose last byte is stored, and by nothing else: not by an order, when it is sent or when it arrives,
--- not by an append that is cut or of another kind, and not by a crash.
+-- not by an append that is cut or of another kind, not by a crash, a recovery or a log that begins again.
 pub record OnlyThen (d : ℕ) (y : OneDesk) : Type 0 where
   pub refused : (s : Sent) (n : ℕ) → outcome y s .answer .number ≡ suc n → afterStep d y (other s) .meant ≡ y .meant
   pub unwritten : (s : Sent) → isWrite (commandIn s) ≡ false → afterStep d y (other s) .meant ≡ y .meant
@@ -112,16 +113,10 @@ pub record OnlyThen (d : ℕ) (y : OneDesk) : Type 0 where
   pub uncommitted : (budget : ℕ) (r : LogRecord) → eqb (r .kind) commitKind ≡ false → afterStep d y (append budget r) .meant ≡ y .meant
   pub crashed : afterStep d y crash .meant ≡ y .meant
   pub recovered : (pairs : Pairs) (lines : ℕ) → afterStep d y (recover pairs lines) .meant ≡ y .meant
+  pub renews : afterStep d y renew .meant ≡ y .meant
 
 abbrev pub MeantOnlyThen : Type 0
 MeantOnlyThen = (d : ℕ) (y : OneDesk) → OnlyThen d y
-
--- Rule 16.14: an append between whose stores something else happens is one that is cut there and then made again: the log is the same. So a commit takes effect with its last
--- store, whatever comes between the others.
-abbrev pub AppendResumes : Type 0
-AppendResumes =
-    (budget : ℕ) (log : List ℕ) (r : LogRecord) → appendNumber budget log r ≡ 26
-    → appended (needed r) (appended budget log r) r ≡ appended (needed r) log r
 
 -- Rule 16.4: once an order is accepted, no order for its card that was sent before is accepted, that one itself included, however late or often it comes.
 abbrev pub OrdersOnce : Type 0

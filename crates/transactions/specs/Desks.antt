@@ -17,7 +17,7 @@ use Rattle.redo_log.specs.Log.{LogRecord, commitKind, goodLog, records}
 use Rattle.redo_log.specs.Append.{appendNumber}
 use Rattle.recovery_model.specs.Recovery.{Pairs}
 use Rattle.recovery_model.specs.Claims.{textIn, textOf}
-use Rattle.transactions.specs.System.{OneDesk, Order, Shown, Holding, unknown, Step, other, order, arrive, append, crash, recover, noOrder, commandIn, markIn, lawful, afterStep}
+use Rattle.transactions.specs.System.{OneDesk, Order, Shown, Holding, unknown, Step, other, order, arrive, append, crash, recover, renew, noOrder, commandIn, markIn, lawful, afterStep}
 use Rattle.transactions.specs.Claims.{StepBytes, Clean, Blank}
 
 -- ---- what there is
@@ -69,6 +69,7 @@ ownStep (arrive i) = true
 ownStep (append budget r) = true
 ownStep crash = true
 ownStep (recover pairs lines) = true
+ownStep renew = true
 
 -- Rule 16.1: some desks are under the rules. Who is not names none of them in a mark.
 abbrev pub lawfulDeskStep : (ℕ → Bool) → Desks → DeskStep → Bool
@@ -87,6 +88,7 @@ metBy e y d (append budget r) = y .part e
 metBy e y d crash = y .part e
 -- of a recovery another desk hears nothing
 metBy e y d (recover pairs lines) = y .part e
+metBy e y d renew = y .part e
 
 unfoldable pub afterDeskStep : Desks → DeskStep → Desks
 afterDeskStep y (outside s) =
@@ -156,6 +158,7 @@ pub record DesksOnlyThen (y : Desks) : Type 0 where
       (d budget : ℕ) (r : LogRecord) → eqb (r .kind) commitKind ≡ false → afterDeskStep y (own d (append budget r)) .meant ≡ y .meant
   pub crashed : (d : ℕ) → afterDeskStep y (own d crash) .meant ≡ y .meant
   pub recovered : (d : ℕ) (pairs : Pairs) (lines : ℕ) → afterDeskStep y (own d (recover pairs lines)) .meant ≡ y .meant
+  pub renews : (d : ℕ) → afterDeskStep y (own d renew) .meant ≡ y .meant
 
 abbrev pub DesksMeantOnlyThen : Type 0
 DesksMeantOnlyThen = (y : Desks) → DesksOnlyThen y

@@ -22,6 +22,7 @@ use Rattle.model.specs.Serve.{Outcome, serve}
 use Rattle.model.specs.Words.{Sent}
 use Rattle.redo_log.specs.Log.{LogRecord, updateKind, commitKind, syncedKind, recordCard, recordSide, recordText, recordTransaction, records}
 use Rattle.redo_log.specs.Append.{appendNumber, appended}
+use Rattle.redo_log_claims.specs.Life.{renewed}
 use Rattle.recovery_model.specs.Recovery.{Pairs, recordIn, transactionIn, commitsTo, due, recoveryPair, recovering}
 use Rattle.recovery_model.specs.Claims.{textIn, sideIs}
 
@@ -75,6 +76,8 @@ pub data Step : Type 0 where
   crash : Step
   -- rule 16.13: recovery (rule 11.18) goes through the first so many lines of the log, under these pairs; it may be cut behind any of them
   recover : (pairs : Pairs) (lines : ℕ) → Step
+  -- rule 16.18: the desk's log begins again (rule 11.26)
+  renew : Step
 
 -- ---- words of the rules
 
@@ -184,6 +187,10 @@ rewritable d image rs pairs i =
 abbrev pub recoverable : ℕ → List ℕ → List LogRecord → Pairs → ℕ → Bool
 recoverable d image rs pairs lines = leb lines (length rs) && every (rewritable d image rs pairs) (length rs)
 
+-- Rule 16.18: no line is due.
+abbrev pub nothingDue : List LogRecord → Bool
+nothingDue rs = every (λ i. not (due rs i)) (length rs)
+
 abbrev pub lawful : ℕ → OneDesk → Step → Bool
 -- rule 16.3: nobody else names the desk in a mark; malformed bytes may be any
 lawful d y (other s) = not (formed V1 (s .command)) || not (expects d (commandIn s)) && not (leaves d (commandIn s))
@@ -195,6 +202,7 @@ lawful d y (arrive i) = ltb i (length (y .orders))
 lawful d y (append budget r) = appendable (y .holds) (records (y .log)) r
 lawful d y crash = true
 lawful d y (recover pairs lines) = recoverable d (y .image) (records (y .log)) pairs lines
+lawful d y renew = nothingDue (records (y .log))
 
 -- ---- what it changes
 
@@ -288,6 +296,8 @@ afterStep d y (recover pairs lines) =
       shown = settled (r .number) (shownBy pairs (records (y .log)) lines lines (y .shown)) (y .shown);
       holds = forgetting (records (y .log)) (y .holds);
     }
+afterStep d y renew =
+    record { image = y .image; log = renewed (y .log); meant = y .meant; orders = y .orders; shown = y .shown; holds = y .holds }
 
 -- ---- runs: steps in the order in which they happen
 

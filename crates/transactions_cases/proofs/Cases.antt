@@ -31,10 +31,10 @@ use Rattle.redo_log.specs.Log.{shaped, lastBegun, opened, follows, total, start
 use Rattle.redo_log.specs.Append.{stored, puts, lineBytes, stores, appended}
 use Rattle.recovery_model.specs.Recovery.{Pairs, FitsPairs, due, recoverySent, recoveryStep, recovering, recovered}
 use Rattle.recovery_model.specs.Claims.{rewritten}
-use Rattle.transactions.specs.System.{OneDesk, Step, other, order, arrive, append, crash, recover, lawful, withUpdates, shownBy, afterStep, afterSteps, lawfulAll}
+use Rattle.transactions.specs.System.{OneDesk, Step, other, order, arrive, append, crash, recover, renew, lawful, withUpdates, shownBy, afterStep, afterSteps, lawfulAll}
 use Rattle.model.specs.Cases.{text205, text401}
 use Rattle.transactions.specs.Desks.{Desks, DeskStep, own, lawfulDeskStep, afterDeskStep, afterDeskSteps, lawfulDeskSteps}
-use Rattle.transactions_cases.specs.Cases.{begins, preparesBoth, commits, Ordinary, Cut, CrashRecovered, Hazard, rewritesHalf, rewritesAll, Rewritten, atFirst, agrees, BrokenAt, OrderRulesNeeded, Seen, seeing, text190, text380, text210, logs, bothRuled, twoDesks, bothBegin, sixCommits, sixFinishes, fiveCommits, seeDesks, TwoDesks}
+use Rattle.transactions_cases.specs.Cases.{begins, preparesBoth, commits, Ordinary, Cut, CrashRecovered, Hazard, rewritesHalf, rewritesAll, Rewritten, Renewed, atFirst, agrees, BrokenAt, OrderRulesNeeded, Seen, seeing, text190, text380, text210, logs, bothRuled, twoDesks, bothBegin, sixCommits, sixFinishes, fiveCommits, seeDesks, TwoDesks}
 
 -- Numbers below a bound, by a test of each.
 unfoldable pub belowTest : ℕ → List ℕ → Bool
@@ -79,6 +79,7 @@ stepTest (arrive i) = true
 stepTest (append budget r) = belowTest 256 (r .body)
 stepTest crash = true
 stepTest (recover pairs lines) = pairsTest pairs
+stepTest renew = true
 
 pub step-tested : (m : Step) → stepTest m ≡ true → StepBytes m
 unfolding stepTest
@@ -88,6 +89,7 @@ step-tested (arrive i) e = tt
 step-tested (append budget r) e = bytes-tested (r .body) e
 step-tested crash e = tt
 step-tested (recover pairs lines) e = pairs-tested pairs e
+step-tested renew e = tt
 
 stepsTest : List Step → Bool
 stepsTest [] = true
@@ -148,6 +150,10 @@ hazard = record { rules = refl; sees = refl; before = refl; after = refl }
 pub rewritten-twice : Rewritten
 unfolding lawfulAll afterSteps afterStep withUpdates rewritten due stored puts lineBytes stores appended shaped lastBegun opened follows total startAt recordAt recordOk goodLog records serve serveBy stepped sound headerSound cardSound translationSound tailZero decode cardAt entryAt readEntry encode bodies pad entryBytes header shapeOk fresh replied raise entrySound commandBytes formed payload fieldsOf wellFormed all allFrom le toLe part splice table spread every zeros recovering recoveryStep recoverySent shownBy
 rewritten-twice = record { rules = refl; sees = refl; met = met }
+
+pub renewed-log : Renewed
+unfolding lawfulAll afterSteps afterStep withUpdates rewritten due stored puts lineBytes stores appended shaped lastBegun opened follows total startAt recordAt recordOk goodLog records serve serveBy stepped sound headerSound cardSound translationSound tailZero decode cardAt entryAt readEntry encode bodies pad entryBytes header shapeOk fresh replied raise entrySound commandBytes formed payload fieldsOf wellFormed all allFrom le toLe part splice table spread every zeros
+renewed-log = record { rules = refl; sees = refl; lines = refl }
 
 -- Each run is walked once, and what is asked of it follows.
 record Walked : Type 0 where
@@ -210,6 +216,7 @@ rules-needed =
       passed-over = broken-at _ _ _ refl;
       unmarked = broken-at _ _ _ refl;
       unraised = broken-at _ _ _ refl;
+      still-due = broken-at _ _ _ refl;
       sessions = record { before = refl; refused = refl; refused-too = refl; after = refl; broken = refl };
     }
 

@@ -20,7 +20,7 @@ use Rattle.recovery_model.specs.Recovery.{Pairs, recovered}
 use Rattle.recovery_model.specs.Claims.{textIn, textOf}
 use Rattle.transactions.specs.Claims.{Moment}
 use Rattle.transactions.specs.Desks.{Desks, DeskStep, outside, own, desksOpening, lawfulDeskStep, afterDeskSteps, lawfulDeskSteps}
-use Rattle.transactions.specs.System.{OneDesk, Step, other, order, arrive, append, crash, recover, oneDeskOpening, markIn, sameBytes, lawful, outcome, afterStep, afterSteps, lawfulAll}
+use Rattle.transactions.specs.System.{OneDesk, Step, other, order, arrive, append, crash, recover, renew, oneDeskOpening, markIn, sameBytes, lawful, outcome, afterStep, afterSteps, lawfulAll}
 
 -- ---- who sends what
 
@@ -277,6 +277,28 @@ pub record Rewritten : Type 0 where
   -- it is a run of which the claims speak
   pub met : Moment 5 (afterSteps 5 atFirst (begins ++ (preparesBoth ++ (commits ++ (rewritesHalf ++ rewritesAll)))))
 
+-- ---- the log begins again, once both cards are noted as synced, and a second transaction follows
+
+abbrev pub renewsLog : List Step
+renewsLog = renew ∷ []
+
+abbrev pub second : List Step
+second =
+    logs (beginOf 2)
+    ∷ logs (updateOf 0 1 text210)
+    ∷ order (prepare 0 (five 4) (five 5)) 0 2
+    ∷ arrive 0
+    ∷ logs (commitOf 2)
+    ∷ []
+
+abbrev pub renewing : List (List Step)
+renewing = begins ∷ preparesBoth ∷ commits ∷ writesOut0 ∷ releases0 ∷ syncs0 ∷ finishes1 ∷ renewsLog ∷ second ∷ []
+
+pub record Renewed : Type 0 where
+  pub rules : inOrder atFirst renewing ≡ true
+  pub sees : see (afterAll atFirst renewing) ≡ seeing text205 text401 text210 text401
+  pub lines : length (records (afterAll atFirst renewing .log)) ≡ 3
+
 -- ---- one rule broken (rule 16.15)
 
 -- The claim, of the original of card k.
@@ -407,6 +429,8 @@ pub record OrderRulesNeeded : Type 0 where
       ∷ []))
       (recover (bothUnder (five 4)) 2)
       (arrive 0 ∷ [])
+  -- the log begins again while an update is due
+  pub still-due : BrokenAt committed renew []
 
 -- ---- two desks
 

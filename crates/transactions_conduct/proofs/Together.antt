@@ -32,7 +32,7 @@ use Rattle.conduct.specs.System.{System, Made, Move, begin, propose, ask, leave
 use Rattle.conduct.specs.Claims.{ByRules}
 use Rattle.conduct.proofs.Claims.{made-run, image-run, premise-kept}
 use Rattle.transactions.specs.Claims.{StepBytes}
-use Rattle.transactions.specs.System.{Order, Step, rewritable, other, order, arrive, append, crash, recover, noOrder, commandIn, lawful, afterStep}
+use Rattle.transactions.specs.System.{Order, Step, rewritable, other, order, arrive, append, crash, recover, renew, noOrder, commandIn, lawful, afterStep}
 use Rattle.transactions.specs.Desks.{Desks, DeskStep, outside, own, ownStep, seenBy, desksOpening, lawfulDeskStep, afterDeskStep, afterDeskSteps, lawfulDeskSteps, DeskStepBytes, AllDeskSteps, DesksMoment}
 use Rattle.transactions.proofs.Serving.{at}
 use Rattle.transactions.proofs.Kept.{cardFor, Safe, all-at}
@@ -86,6 +86,7 @@ module _ (ruled : ℕ → Bool) (z : Desks) (j : Joint ruled z) where
   bytes-own d (arrive i) r b h = (order-bytes d i r h, tt)
   bytes-own d (append budget q) r b h = tt
   bytes-own d crash r b h = tt
+  bytes-own d renew r b h = tt
   bytes-own d (recover pairs lines) r b h =
       let sent : List Sent = recovering pairs (logOf d) (z .image) lines .sent in
       subst AllBytes (sym (sent-each (reverse sent))) (bytes-reverse sent [] (recover-bytes d pairs lines r b h) tt)
@@ -104,6 +105,7 @@ module _ (ruled : ℕ → Bool) (z : Desks) (j : Joint ruled z) where
   image-own d (arrive i) e = refl
   image-own d (append budget q) e = refl
   image-own d crash e = refl
+  image-own d renew e = refl
   image-own d (recover pairs lines) e =
       let sent : List Sent = recovering pairs (logOf d) (z .image) lines .sent in
       ap (λ (l : List Sent). imageAfter V1 (z .image) (reverse l)) (sent-each (reverse sent))

@@ -19,7 +19,7 @@ use Rattle.recovery_model.specs.Recovery.{recovering}
 use Rattle.proposals.specs.Propose.{learnt, proposed}
 use Rattle.conduct.specs.System.{System, Move, begin, propose, ask, leave, lose, send, learn, opening, allowed, knows, course, byRules, sentBy}
 use Rattle.conduct.specs.Claims.{ByRules}
-use Rattle.transactions.specs.System.{Shown, other, order, arrive, append, crash, recover, noOrder, commandIn, opensAbove}
+use Rattle.transactions.specs.System.{Shown, other, order, arrive, append, crash, recover, renew, noOrder, commandIn, opensAbove}
 use Rattle.transactions.specs.Claims.{Blank}
 use Rattle.transactions.specs.Desks.{Desks, DeskStep, outside, own, desksOpening, afterDeskStep, afterDeskSteps, lawfulDeskSteps, AllDeskSteps, DesksMoment, DesksRefine}
 
@@ -42,6 +42,7 @@ movesOf z (own d (order s line from)) = []
 movesOf z (own d (arrive i)) = send (getD (z .part d .orders) i noOrder .sent) ∷ []
 movesOf z (own d (append budget r)) = []
 movesOf z (own d crash) = []
+movesOf z (own d renew) = []
 movesOf z (own d (recover pairs lines)) = sendEach (reverse (recovering pairs (records (z .part d .log)) (z .image) lines .sent))
 
 -- The run as moves of section 10, and as steps of section 16.
