@@ -135,7 +135,7 @@ module _ (d : ℕ) (y : OneDesk) (k : Kept d y) (i : ℕ) (h : lawful d y (arriv
     number-zero : a .number ≡ 0
     number-zero = number-now d y k s ∙ z
 
-    rises : old .pair .x < now .pair .x
+    pub rises : old .pair .x < now .pair .x
     rises = omega (arith, t .x, t .fresh, safe .above)
 
     pub all-stale : All (λ (q : Order). cardFor q ≡ c .card → relies q < now .pair .x) (y .orders)

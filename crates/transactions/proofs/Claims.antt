@@ -38,7 +38,7 @@ use Rattle.transactions.proofs.Renewing.{kept-renew}
 
 -- ---- the beginning, and a run
 
-kept-opening : (d : ℕ) (y : OneDesk) (r : Moment d y) → Kept d (oneDeskOpening (r .image) (r .log))
+pub kept-opening : (d : ℕ) (y : OneDesk) (r : Moment d y) → Kept d (oneDeskOpening (r .image) (r .log))
 kept-opening d y r =
     let back = soundReadsBack V1 (r .image) (r .store .bytes) (to-T (r .store .sounds)) in
     record {
@@ -55,7 +55,7 @@ kept-opening d y r =
       knows = λ k. tt;
     }
 
-kept-next : (d : ℕ) (y : OneDesk) (m : Step) → Kept d y → StepBytes m → lawful d y m ≡ true → Kept d (afterStep d y m)
+pub kept-next : (d : ℕ) (y : OneDesk) (m : Step) → Kept d y → StepBytes m → lawful d y m ≡ true → Kept d (afterStep d y m)
 kept-next d y (other s) k b h = kept-other d y k s b h
 kept-next d y (order s line from) k b h = kept-order d y k s line from b h
 kept-next d y (arrive i) k b h = kept-arrive d y k i h

@@ -92,7 +92,7 @@ module _ (rs : List LogRecord) (r : LogRecord) where
   -- ---- by places: what holds of old records holds of all
 
   module _ (o : Ordered rs) (f : Followed (transactionIn rs (length rs)) (opened (recordIn rs) (length rs)) r) (l : Language) (k : ℕ) where
-    outside : (i : ℕ) → length rs ≤ i → rewrites (more rs r) l k i ≡ false
+    pub outside : (i : ℕ) → length rs ≤ i → rewrites (more rs r) l k i ≡ false
     outside i h = go (placed i (length rs))
       where
         go : (i < length rs) ⊎ (i ≡ length rs) ⊎ (length rs < i) → rewrites (more rs r) l k i ≡ false
@@ -266,7 +266,7 @@ module _ (rs : List LogRecord) (r : LogRecord) (o : Ordered rs) (f : Followed (t
     updates i = eqb (recordIn rs i .kind) updateKind
 
     -- A line of its own transaction: due from now on.
-    hit : (i : ℕ) → i < length rs → eqb (transactionIn rs i) t ≡ true → (rewrites rs l k i ≡ false) × (rewrites (more rs r) l k i ≡ changesText rs t l k i)
+    pub hit : (i : ℕ) → i < length rs → eqb (transactionIn rs i) t ≡ true → (rewrites rs l k i ≡ false) × (rewrites (more rs r) l k i ≡ changesText rs t l k i)
     hit i h e = (before, after)
       where
         same : transactionIn rs i ≡ t
@@ -303,7 +303,7 @@ module _ (rs : List LogRecord) (r : LogRecord) (o : Ordered rs) (f : Followed (t
             ∙ ap (λ (b : Bool). b && own i) (due-old rs r i h ∙ two .1 ∙ ap (λ (b : Bool). updates i && b) (sym e))
 
     -- A line of another transaction: as it was.
-    miss : (i : ℕ) → i < length rs → eqb (transactionIn rs i) t ≡ false → (rewrites (more rs r) l k i ≡ rewrites rs l k i) × (changesText rs t l k i ≡ false)
+    pub miss : (i : ℕ) → i < length rs → eqb (transactionIn rs i) t ≡ false → (rewrites (more rs r) l k i ≡ rewrites rs l k i) × (changesText rs t l k i ≡ false)
     miss i h e = (after, ap (λ (b : Bool). updates i && b && own i) e ∙ ap (λ (b : Bool). b && own i) (and-none (updates i)))
       where
         no : commitsTo (transactionIn rs i) r ≡ false
@@ -326,7 +326,7 @@ module _ (rs : List LogRecord) (r : LogRecord) (o : Ordered rs) (f : Followed (t
     applied-none (suc n) s h = rw (h n (omega arith)) (applied-none n s (λ i a. h i (omega arith)))
 
     -- Lines of other transactions stand before those of the last one.
-    earlier : (i : ℕ) → i < length rs → eqb (transactionIn rs i) t ≡ false → (j : ℕ) → j < i → changesText rs t l k j ≡ false
+    pub earlier : (i : ℕ) → i < length rs → eqb (transactionIn rs i) t ≡ false → (j : ℕ) → j < i → changesText rs t l k j ≡ false
     earlier i h e j a = go (cases (eqb (transactionIn rs j) t))
       where
         go : (eqb (transactionIn rs j) t ≡ true) ⊎ (eqb (transactionIn rs j) t ≡ false) → changesText rs t l k j ≡ false

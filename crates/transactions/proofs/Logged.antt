@@ -33,11 +33,11 @@ use Rattle.transactions.proofs.Requests.{onward-none}
 use Rattle.transactions.proofs.Orders.{out-clear}
 
 module _ {A : Type 0} where
-  all-by : (P : A → Type 0) (l : List A) (a : A) → ((i : ℕ) → i < length l → P (getD l i a)) → All P l
+  pub all-by : (P : A → Type 0) (l : List A) (a : A) → ((i : ℕ) → i < length l → P (getD l i a)) → All P l
   all-by P [] a h = tt
   all-by P (b ∷ l) a h = (h 0 (suc-le-suc zero-le), all-by P l a (λ i q. h (suc i) (suc-le-suc q)))
 
-held-of : (d : ℕ) (rs : List LogRecord) (orders : List Order) (shown : List Shown) (k : ℕ) (card : Card) (g : Holding)
+pub held-of : (d : ℕ) (rs : List LogRecord) (orders : List Order) (shown : List Shown) (k : ℕ) (card : Card) (g : Holding)
     → isHeld g ≡ true → Knows d rs orders shown k card g → Held d orders shown k card
 held-of d rs orders shown k card unknown e w = absurd (never-both refl (sym e))
 held-of d rs orders shown k card held e w = w
@@ -52,10 +52,10 @@ free-of d rs orders shown k card free e w = w
 -- ---- one record more, by what it changes on each card
 
 -- What a record more changes for card j: nothing; or the card does not bear the mark, and no line becomes due for it; or the card is held.
-data Change (d : ℕ) (rs : List LogRecord) (r : LogRecord) (meant new : Language → List ℕ) (j : ℕ) (card : Card) (g : Holding) : Type 0 where
+pub data Change (d : ℕ) (rs : List LogRecord) (r : LogRecord) (meant new : Language → List ℕ) (j : ℕ) (card : Card) (g : Holding) : Type 0 where
   unchanged : ((l : Language) (i : ℕ) → rewrites (more rs r) l j i ≡ rewrites rs l j i) → ((l : Language) → meant l ≡ new l) → Change d rs r meant new j card g
   unmarked : bears d card ≡ false → (Clear rs j → Clear (more rs r) j) → ((l : Language) → meant l ≡ new l) → Change d rs r meant new j card g
-  committed : isHeld g ≡ true → ((l : Language) → rewritten (more rs r) l j (length (more rs r)) (text l card) ≡ new l) → Change d rs r meant new j card g
+  committed : eqb (r .kind) commitKind ≡ true → isHeld g ≡ true → ((l : Language) → rewritten (more rs r) l j (length (more rs r)) (text l card) ≡ new l) → Change d rs r meant new j card g
 
 module _ (d : ℕ) (rs : List LogRecord) (r : LogRecord) (orders : List Order) (shown : List Shown) (meant new : Language → List ℕ) (j : ℕ) (card : Card) (g : Holding)
     (w : Knows d rs orders shown j card g) where
@@ -63,7 +63,7 @@ module _ (d : ℕ) (rs : List LogRecord) (r : LogRecord) (orders : List Order) (
   stands-more (unchanged e m) s =
       record { plain = λ b l. s .plain b l ∙ m l; marked = λ b l. text-same rs r l j (e l) (text l card) ∙ s .marked b l ∙ m l }
   stands-more (unmarked b c m) s = record { plain = λ q l. s .plain q l ∙ m l; marked = λ q l. absurd (never-both q b) }
-  stands-more (committed h m) s =
+  stands-more (committed c h m) s =
       let bearing = held-of d rs orders shown j card g h w .bearing in
       record { plain = λ q l. absurd (never-both bearing q); marked = λ q l. m l }
 
@@ -103,7 +103,7 @@ module _ (d : ℕ) (rs : List LogRecord) (r : LogRecord) (orders : List Order) (
       go (inr a) = inr (c a)
   fine-more i h e (unmarked b c m) (releasing p q) = releasing p (λ live a. absurd (never-both a b))
   fine-more i h e (unmarked b c m) (writing p q) = writing p (λ live a. absurd (never-both a b))
-  fine-more i h e (committed f m) o = dead o
+  fine-more i h e (committed c f m) o = dead o
     where
       old : relies (getD orders i noOrder) < card .pair .x
       old = all-at (λ (a : Order). cardFor a ≡ j → relies a < card .pair .x) orders i noOrder h (held-of d rs orders shown j card g f w .stale) e
@@ -116,7 +116,7 @@ module _ (d : ℕ) (rs : List LogRecord) (r : LogRecord) (orders : List Order) (
   told-more : (i : ℕ) → i < length shown → getD shown i noShown .card ≡ j → Change d rs r meant new j card g → Told d rs j card (getD shown i noShown) → Told d (more rs r) j card (getD shown i noShown)
   told-more i h e (unchanged s m) t = record { low = t .low; reached = λ live b l. onward-at s (getD shown i noShown .reach) l (t .reached live b l) }
   told-more i h e (unmarked b c m) t = record { low = t .low; reached = λ live a. absurd (never-both a b) }
-  told-more i h e (committed f m) t =
+  told-more i h e (committed c f m) t =
       record {
         low = t .low;
         reached = λ live b.
@@ -133,7 +133,7 @@ module _ (d : ℕ) (rs : List LogRecord) (r : LogRecord) (orders : List Order) (
       by free (unchanged s m) (inl b) = inl b
       by free (unchanged s m) (inr b) = inr (clear-more s b)
       by free (unmarked b c m) q = inl b
-      by free (committed f m) q = absurd (never-both refl (sym f))
+      by free (committed c f m) q = absurd (never-both refl (sym f))
 
 -- ---- the append
 
@@ -193,7 +193,7 @@ module _ (d : ℕ) (y : OneDesk) (k : Kept d y) (budget : ℕ) (r : LogRecord) (
         opened-ext (recordAt (y .log)) (recordIn rs) (recordCount (y .log)) (λ i q. sym (record-of (y .log) i q))
         ∙ ap (opened (recordIn rs)) (sym (length-records (y .log)))
 
-    follow : Followed (transactionIn rs (length rs)) (opened (recordIn rs) (length rs)) r
+    pub follow : Followed (transactionIn rs (length rs)) (opened (recordIn rs) (length rs)) r
     follow =
         followed (transactionIn rs (length rs)) (opened (recordIn rs) (length rs)) r
         (subst (λ (n : ℕ). follows n (opened (recordIn rs) (length rs)) r ≡ true) last-is
@@ -244,7 +244,7 @@ module _ (d : ℕ) (y : OneDesk) (k : Kept d y) (budget : ℕ) (r : LogRecord) (
       rule c = picks-first (eqb (r .kind) commitKind) all-held (cond (eqb (r .kind) syncedKind) may-sync true) c h
 
       -- A card that is not held is not updated by the transaction.
-      apart : eqb (r .kind) commitKind ≡ true → isHeld (y .holds j) ≡ false → (i : ℕ) → i < length rs → updateIn rs (recordTransaction r) i ≡ true → eqb (recordCard (recordIn rs i)) j ≡ false
+      pub apart : eqb (r .kind) commitKind ≡ true → isHeld (y .holds j) ≡ false → (i : ℕ) → i < length rs → updateIn rs (recordTransaction r) i ≡ true → eqb (recordCard (recordIn rs i)) j ≡ false
       apart c e i q u = pick (cases (eqb (recordCard (recordIn rs i)) j))
         where
           holds-it : (not (updateIn rs (recordTransaction r) i) ≡ true) ⊎ (isHeld (y .holds (recordCard (recordIn rs i))) ≡ true) → isHeld (y .holds (recordCard (recordIn rs i))) ≡ true
@@ -270,7 +270,7 @@ module _ (d : ℕ) (y : OneDesk) (k : Kept d y) (budget : ℕ) (r : LogRecord) (
           go : (isHeld (y .holds j) ≡ true) ⊎ (isHeld (y .holds j) ≡ false) → Changes
           go (inl e) =
               let bearing = held-of d rs (y .orders) (y .shown) j card (y .holds j) e (k .knows j) .bearing in
-              committed e
+              committed c e
               (λ l.
               text-commit rs r (k .ordered) follow c l j (text l card)
               ∙ ap (withUpdates rs (recordTransaction r) l j (length rs)) (k .texts j .marked bearing l)
@@ -300,7 +300,7 @@ module _ (d : ℕ) (y : OneDesk) (k : Kept d y) (budget : ℕ) (r : LogRecord) (
               (or-cases (isFree (y .holds (recordCard r))) (writtenOut rs (recordCard r) 0 (length rs))
               (and-left (isFree (y .holds (recordCard r)) || writtenOut rs (recordCard r) 0 (length rs)) (any (commitsTo (recordTransaction r)) rs) (sync-rule c s)))
 
-      change : Changes
+      pub change : Changes
       change = go (cases (eqb (r .kind) commitKind)) (cases (eqb (r .kind) syncedKind))
         where
           go : (eqb (r .kind) commitKind ≡ true) ⊎ (eqb (r .kind) commitKind ≡ false) → (eqb (r .kind) syncedKind ≡ true) ⊎ (eqb (r .kind) syncedKind ≡ false) → Changes
@@ -368,36 +368,38 @@ module _ (d : ℕ) (y : OneDesk) (k : Kept d y) (budget : ℕ) (r : LogRecord) (
       go zero e (inl c) (inl q) = absurd (never-both (held-of d rs (y .orders) (y .shown) j (at (k .cs) j) (y .holds j) q (k .knows j) .bearing) b)
       go zero e (inl c) (inr q) = rw (e, c) (unheld-commit e j c q l (m j l))
 
-  pub kept-append : Kept d (afterStep d y (append budget r))
-  kept-append = go number refl
+  -- A refused append, and one that is cut, leave what is read back.
+  left-alone : log ≡ y .log → (goodLog log ≡ true) × (records log ≡ rs)
+  left-alone e = (ap goodLog e ∙ k .good-log, ap records e)
+
+  by-row : (n : ℕ) → number ≡ suc n → any (eqb (suc n)) appendNumbers ≡ true → (goodLog log ≡ true) × (records log ≡ rs)
+  by-row n e a = first (or-cases (eqb (suc n) 23) (any (eqb (suc n)) (24 ∷ 26 ∷ [])) a)
     where
-      refused : log ≡ y .log → (goodLog log ≡ true) × (records log ≡ rs)
-      refused e = (ap goodLog e ∙ k .good-log, ap records e)
+      third : (eqb (suc n) 26 ≡ true) ⊎ (false ≡ true) → (goodLog log ≡ true) × (records log ≡ rs)
+      third (inl q) = appends budget (y .log) r .cut (e ∙ eqb-true (suc n) 26 q)
+      third (inr q) = absurd (never-both refl (sym q))
 
-      by-row : (n : ℕ) → number ≡ suc n → any (eqb (suc n)) appendNumbers ≡ true → (goodLog log ≡ true) × (records log ≡ rs)
-      by-row n e a = first (or-cases (eqb (suc n) 23) (any (eqb (suc n)) (24 ∷ 26 ∷ [])) a)
-        where
-          third : (eqb (suc n) 26 ≡ true) ⊎ (false ≡ true) → (goodLog log ≡ true) × (records log ≡ rs)
-          third (inl q) = appends budget (y .log) r .cut (e ∙ eqb-true (suc n) 26 q)
-          third (inr q) = absurd (never-both refl (sym q))
+      second : (eqb (suc n) 24 ≡ true) ⊎ (any (eqb (suc n)) (26 ∷ []) ≡ true) → (goodLog log ≡ true) × (records log ≡ rs)
+      second (inl q) = left-alone (appends budget (y .log) r .full (e ∙ eqb-true (suc n) 24 q))
+      second (inr q) = third (or-cases (eqb (suc n) 26) false q)
 
-          second : (eqb (suc n) 24 ≡ true) ⊎ (any (eqb (suc n)) (26 ∷ []) ≡ true) → (goodLog log ≡ true) × (records log ≡ rs)
-          second (inl q) = refused (appends budget (y .log) r .full (e ∙ eqb-true (suc n) 24 q))
-          second (inr q) = third (or-cases (eqb (suc n) 26) false q)
+      first : (eqb (suc n) 23 ≡ true) ⊎ (any (eqb (suc n)) (24 ∷ 26 ∷ []) ≡ true) → (goodLog log ≡ true) × (records log ≡ rs)
+      first (inl q) = left-alone (appends budget (y .log) r .bad (e ∙ eqb-true (suc n) 23 q))
+      first (inr q) = second (or-cases (eqb (suc n) 24) (any (eqb (suc n)) (26 ∷ [])) q)
 
-          first : (eqb (suc n) 23 ≡ true) ⊎ (any (eqb (suc n)) (24 ∷ 26 ∷ []) ≡ true) → (goodLog log ≡ true) × (records log ≡ rs)
-          first (inl q) = refused (appends budget (y .log) r .bad (e ∙ eqb-true (suc n) 23 q))
-          first (inr q) = second (or-cases (eqb (suc n) 24) (any (eqb (suc n)) (26 ∷ [])) q)
-
-      listed-of : (n : ℕ) → number ≡ suc n → (eqb number 0 || any (eqb number) appendNumbers) ≡ true → any (eqb (suc n)) appendNumbers ≡ true
-      listed-of n e a = pick (or-cases (eqb number 0) (any (eqb number) appendNumbers) a)
+  pub uncounted : (n : ℕ) → number ≡ suc n → (goodLog log ≡ true) × (records log ≡ rs)
+  uncounted n e = by-row n e (listed-of (from-T (eqb number 0 || any (eqb number) appendNumbers) (log-listed .appends budget (y .log) r)))
+    where
+      listed-of : (eqb number 0 || any (eqb number) appendNumbers) ≡ true → any (eqb (suc n)) appendNumbers ≡ true
+      listed-of a = pick (or-cases (eqb number 0) (any (eqb number) appendNumbers) a)
         where
           pick : (eqb number 0 ≡ true) ⊎ (any (eqb number) appendNumbers ≡ true) → any (eqb (suc n)) appendNumbers ≡ true
           pick (inl q) = absurd (omega (arith, eqb-true number 0 q, e))
           pick (inr q) = subst (λ (m : ℕ). any (eqb m) appendNumbers ≡ true) e q
 
+  pub kept-append : Kept d (afterStep d y (append budget r))
+  kept-append = go number refl
+    where
       go : (n : ℕ) → number ≡ n → Kept d (afterStep d y (append budget r))
       go zero e = let w = appends budget (y .log) r .whole e in append-more e (w .0) (w .1)
-      go (suc n) e =
-          let w = by-row n e (listed-of n e (from-T (eqb number 0 || any (eqb number) appendNumbers) (log-listed .appends budget (y .log) r))) in
-          append-same n e (w .0) (w .1)
+      go (suc n) e = let w = uncounted n e in append-same n e (w .0) (w .1)

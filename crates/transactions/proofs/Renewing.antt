@@ -26,7 +26,7 @@ use Rattle.transactions.proofs.Orders.{past-none}
 use Rattle.transactions.proofs.Kept.{Stands, cardFor, Ready, Fine, preparing, releasing, writing, Safe, Told, Knows, Kept}
 
 -- A write writes some text.
-some-written : (c : Command) → isWrite c ≡ true → (l : Language) × (writes l c ≡ true)
+pub some-written : (c : Command) → isWrite c ≡ true → (l : Language) × (writes l c ≡ true)
 some-written c e = go (or-cases (writes original c) (writesTranslation c) e)
   where
     go : (writes original c ≡ true) ⊎ (writesTranslation c ≡ true) → (l : Language) × (writes l c ≡ true)

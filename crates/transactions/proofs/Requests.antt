@@ -29,7 +29,7 @@ use Rattle.transactions.proofs.Serving.{at, then, Taken, taken, kept, n
 use Rattle.transactions.proofs.Kept.{bears, Clear, Onward, Stands, cardFor, Fine, preparing, releasing, writing, Safe, Told, Knows, Kept, all-moved, stands-as}
 
 -- What is free where malformed holds where it is not.
-if-formed : (f : Bool) {P : Bool} → (not f || P) ≡ true → f ≡ true → P ≡ true
+pub if-formed : (f : Bool) {P : Bool} → (not f || P) ≡ true → f ≡ true → P ≡ true
 if-formed f {P} h e = go (or-cases (not f) P h)
   where
     go : (not f ≡ true) ⊎ (P ≡ true) → P ≡ true

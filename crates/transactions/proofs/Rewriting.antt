@@ -48,21 +48,21 @@ rewritten-over rs l k (suc n) m a h = go (placed m (suc n)) (λ (g : m ≤ n). r
 -- ---- the cards that a recovery leaves
 
 module _ (pairs : Pairs) (rs : List LogRecord) (cs : Cards) (gc : GoodCards V1 cs) (fp : FitsPairs pairs) (fit : FitsRecords rs) where
-  abbrev ran : ℕ → Recovery
+  abbrev pub ran : ℕ → Recovery
   ran i = R pairs rs (encode V1 cs) i
 
-  abbrev left : ℕ → Cards
+  abbrev pub left : ℕ → Cards
   left i = C pairs rs cs gc fp fit i
 
   -- Where it stopped, if it did: its cards are those behind the last line with which nothing was refused.
-  record Stopped (i : ℕ) : Type 0 where
-    last : ℕ
-    within : last ≤ i
-    clean : ran last .number ≡ 0
-    same : left i ≡ left last
-    whole : ran i .number ≡ 0 → last ≡ i
+  pub record Stopped (i : ℕ) : Type 0 where
+    pub last : ℕ
+    pub within : last ≤ i
+    pub clean : ran last .number ≡ 0
+    pub same : left i ≡ left last
+    pub whole : ran i .number ≡ 0 → last ≡ i
 
-  left-idle : (i : ℕ) → Idle pairs rs (encode V1 cs) i → left (suc i) ≡ left i
+  pub left-idle : (i : ℕ) → Idle pairs rs (encode V1 cs) i → left (suc i) ≡ left i
   left-idle i idle = ap (λ (q : Recovery). cardsFrom V1 cs (q .sent)) (idle .same)
 
   left-refused : (i n : ℕ) → i < length rs → ran (suc i) .number ≡ suc n → Idle pairs rs (encode V1 cs) i ⊎ Sends pairs rs (encode V1 cs) i → left (suc i) ≡ left i
@@ -71,7 +71,7 @@ module _ (pairs : Pairs) (rs : List LogRecord) (cs : Cards) (gc : GoodCards V1 c
       cards-next pairs rs cs gc fp fit i h s
       ∙ ap (λ (m : ℕ). cardsBy V1 m (left i) (S pairs rs (encode V1 cs) i)) (number-here pairs rs cs gc fp fit i h s ∙ e)
 
-  stopped : (i : ℕ) → i ≤ length rs → Stopped i
+  pub stopped : (i : ℕ) → i ≤ length rs → Stopped i
   unfolding recovering
   stopped zero h = record { last = 0; within = omega arith; clean = refl; same = refl; whole = λ z. refl }
   stopped (suc i) h = go (ran (suc i) .number) refl (stopped i (omega arith))
@@ -106,28 +106,28 @@ module _ (pairs : Pairs) (rs : List LogRecord) (cs : Cards) (gc : GoodCards V1 c
   moved-past i k e f (touched j h g m x) = touched j (omega arith) g (ap (λ (c : Card). c .mark) e ∙ m) (ap (λ (c : Card). c .pair .x) e ∙ x)
 
   module _ (i : ℕ) (h : i < length rs) (z : ran (suc i) .number ≡ 0) (s : Sends pairs rs (encode V1 cs) i) where
-    abbrev sent : Sent
+    abbrev pub sent : Sent
     sent = S pairs rs (encode V1 cs) i
 
-    abbrev place : ℕ
+    abbrev pub place : ℕ
     place = recordCard (recordIn rs i)
 
-    good-here : GoodCards V1 (left i)
+    pub good-here : GoodCards V1 (left i)
     good-here = cards-good pairs rs cs gc fp fit i (all-bytes pairs rs cs gc fp fit i (omega arith))
 
     t : Taken (left i) sent
     t = taken (left i) sent good-here (number-here pairs rs cs gc fp fit i h s ∙ z)
 
-    after : left (suc i) ≡ then (left i) sent
+    pub after : left (suc i) ≡ then (left i) sent
     after = cards-next pairs rs cs gc fp fit i h s
 
-    fields : commandIn sent ≡ writeOf pairs (ran i .image) (recordIn rs i)
+    pub fields : commandIn sent ≡ writeOf pairs (ran i .image) (recordIn rs i)
     fields = fields-here pairs rs cs gc fp fit i h
 
-    card-is : commandIn sent .card ≡ place
+    pub card-is : commandIn sent .card ≡ place
     card-is = ap (λ (c : Command). c .card) fields
 
-    elsewhere : (k : ℕ) → eqb place k ≡ false → at (left (suc i)) k ≡ at (left i) k
+    pub elsewhere : (k : ℕ) → eqb place k ≡ false → at (left (suc i)) k ≡ at (left i) k
     elsewhere k e = ap (λ (m : Cards). at m k) after ∙ t .others k (ap (λ (n : ℕ). eqb n k) card-is ∙ e)
 
     mark-here : at (left (suc i)) place .mark ≡ at (left i) place .mark
@@ -189,37 +189,37 @@ pub data Raised (d : ℕ) (old new : Card) : Type 0 where
   rises : old .pair .x < new .pair .x → bears d old ≡ true → new .mark ≡ old .mark → Raised d old new
 
 module _ (d : ℕ) (y : OneDesk) (k : Kept d y) (pairs : Pairs) (lines : ℕ) (fp : FitsPairs pairs) (h : lawful d y (recover pairs lines) ≡ true) where
-  abbrev rs : List LogRecord
+  abbrev pub rs : List LogRecord
   rs = records (y .log)
 
-  abbrev run : Recovery
+  abbrev pub run : Recovery
   run = recovering pairs rs (y .image) lines
 
-  fit : FitsRecords rs
+  pub fit : FitsRecords rs
   fit = fits-log (y .log) (k .log-bytes) (k .good-log)
 
   short : lines ≤ length rs
   short = leb-true lines (length rs) (and-left (leb lines (length rs)) (every (rewritable d (y .image) rs pairs) (length rs)) h)
 
-  st : Stopped pairs rs (k .cs) (k .good) fp fit lines
+  pub st : Stopped pairs rs (k .cs) (k .good) fp fit lines
   st = stopped pairs rs (k .cs) (k .good) fp fit lines short
 
-  abbrev m : ℕ
+  abbrev pub m : ℕ
   m = st .last
 
-  in-log : m ≤ length rs
+  pub in-log : m ≤ length rs
   in-log = omega (arith, st .within, short)
 
-  abbrev new : Cards
+  abbrev pub new : Cards
   new = left pairs rs (k .cs) (k .good) fp fit m
 
-  run-is : run ≡ R pairs rs (encode V1 (k .cs)) lines
+  pub run-is : run ≡ R pairs rs (encode V1 (k .cs)) lines
   run-is = ap (λ (i : List ℕ). recovering pairs rs i lines) (k .image-is)
 
-  good-new : GoodCards V1 new
+  pub good-new : GoodCards V1 new
   good-new = cards-good pairs rs (k .cs) (k .good) fp fit m (all-bytes pairs rs (k .cs) (k .good) fp fit m in-log)
 
-  image-new : run .image ≡ encode V1 new
+  pub image-new : run .image ≡ encode V1 new
   image-new =
       ap (λ (r : Recovery). r .image) run-is
       ∙ image-is pairs rs (k .cs) (k .good) fp fit lines (all-bytes pairs rs (k .cs) (k .good) fp fit lines short)

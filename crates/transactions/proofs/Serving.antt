@@ -66,8 +66,8 @@ module _ (cs : Cards) (s : Sent) (gc : GoodCards V1 cs) where
     there : c .card < length (cs .cards)
     there = ltb-true (c .card) (length (cs .cards)) (known .exists)
 
-    here : at (then cs s) (c .card) ≡ now
-    here =
+    pub stepped-here : at (then cs s) (c .card) ≡ now
+    stepped-here =
         ap (λ (n : ℕ). at (cardsBy V1 n cs s) (c .card)) z
         ∙ getD-set-same (cs .cards) (c .card) now (noCard V1) there
 
@@ -94,9 +94,9 @@ module _ (cs : Cards) (s : Sent) (gc : GoodCards V1 cs) where
           fits = eqb-true (c .expected .desk) (stored .mark .desk) (and-left (eqb (c .expected .desk) (stored .mark .desk)) _ (known .judged .mark));
           fresh = ltb-false (verifier c .x) (stored .pair .x) (or-fails (ltb (verifier c .x) (stored .pair .x)) (eqb (c .mode) exclusive && ltb (verifier c .s) (stored .pair .s)) (known .judged .fresh) .0);
           others = elsewhere;
-          mark = ap (λ (k : Card). k .mark) here ∙ now-mark;
-          x = ap (λ (k : Card). k .pair .x) here ∙ now-x;
-          text-is = λ l. ap (text l) here ∙ text-step stored c (payload V1 (s .command)) has l;
+          mark = ap (λ (k : Card). k .mark) stepped-here ∙ now-mark;
+          x = ap (λ (k : Card). k .pair .x) stepped-here ∙ now-x;
+          text-is = λ l. ap (text l) stepped-here ∙ text-step stored c (payload V1 (s .command)) has l;
         }
 
   pub kept : (n : ℕ) → numberOn V1 cs s ≡ suc n → then cs s ≡ cs
