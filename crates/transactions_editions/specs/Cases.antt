@@ -40,12 +40,12 @@ readIt y =
     let r = outcome y (command 2 0 (five 9) (five 9) noMark noMark [] (long 3)) in
     record { number = r .answer .number; text = take (r .answer .length) (r .reply) }
 
-abbrev pub readAfter : OneDesk → List (List Step) → List Shows
-readAfter y [] = []
-readAfter y (part ∷ parts) = readIt (afterSteps 5 y part) ∷ readAfter (afterSteps 5 y part) parts
+abbrev pub translationAfter : OneDesk → List (List Step) → List Shows
+translationAfter y [] = []
+translationAfter y (part ∷ parts) = readIt (afterSteps 5 y part) ∷ translationAfter (afterSteps 5 y part) parts
 
-abbrev pub gets : ℕ → List ℕ → Shows
-gets number text = record { number = number; text = text }
+abbrev pub readerGets : ℕ → List ℕ → Shows
+readerGets number text = record { number = number; text = text }
 
 abbrev pub together : List (List Step)
 together = writtenTwice ∷ makesReady both ∷ commitsIt ∷ originalOut ∷ translationOut ∷ releasedAt (five 4) ∷ []
@@ -56,9 +56,9 @@ originalAlone = writtenTwice ∷ makesReady single ∷ commitsIt ∷ originalOut
 pub record DropsChanged : Type 0 where
   pub rules : inOrder atFirst together ≡ true
   -- the old one, nothing while the card is marked, the new one
-  pub reads : readAfter atFirst together ≡ gets 0 text380 ∷ gets 4 [] ∷ gets 4 [] ∷ gets 4 [] ∷ gets 4 [] ∷ gets 0 text401 ∷ []
+  pub reads : translationAfter atFirst together ≡ readerGets 0 text380 ∷ readerGets 4 [] ∷ readerGets 4 [] ∷ readerGets 4 [] ∷ readerGets 4 [] ∷ readerGets 0 text401 ∷ []
   pub current : currentAlong 5 atFirst (currentIn (atFirst .image)) (writtenTwice ++ (makesReady both ++ commitsIt)) 0 ≡ true
   -- the original alone: the translation is behind from the commit on, and no reader is shown it
   pub rules-alone : inOrder atFirst originalAlone ≡ true
-  pub reads-alone : readAfter atFirst originalAlone ≡ gets 0 text380 ∷ gets 4 [] ∷ gets 4 [] ∷ gets 4 [] ∷ gets 6 [] ∷ []
+  pub reads-alone : translationAfter atFirst originalAlone ≡ readerGets 0 text380 ∷ readerGets 4 [] ∷ readerGets 4 [] ∷ readerGets 4 [] ∷ readerGets 6 [] ∷ []
   pub behind : currentAlong 5 atFirst (currentIn (atFirst .image)) (writtenTwice ++ (makesReady single ++ commitsIt)) 0 ≡ false
