@@ -1,4 +1,5 @@
--- What is claimed of a redo log over its life: an append that is made in parts, a byte that is not what was stored, and a log that begins again. Proved in proofs/Life.antt.
+-- What is claimed of a redo log over its life: an append that is made in parts, a byte that is not what was stored, and
+-- a log that begins again. Proved in proofs/Life.antt.
 -- Assumes nothing.
 use Prim.Native.Nat.{ℕ, suc, _+_, _≤_, _<_}
 use mathlib.Core.Path.{_≡_}
@@ -10,7 +11,8 @@ use Rattle.lists.specs.Parts.{Bytes}
 use Rattle.redo_log.specs.Log.{LogRecord, BAD-LOG, recordCount, linePlace, lineSize, startAt, goodLog, logNumber, records}
 use Rattle.redo_log.specs.Append.{APPEND-CUT, stored, puts, appendNumber, appended}
 
--- Rules 11.23 and 16.14: an append that is cut, and then made again with no smaller budget, is the append with that budget.
+-- Rules 11.23 and 16.14: an append that is cut, and then made again with no smaller budget, is the append with that
+-- budget.
 abbrev pub AppendResumes : Type 0
 AppendResumes =
     (budget more : ℕ) (log : List ℕ) (r : LogRecord) → budget ≤ more → appendNumber budget log r ≡ APPEND-CUT
@@ -20,7 +22,8 @@ AppendResumes =
 abbrev pub Outside : ℕ → ℕ → ℕ → Type 0
 Outside at size j = (j < at) ⊎ (at + size ≤ j)
 
--- Rule 11.24: the first stores, as many as the body is long, change the body's place alone; the next 11 change the line alone; the last one changes the count alone.
+-- Rule 11.24: the first stores, as many as the body is long, change the body's place alone; the next 11 change the line
+-- alone; the last one changes the count alone.
 pub record InThree (log : List ℕ) (r : LogRecord) : Type 0 where
   pub body : (j : ℕ) → Outside (startAt log (recordCount log)) (length (r .body)) j → getD (appended (length (r .body)) log r) j 0 ≡ getD log j 0
   pub line :
@@ -41,7 +44,8 @@ ByteChanged =
     → (byte ≡ getD log place 0 → ⊥)
     → logNumber (set log place byte) ≡ BAD-LOG
 
--- Rule 11.26: a log begins again by one store, which sets its count to 0. So it may be cut before that store or after it, and nowhere else.
+-- Rule 11.26: a log begins again by one store, which sets its count to 0. So it may be cut before that store or after
+-- it, and nowhere else.
 abbrev pub renewed : List ℕ → List ℕ
 renewed log = stored (puts 0 (0 ∷ [])) log
 

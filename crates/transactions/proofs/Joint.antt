@@ -1,4 +1,5 @@
--- Many desks over one store: each keeps what one desk keeps, and the texts that are meant are the same for all. Assumes nothing.
+-- Many desks over one store: each keeps what one desk keeps, and the texts that are meant are the same for all. Assumes
+-- nothing.
 use Prim.Native.Nat.{ℕ, zero, suc}
 use native.Mathlib.Omega.{arith}
 use mathlib.Core.Path.{_≡_, refl, sym, ap, _∙_, subst}

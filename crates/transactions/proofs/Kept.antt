@@ -36,7 +36,8 @@ Clear rs k = (l : Language) (i : ℕ) → rewrites rs l k i ≡ false
 abbrev pub Reached : List LogRecord → ℕ → ℕ → Card → Type 0
 Reached rs k n card = (l : Language) → rewritten rs l k n (text l card) ≡ text l card
 
--- What is left to write from line n on leaves the texts that are due: a later line rewrites a text, or the first n are written out there.
+-- What is left to write from line n on leaves the texts that are due: a later line rewrites a text, or the first n are
+-- written out there.
 abbrev pub Later : List LogRecord → Language → ℕ → ℕ → Type 0
 Later rs l k n = (i : ℕ) × (n ≤ i) × (rewrites rs l k i ≡ true)
 
@@ -54,7 +55,8 @@ cardFor o = commandIn (o .sent) .card
 abbrev pub relies : Order → ℕ
 relies o = verifier (commandIn (o .sent)) .x
 
--- A write that is accepted on a card under the mark: its line is due, it writes what the line says, and what is left then is what comes after it.
+-- A write that is accepted on a card under the mark: its line is due, it writes what the line says, and what is left
+-- then is what comes after it.
 pub record Ready (rs : List LogRecord) (k : ℕ) (card : Card) (o : Order) : Type 0 where
   pub within : o .line < length rs
   pub place : (l : Language) → rewrites rs l k (o .line) ≡ writes l (commandIn (o .sent))
@@ -78,7 +80,8 @@ pub record Told (d : ℕ) (rs : List LogRecord) (k : ℕ) (card : Card) (v : Sho
   pub low : v .x ≤ card .pair .x
   pub reached : card .pair .x ≤ v .x → bears d card ≡ true → Onward rs k (v .reach) card
 
--- A card that is held bears the mark, every order for it is stale, and no answer that is not overtaken says that lines are written out.
+-- A card that is held bears the mark, every order for it is stale, and no answer that is not overtaken says that lines
+-- are written out.
 pub record Held (d : ℕ) (orders : List Order) (shown : List Shown) (k : ℕ) (card : Card) : Type 0 where
   pub bearing : bears d card ≡ true
   pub stale : All (λ (o : Order). cardFor o ≡ k → relies o < card .pair .x) orders

@@ -51,7 +51,8 @@ free-of d rs orders shown k card free e w = w
 
 -- ---- one record more, by what it changes on each card
 
--- What a record more changes for card j: nothing; or the card does not bear the mark, and no line becomes due for it; or the card is held.
+-- What a record more changes for card j: nothing; or the card does not bear the mark, and no line becomes due for it;
+-- or the card is held.
 pub data Change (d : ℕ) (rs : List LogRecord) (r : LogRecord) (meant new : Language → List ℕ) (j : ℕ) (card : Card) (g : Holding) : Type 0 where
   unchanged : ((l : Language) (i : ℕ) → rewrites (more rs r) l j i ≡ rewrites rs l j i) → ((l : Language) → meant l ≡ new l) → Change d rs r meant new j card g
   unmarked : bears d card ≡ false → (Clear rs j → Clear (more rs r) j) → ((l : Language) → meant l ≡ new l) → Change d rs r meant new j card g

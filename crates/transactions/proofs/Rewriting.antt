@@ -1,4 +1,5 @@
--- What holds at every moment is kept by a recovery, wherever it stops or is cut: it writes cards that bear the mark, and their x rises. Assumes nothing.
+-- What holds at every moment is kept by a recovery, wherever it stops or is cut: it writes cards that bear the mark,
+-- and their x rises. Assumes nothing.
 use Prim.Native.Nat.{ℕ, zero, suc, _≤_, _<_, max}
 use native.Mathlib.Omega.{arith}
 use mathlib.Core.Path.{_≡_, refl, sym, ap, _∙_, subst}
@@ -87,7 +88,8 @@ module _ (pairs : Pairs) (rs : List LogRecord) (cs : Cards) (gc : GoodCards V1 c
             whole = λ z. absurd (omega (arith, e, z));
           }
 
-  -- One card behind i lines of which none was refused: it is as it was, and none of them is due for it; or one of them is, and the card has its mark and the larger x.
+  -- One card behind i lines of which none was refused: it is as it was, and none of them is due for it; or one of them
+  -- is, and the card has its mark and the larger x.
   data Moved (i k : ℕ) : Type 0 where
     untouched : at (left i) k ≡ at cs k → ((j : ℕ) → j < i → dueFor rs k j ≡ false) → Moved i k
     touched : (j : ℕ) → j < i → dueFor rs k j ≡ true → at (left i) k .mark ≡ at cs k .mark → at (left i) k .pair .x ≡ max (at cs k .pair .x) (recoveryPair pairs k .x) → Moved i k

@@ -1,4 +1,5 @@
--- One request on cards by the rules: what an accepted one makes of its card, and what its answer shows. Assumes nothing.
+-- One request on cards by the rules: what an accepted one makes of its card, and what its answer shows. Assumes
+-- nothing.
 use Prim.Native.Nat.{ℕ, zero, suc, _≤_, _<_, max}
 use native.Mathlib.Omega.{arith}
 use mathlib.Core.Path.{_≡_, refl, sym, ap, _∙_, subst}

@@ -56,7 +56,8 @@ abbrev pub AllSteps : List Step → Type 0
 AllSteps [] = Unit {0}
 AllSteps (m ∷ steps) = StepBytes m × AllSteps steps
 
--- A store to begin with: a sound image, whatever stands there, on which no card bears a mark of a desk that is under the rules. Desk 0, which is none, is not.
+-- A store to begin with: a sound image, whatever stands there, on which no card bears a mark of a desk that is under
+-- the rules. Desk 0, which is none, is not.
 pub record Clean (ruled : ℕ → Bool) (image : List ℕ) : Type 0 where
   pub nobody : ruled 0 ≡ false
   pub sounds : sound V1 image ≡ true
@@ -89,8 +90,8 @@ pub record Moment (d : ℕ) (y : OneDesk) : Type 0 where
 
 -- ---- the store with marks and a log is a store in which a commit is one step
 
--- Rule 16.11, the texts that stand by the texts that are meant: the same on a card that does not bear the desk's mark; on one that does, the same once the updates that are due
--- are applied.
+-- Rule 16.11, the texts that stand by the texts that are meant: the same on a card that does not bear the desk's mark;
+-- on one that does, the same once the updates that are due are applied.
 pub record Refines (d : ℕ) (y : OneDesk) : Type 0 where
   pub sounds : sound V1 (y .image) ≡ true
   pub good : goodLog (y .log) ≡ true
@@ -102,8 +103,9 @@ pub record Refines (d : ℕ) (y : OneDesk) : Type 0 where
 abbrev pub CommitsAtOnce : Type 0
 CommitsAtOnce = (d : ℕ) (y : OneDesk) → Moment d y → Refines d y
 
--- Rule 16.2: what is meant changes by somebody else's accepted write and by a commit whose last byte is stored, and by nothing else: not by an order, when it is sent or when it arrives,
--- not by an append that is cut or of another kind, not by a crash, a recovery or a log that begins again.
+-- Rule 16.2: what is meant changes by somebody else's accepted write and by a commit whose last byte is stored, and by
+-- nothing else: not by an order, when it is sent or when it arrives, not by an append that is cut or of another kind,
+-- not by a crash, a recovery or a log that begins again.
 pub record OnlyThen (d : ℕ) (y : OneDesk) : Type 0 where
   pub refused : (s : Sent) (n : ℕ) → outcome y s .answer .number ≡ suc n → afterStep d y (other s) .meant ≡ y .meant
   pub unwritten : (s : Sent) → isWrite (commandIn s) ≡ false → afterStep d y (other s) .meant ≡ y .meant
@@ -118,7 +120,8 @@ pub record OnlyThen (d : ℕ) (y : OneDesk) : Type 0 where
 abbrev pub MeantOnlyThen : Type 0
 MeantOnlyThen = (d : ℕ) (y : OneDesk) → OnlyThen d y
 
--- Rule 16.4: once an order is accepted, no order for its card that was sent before is accepted, that one itself included, however late or often it comes.
+-- Rule 16.4: once an order is accepted, no order for its card that was sent before is accepted, that one itself
+-- included, however late or often it comes.
 abbrev pub OrdersOnce : Type 0
 OrdersOnce =
     (d : ℕ) (y : OneDesk) (i j : ℕ) → Moment d y
@@ -130,8 +133,8 @@ OrdersOnce =
 
 -- ---- recovery
 
--- Rule 16.13: recovery (rules 11.15 to 11.19), run on the store at any moment at which every card with an update due bears the desk's mark, leaves on each card the text that is
--- meant, if no write of it is refused.
+-- Rule 16.13: recovery (rules 11.15 to 11.19), run on the store at any moment at which every card with an update due
+-- bears the desk's mark, leaves on each card the text that is meant, if no write of it is refused.
 abbrev pub RecoversMeant : Type 0
 RecoversMeant =
     (d : ℕ) (y : OneDesk) → Moment d y → (pairs : Pairs) → FitsPairs pairs
@@ -152,8 +155,9 @@ ShowsAll d y texts =
 abbrev pub ReadsMeant : Type 0
 ReadsMeant = (d : ℕ) (y : OneDesk) → Moment d y → ShowsAll d y (y .meant)
 
--- Rule 16.12: a transaction is seen whole or not at all: up to the store that makes its commit count, reads show the texts before it, on all cards; after it, until another change is
--- accepted, they show these texts with all its updates applied, on all cards.
+-- Rule 16.12: a transaction is seen whole or not at all: up to the store that makes its commit count, reads show the
+-- texts before it, on all cards; after it, until another change is accepted, they show these texts with all its updates
+-- applied, on all cards.
 abbrev pub NeverHalf : Type 0
 NeverHalf =
     (d : ℕ) (y : OneDesk) (budget : ℕ) (r : LogRecord) (later : List Step) → Moment d y

@@ -1,4 +1,5 @@
--- Many desks, each with a log and marks of its own, over one store: every one of them is somebody else to the others. A commit of any of them is one step.
+-- Many desks, each with a log and marks of its own, over one store: every one of them is somebody else to the others. A
+-- commit of any of them is one step.
 -- Assumes nothing.
 use Prim.Native.Nat.{ℕ, suc}
 use mathlib.Core.Path.{_≡_}
@@ -133,7 +134,8 @@ pub record DesksMoment (ruled : ℕ → Bool) (y : Desks) : Type 0 where
   pub rules : lawfulDeskSteps ruled (desksOpening image logs) steps ≡ true
   pub led : afterDeskSteps (desksOpening image logs) steps ≡ y
 
--- Rule 16.11, the texts that stand by the texts that are meant: on a card with the mark of a desk under the rules, with what is due by that desk's log applied.
+-- Rule 16.11, the texts that stand by the texts that are meant: on a card with the mark of a desk under the rules, with
+-- what is due by that desk's log applied.
 pub record DesksRefine (ruled : ℕ → Bool) (y : Desks) : Type 0 where
   pub sounds : sound V1 (y .image) ≡ true
   pub good : (d : ℕ) → ruled d ≡ true → goodLog (y .part d .log) ≡ true
@@ -145,7 +147,8 @@ pub record DesksRefine (ruled : ℕ → Bool) (y : Desks) : Type 0 where
 abbrev pub DesksCommitAtOnce : Type 0
 DesksCommitAtOnce = (ruled : ℕ → Bool) (y : Desks) → DesksMoment ruled y → DesksRefine ruled y
 
--- Rule 16.2: what is meant changes by an accepted write from outside and by a commit whose last byte is stored, whichever desk's it is, and by nothing else.
+-- Rule 16.2: what is meant changes by an accepted write from outside and by a commit whose last byte is stored,
+-- whichever desk's it is, and by nothing else.
 pub record DesksOnlyThen (y : Desks) : Type 0 where
   pub refused : (s : Sent) (n : ℕ) → serve V1 (y .image) (s .command) (s .lent) .answer .number ≡ suc n → afterDeskStep y (outside s) .meant ≡ y .meant
   pub unwritten : (s : Sent) → isWrite (commandIn s) ≡ false → afterDeskStep y (outside s) .meant ≡ y .meant

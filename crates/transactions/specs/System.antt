@@ -1,7 +1,9 @@
--- One desk that changes several cards at once, by its log and its commit marks, over one store that everybody uses: what there is, what can happen, and when
--- it is by the rules (docs/RULES.md, section 16; 003, section 3.4.2: Prepare, Commit, syncing, recovery). Of version 1. The desk is told by its number d, that of its marks (rule 16.1).
--- A command of the desk may be late, lost or repeated, those of its earlier starts too: it is sent by one step, and arrives by a step of its own, if
--- ever and however often. An answer that is given may be heard at once, later or never: the rules say what an answer allows, not that it is heard.
+-- One desk that changes several cards at once, by its log and its commit marks, over one store that everybody uses:
+-- what there is, what can happen, and when it is by the rules (docs/RULES.md, section 16; 003, section 3.4.2: Prepare,
+-- Commit, syncing, recovery). Of version 1. The desk is told by its number d, that of its marks (rule 16.1). A command
+-- of the desk may be late, lost or repeated, those of its earlier starts too: it is sent by one step, and arrives by a
+-- step of its own, if ever and however often. An answer that is given may be heard at once, later or never: the rules
+-- say what an answer allows, not that it is heard.
 -- Assumes nothing.
 use Prim.Native.Nat.{ℕ, zero, suc}
 use mathlib.Core.List.{List, [], _∷_}
@@ -28,26 +30,29 @@ use Rattle.recovery_model.specs.Claims.{textIn, sideIs}
 
 -- ---- what there is
 
--- Rule 16.3: a command that the desk sent under its own mark; where it writes, with the line of the log that it writes out.
+-- Rule 16.3: a command that the desk sent under its own mark; where it writes, with the line of the log that it writes
+-- out.
 pub record Order : Type 0 where
   pub sent : Sent
   pub line : ℕ
 
--- What an answer for a card shows of it: the stored x, and how many lines of the log are written out there (0: nothing is known of it).
+-- What an answer for a card shows of it: the stored x, and how many lines of the log are written out there (0: nothing
+-- is known of it).
 pub record Shown : Type 0 where
   pub card : ℕ
   pub x : ℕ
   pub reach : ℕ
 
--- What the desk may know of a card (rules 16.8 and 16.9), from the answers that were given since it last sent an order for that card: nothing; it was prepared; it does not bear the
--- desk's mark.
+-- What the desk may know of a card (rules 16.8 and 16.9), from the answers that were given since it last sent an order
+-- for that card: nothing; it was prepared; it does not bear the desk's mark.
 pub data Holding : Type 0 where
   unknown : Holding
   held : Holding
   free : Holding
 
--- The bytes of the store and of the desk's log; the text that is meant to stand on each card in each language, which is the atomic store's whole state (rule 16.2); every
--- order sent so far and what every answer has shown, latest first; and what the desk knows of each card.
+-- The bytes of the store and of the desk's log; the text that is meant to stand on each card in each language, which is
+-- the atomic store's whole state (rule 16.2); every order sent so far and what every answer has shown, latest first;
+-- and what the desk knows of each card.
 pub record OneDesk : Type 0 where
   pub image : List ℕ
   pub log : List ℕ
@@ -66,15 +71,18 @@ oneDeskOpening image log =
 pub data Step : Type 0 where
   -- lent bytes of somebody else, or of the desk under no mark of its own, reach the store
   other : (s : Sent) → Step
-  -- the desk sends an order, on the word of the answer with this number; where it writes, it writes out this line of the log
+  -- the desk sends an order, on the word of the answer with this number; where it writes, it writes out this line of
+  -- the log
   order : (s : Sent) (line from : ℕ) → Step
   -- the order with this number reaches the store, perhaps not for the first time
   arrive : (i : ℕ) → Step
   -- the desk appends a record to its log, and the power may fail after so many stores
   append : (budget : ℕ) (r : LogRecord) → Step
-  -- rule 16.10: the desk goes down and starts again, and no card is held or free to it; answers that were given are still under way
+  -- rule 16.10: the desk goes down and starts again, and no card is held or free to it; answers that were given are
+  -- still under way
   crash : Step
-  -- rule 16.13: recovery (rule 11.18) goes through the first so many lines of the log, under these pairs; it may be cut behind any of them
+  -- rule 16.13: recovery (rule 11.18) goes through the first so many lines of the log, under these pairs; it may be cut
+  -- behind any of them
   recover : (pairs : Pairs) (lines : ℕ) → Step
   -- rule 16.18: the desk's log begins again (rule 11.26)
   renew : Step
@@ -97,7 +105,8 @@ expects d c = eqb (c .expected .desk) d
 abbrev pub leaves : ℕ → Command → Bool
 leaves d c = eqb (c .next .desk) d
 
--- Rule 16.3, the three kinds of orders: one prepares a card that bears no mark, one writes to a card under the desk's mark, one takes the mark off.
+-- Rule 16.3, the three kinds of orders: one prepares a card that bears no mark, one writes to a card under the desk's
+-- mark, one takes the mark off.
 abbrev pub prepares : ℕ → Command → Bool
 prepares d c = not (isWrite c) && eqb (c .expected .desk) 0 && leaves d c
 
@@ -155,11 +164,13 @@ noShown = record { card = 0; x = 0; reach = 0 }
 
 -- ---- when it is by the rules
 
--- Rule 16.4: every order opens a session of its own: its verifier has the x that an answer for its card has shown, and its update pair has a larger one.
+-- Rule 16.4: every order opens a session of its own: its verifier has the x that an answer for its card has shown, and
+-- its update pair has a larger one.
 abbrev pub opensAbove : Command → Shown → Bool
 opensAbove c v = eqb (v .card) (c .card) && eqb (verifier c .x) (v .x) && ltb (v .x) (update c .x)
 
--- Rules 16.5, 16.7 and 16.6: a card is prepared when nothing is due for it. It is released when all is written out. A line that is due is written when those before it are written out.
+-- Rules 16.5, 16.7 and 16.6: a card is prepared when nothing is due for it. It is released when all is written out. A
+-- line that is due is written when those before it are written out.
 abbrev pub orderly : ℕ → List LogRecord → Sent → ℕ → ℕ → Bool
 orderly d rs s line reach =
     prepares d (commandIn s) && writtenOut rs (commandIn s .card) 0 (length rs)
@@ -167,8 +178,9 @@ orderly d rs s line reach =
     || writesOut d (commandIn s)
     && (dueFor rs (commandIn s .card) line && writtenOut rs (commandIn s .card) reach line && writesLine s (recordIn rs line))
 
--- Rules 16.8 and 16.9: a commit is appended when every card that its transaction updates is held; a synced record when its card is free or nothing of it is due, for a transaction that is committed. A begin
--- and an update may be appended at any time.
+-- Rules 16.8 and 16.9: a commit is appended when every card that its transaction updates is held; a synced record when
+-- its card is free or nothing of it is due, for a transaction that is committed. A begin and an update may be appended
+-- at any time.
 abbrev pub appendable : (ℕ → Holding) → List LogRecord → LogRecord → Bool
 appendable holds rs r =
     cond (eqb (r .kind) commitKind)
@@ -177,7 +189,8 @@ appendable holds rs r =
     ((isFree (holds (recordCard r)) || writtenOut rs (recordCard r) 0 (length rs)) && any (commitsTo (recordTransaction r)) rs)
     true)
 
--- Rule 16.13: where line i is due, its card bears the desk's mark, and the x that recovery is given for the card is larger than the stored one.
+-- Rule 16.13: where line i is due, its card bears the desk's mark, and the x that recovery is given for the card is
+-- larger than the stored one.
 abbrev pub rewritable : ℕ → List ℕ → List LogRecord → Pairs → ℕ → Bool
 rewritable d image rs pairs i =
     not (due rs i)
@@ -232,7 +245,8 @@ noting k h holds j = cond (eqb j k) h (holds j)
 abbrev pub reachOf : Order → Answer → ℕ
 reachOf o a = cond (isWrite (commandIn (o .sent))) (settled (a .number) (suc (o .line)) 0) 0
 
--- What a recovery shows that answers 0: each card that it wrote has the x that it was given, and all lines that it went through are written out.
+-- What a recovery shows that answers 0: each card that it wrote has the x that it was given, and all lines that it went
+-- through are written out.
 unfoldable pub shownBy : Pairs → List LogRecord → ℕ → ℕ → List Shown → List Shown
 shownBy pairs rs reach zero shown = shown
 shownBy pairs rs reach (suc i) shown =

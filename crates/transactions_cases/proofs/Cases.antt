@@ -34,7 +34,7 @@ use Rattle.recovery_model.specs.Claims.{rewritten}
 use Rattle.transactions.specs.System.{OneDesk, Step, other, order, arrive, append, crash, recover, renew, lawful, withUpdates, shownBy, afterStep, afterSteps, lawfulAll}
 use Rattle.model.specs.Cases.{text205, text401}
 use Rattle.transactions.specs.Desks.{Desks, DeskStep, own, lawfulDeskStep, afterDeskStep, afterDeskSteps, lawfulDeskSteps}
-use Rattle.transactions_cases.specs.Cases.{begins, preparesBoth, commits, Ordinary, Cut, CrashRecovered, Hazard, rewritesHalf, rewritesAll, Rewritten, Renewed, atFirst, agrees, BrokenAt, OrderRulesNeeded, Seen, seeing, text190, text380, text210, logs, bothRuled, twoDesks, bothBegin, sixCommits, sixFinishes, fiveCommits, seeDesks, TwoDesks}
+use Rattle.transactions_cases.specs.Cases.{begins, preparesBoth, commits, Ordinary, Cut, CrashRecovered, Hazard, rewritesHalf, rewritesAll, Rewritten, Renewed, atFirst, agrees, BrokenAt, OrderRulesNeeded, Seen, seeing, text190, text380, text210, logs, bothRuled, twoDesks, bothBegin, sixCommits, sixFinishes, fiveCommits, seeDesks, TwoDesks, writesOut0, releases0, syncs0, finishes1, Shows, readNow, five, see, seenAfter, inOrder, afterAll}
 
 -- Numbers below a bound, by a test of each.
 unfoldable pub belowTest : ℕ → List ℕ → Bool
@@ -131,9 +131,98 @@ met =
       led = refl;
     }
 
+-- Each run is walked once, and what is asked of it follows.
+record Walked : Type 0 where
+  world : OneDesk
+  rules : Bool
+
+walk : OneDesk → List Step → Walked
+walk y [] = record { world = y; rules = true }
+walk y (m ∷ steps) = let rest = walk (afterStep 5 y m) steps in record { world = rest .world; rules = lawful 5 y m && rest .rules }
+
+walk-is : (y : OneDesk) (steps : List Step) → (walk y steps .world ≡ afterSteps 5 y steps) × (walk y steps .rules ≡ lawfulAll 5 y steps)
+unfolding afterSteps lawfulAll walk
+walk-is y [] = (refl, refl)
+walk-is y (m ∷ steps) = let rest = walk-is (afterStep 5 y m) steps in (rest .0, ap (λ (b : Bool). lawful 5 y m && b) (rest .1))
+
+-- A run in parts, walked once: what is seen after each part, and whether all of it is by the rules.
+record WalkedParts : Type 0 where
+  end : OneDesk
+  rules : Bool
+  sees : List Seen
+
+walkParts : OneDesk → List (List Step) → WalkedParts
+walkParts y [] = record { end = y; rules = true; sees = [] }
+walkParts y (part ∷ parts) =
+    let a = walk y part in
+    let rest = walkParts (a .world) parts in
+    record { end = rest .end; rules = a .rules && rest .rules; sees = see (a .world) ∷ rest .sees }
+
+record PartsAre (y : OneDesk) (parts : List (List Step)) : Type 0 where
+  end-is : afterAll y parts ≡ walkParts y parts .end
+  rules-are : inOrder y parts ≡ walkParts y parts .rules
+  sees-are : seenAfter y parts ≡ walkParts y parts .sees
+
+parts-are : (y : OneDesk) (parts : List (List Step)) → PartsAre y parts
+unfolding walkParts
+parts-are y [] = record { end-is = refl; rules-are = refl; sees-are = refl }
+parts-are y (part ∷ parts) =
+    let a = walk-is y part in
+    let z : OneDesk = walk y part .world in
+    let rest = parts-are z parts in
+    record {
+      end-is = ap (λ (w : OneDesk). afterAll w parts) (sym (a .0)) ∙ rest .end-is;
+      rules-are = ap (λ (b : Bool). b && inOrder (afterSteps 5 y part) parts) (sym (a .1)) ∙ ap (λ (w : OneDesk). walk y part .rules && inOrder w parts) (sym (a .0)) ∙ ap (λ (b : Bool). walk y part .rules && b) (rest .rules-are);
+      sees-are = ap (λ (w : OneDesk). see w ∷ seenAfter w parts) (sym (a .0)) ∙ ap (λ (l : List Seen). see z ∷ l) (rest .sees-are);
+    }
+
+-- The whole of an ordinary run; and its first five parts, with two reads.
+abbrev wholeRun : List (List Step)
+wholeRun = begins ∷ preparesBoth ∷ commits ∷ writesOut0 ∷ releases0 ∷ syncs0 ∷ finishes1 ∷ []
+
+abbrev between : List (List Step)
+between = begins ∷ preparesBoth ∷ commits ∷ writesOut0 ∷ releases0 ∷ []
+
+abbrev readsBetween : OneDesk → Shows × Shows
+readsBetween y = (readNow y 0 (five 4), readNow y 1 (five 2))
+
+abbrev told : WalkedParts → Bool × List Seen
+told w = (w .rules, w .sees)
+
+abbrev toldWhole : Bool × List Seen
+toldWhole = (
+  true,
+  seeing text190 text380 text190 text380
+      ∷ seeing text190 text380 text190 text380
+      ∷ seeing text190 text380 text205 text401
+      ∷ seeing text205 text380 text205 text401
+      ∷ seeing text205 text380 text205 text401
+      ∷ seeing text205 text380 text205 text401
+      ∷ seeing text205 text401 text205 text401
+      ∷ [],
+)
+
+walked-whole : told (walkParts atFirst wholeRun) ≡ toldWhole
+unfolding walkParts walk lawfulAll afterSteps afterStep withUpdates rewritten due stored puts lineBytes stores appended shaped lastBegun opened follows total startAt recordAt recordOk goodLog records serve serveBy stepped sound headerSound cardSound translationSound tailZero decode cardAt entryAt readEntry encode bodies pad entryBytes header shapeOk fresh replied raise entrySound commandBytes formed payload fieldsOf wellFormed all allFrom le toLe part splice table spread every zeros
+walked-whole = refl
+
+abbrev readBetween : Shows × Shows
+readBetween = (record { number = 0; text = text205 }, record { number = 4; text = [] })
+
+walked-between : readsBetween (walkParts atFirst between .end) ≡ readBetween
+unfolding walkParts walk lawfulAll afterSteps afterStep withUpdates rewritten due stored puts lineBytes stores appended shaped lastBegun opened follows total startAt recordAt recordOk goodLog records serve serveBy stepped sound headerSound cardSound translationSound tailZero decode cardAt entryAt readEntry encode bodies pad entryBytes header shapeOk fresh replied raise entrySound commandBytes formed payload fieldsOf wellFormed all allFrom le toLe part splice table spread every zeros
+walked-between = refl
+
 pub ordinary : Ordinary
-unfolding lawfulAll afterSteps afterStep withUpdates rewritten due stored puts lineBytes stores appended shaped lastBegun opened follows total startAt recordAt recordOk goodLog records serve serveBy stepped sound headerSound cardSound translationSound tailZero decode cardAt entryAt readEntry encode bodies pad entryBytes header shapeOk fresh replied raise entrySound commandBytes formed payload fieldsOf wellFormed all allFrom le toLe part splice table spread every zeros
-ordinary = record { rules = refl; sees = refl; new = refl; marked = refl }
+ordinary =
+    let w = parts-are atFirst wholeRun in
+    let b = parts-are atFirst between in
+    record {
+      rules = w .rules-are ∙ ap (λ (q : Bool × List Seen). q .0) walked-whole;
+      sees = w .sees-are ∙ ap (λ (q : Bool × List Seen). q .1) walked-whole;
+      new = ap (λ (y : OneDesk). readNow y 0 (five 4)) (b .end-is) ∙ ap (λ (q : Shows × Shows). q .0) walked-between;
+      marked = ap (λ (y : OneDesk). readNow y 1 (five 2)) (b .end-is) ∙ ap (λ (q : Shows × Shows). q .1) walked-between;
+    }
 
 pub cut : Cut
 unfolding lawfulAll afterSteps afterStep withUpdates rewritten due stored puts lineBytes stores appended shaped lastBegun opened follows total startAt recordAt recordOk goodLog records serve serveBy stepped sound headerSound cardSound translationSound tailZero decode cardAt entryAt readEntry encode bodies pad entryBytes header shapeOk fresh replied raise entrySound commandBytes formed payload fieldsOf wellFormed all allFrom le toLe part splice table spread every zeros
@@ -154,20 +243,6 @@ rewritten-twice = record { rules = refl; sees = refl; met = met }
 pub renewed-log : Renewed
 unfolding lawfulAll afterSteps afterStep withUpdates rewritten due stored puts lineBytes stores appended shaped lastBegun opened follows total startAt recordAt recordOk goodLog records serve serveBy stepped sound headerSound cardSound translationSound tailZero decode cardAt entryAt readEntry encode bodies pad entryBytes header shapeOk fresh replied raise entrySound commandBytes formed payload fieldsOf wellFormed all allFrom le toLe part splice table spread every zeros
 renewed-log = record { rules = refl; sees = refl; lines = refl }
-
--- Each run is walked once, and what is asked of it follows.
-record Walked : Type 0 where
-  world : OneDesk
-  rules : Bool
-
-walk : OneDesk → List Step → Walked
-walk y [] = record { world = y; rules = true }
-walk y (m ∷ steps) = let rest = walk (afterStep 5 y m) steps in record { world = rest .world; rules = lawful 5 y m && rest .rules }
-
-walk-is : (y : OneDesk) (steps : List Step) → (walk y steps .world ≡ afterSteps 5 y steps) × (walk y steps .rules ≡ lawfulAll 5 y steps)
-unfolding afterSteps lawfulAll walk
-walk-is y [] = (refl, refl)
-walk-is y (m ∷ steps) = let rest = walk-is (afterStep 5 y m) steps in (rest .0, ap (λ (b : Bool). lawful 5 y m && b) (rest .1))
 
 after-more : (y : OneDesk) (a b : List Step) → afterSteps 5 y (a ++ b) ≡ afterSteps 5 (afterSteps 5 y a) b
 unfolding afterSteps

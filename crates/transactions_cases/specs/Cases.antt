@@ -1,10 +1,11 @@
--- Worked runs of desk 5, by computation on bytes: an ordinary one, a commit that is cut, a crash with its recovery, the hazard of an update that was written out
--- but not noted as synced; and for each rule a run in which it alone is broken, and with it the claim. Proved in proofs/Cases.antt.
+-- Worked runs of desk 5, by computation on bytes: an ordinary one, a commit that is cut, a crash with its recovery, the
+-- hazard of an update that was written out but not noted as synced; and for each rule a run in which it alone is
+-- broken, and with it the claim. Proved in proofs/Cases.antt.
 -- Assumes nothing.
 use Prim.Native.Nat.{ℕ}
 use mathlib.Core.Path.{_≡_}
 use mathlib.Core.List.{List, [], _∷_, _++_}
-use mathlib.Core.Bool.{Bool, true, false, cond, _||_}
+use mathlib.Core.Bool.{Bool, true, false, cond, _&&_, _||_}
 use lib.ListN.{length, take, drop}
 use lib.Dec.{eqb}
 use Rattle.formats.specs.Format.{V1}
@@ -96,7 +97,7 @@ seenAfter y (part ∷ parts) = see (afterSteps 5 y part) ∷ seenAfter (afterSte
 
 abbrev pub inOrder : OneDesk → List (List Step) → Bool
 inOrder y [] = true
-inOrder y (part ∷ parts) = cond (lawfulAll 5 y part) (inOrder (afterSteps 5 y part) parts) false
+inOrder y (part ∷ parts) = lawfulAll 5 y part && inOrder (afterSteps 5 y part) parts
 
 abbrev pub afterAll : OneDesk → List (List Step) → OneDesk
 afterAll y [] = y
@@ -164,7 +165,8 @@ pub record Ordinary : Type 0 where
 abbrev pub cutAt : ℕ → List Step
 cutAt stores = append stores (commitOf 1) ∷ crash ∷ []
 
--- Started again without its commit, the desk gives the transaction up: it finds both cards marked, and releases them as they are.
+-- Started again without its commit, the desk gives the transaction up: it finds both cards marked, and releases them as
+-- they are.
 abbrev pub givesUp : List Step
 givesUp =
     other (reading 0 (five 2))
@@ -190,7 +192,8 @@ pub record Cut : Type 0 where
 
 -- ---- a crash between the commit and the write-out, and recovery
 
--- An order of the first start comes once more, late. Started again, the desk reads its log back, asks for both cards, and writes out what is due.
+-- An order of the first start comes once more, late. Started again, the desk reads its log back, asks for both cards,
+-- and writes out what is due.
 abbrev pub recovers : List Step
 recovers =
     crash
@@ -224,7 +227,8 @@ pub record CrashRecovered : Type 0 where
 abbrev pub overtaken : List Step
 overtaken = crash ∷ writes1 0 (one 9) text210 ∷ []
 
--- By the rules the desk, started again, finds that the card does not bear its mark, and notes it as synced without a write.
+-- By the rules the desk, started again, finds that the card does not bear its mark, and notes it as synced without a
+-- write.
 abbrev pub notes : List Step
 notes = other (reading 0 (one 9)) ∷ logs (syncedOf 0 1) ∷ []
 
@@ -354,7 +358,8 @@ writeTranslated = sends (withPairs 4 exclusive 0 (pair 0 (five 2)) (pair 0 (five
 abbrev pub twice : List LogRecord
 twice = updateOf 0 1 text205 ∷ updateOf 0 1 text401 ∷ []
 
--- Two orders that open no session of their own, and so do not make each other stale: the first is repeated after the second.
+-- Two orders that open no session of their own, and so do not make each other stale: the first is repeated after the
+-- second.
 abbrev pub sessionless : ℕ → List ℕ → Step
 sessionless line text = order (writeOut 0 (five 2) (five 2) text) line 0
 
@@ -386,7 +391,8 @@ pub record OrderRulesNeeded : Type 0 where
   pub prepared-due : BrokenAt unnoted (order (prepare 0 (one 9) (five 10)) 0 0) (arrive 0 ∷ [])
   -- a release before the write-out
   pub unwritten : BrokenAt committed (order (release 0 (five 2) (five 3)) 0 0) (arrive 0 ∷ [])
-  -- a write of a line that is not due, before the commit; of another text than the line's; of a line with one before it that is not written out
+  -- a write of a line that is not due, before the commit; of another text than the line's; of a line with one before it
+  -- that is not written out
   pub not-due : BrokenAt (ready single) (order (writeOut 0 (five 2) (five 3) text205) 1 0) (arrive 0 ∷ [])
   pub other-text : BrokenAt committed (order (writeOut 0 (five 2) (five 3) text401) 1 0) releasesNext
   pub passed-over : BrokenAt (ready both ++ (logs (commitOf 1) ∷ [])) (order writeTranslated 2 0) releasesNext
@@ -415,7 +421,8 @@ pub record OrderRulesNeeded : Type 0 where
       ∷ [])
   -- orders that open no session of their own
   pub sessions : Sessionless
-  -- a recovery over a card that no longer bears the mark; one under an x that is stored already, cut between two lines of the card, with a release under way
+  -- a recovery over a card that no longer bears the mark; one under an x that is stored already, cut between two lines
+  -- of the card, with a release under way
   pub unmarked : BrokenAt unnoted (recover (bothUnder (restarted 10)) 3) []
   pub unraised :
       BrokenAt
@@ -447,7 +454,8 @@ bothRuled d = eqb d 5 || eqb d 6
 abbrev pub twoDesks : Desks
 twoDesks = desksOpening (fresh V1 2 16) (λ d. emptyLog 64)
 
--- Desk 5 is to change both cards, and desk 6 card 1. Each logs its transaction and sends its prepares; desk 6 is first on card 1.
+-- Desk 5 is to change both cards, and desk 6 card 1. Each logs its transaction and sends its prepares; desk 6 is first
+-- on card 1.
 abbrev pub bothBegin : List DeskStep
 bothBegin =
     outside (command 3 0 (one 1) (one 1) noMark noMark text190 [])

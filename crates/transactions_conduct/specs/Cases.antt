@@ -1,4 +1,5 @@
--- A run by the rules of both sections, by computation on bytes: every stamp in it is proposed, and desk 5 finishes its transaction by a recovery. Proved in proofs/Cases.antt.
+-- A run by the rules of both sections, by computation on bytes: every stamp in it is proposed, and desk 5 finishes its
+-- transaction by a recovery. Proved in proofs/Cases.antt.
 -- Assumes nothing.
 use Prim.Native.Nat.{ℕ}
 use mathlib.Core.Path.{_≡_}
@@ -22,8 +23,8 @@ use Rattle.transactions_conduct.specs.Together.{Deal, beside, along, ste
 abbrev pub fiveRuled : ℕ → Bool
 fiveRuled d = eqb d 5
 
--- Desk 1 writes card 0 under its first proposal.
--- Desk 5 logs a transaction, learns the x of the answer, proposes, and prepares the card; it commits, and recovers and releases under its next two proposals.
+-- Desk 1 writes card 0 under its first proposal. Desk 5 logs a transaction, learns the x of the answer, proposes, and
+-- prepares the card; it commits, and recovers and releases under its next two proposals.
 abbrev pub dealt : List Deal
 dealt =
     beside (begin (one 0))

@@ -1,5 +1,5 @@
--- Desks that propose, ask and learn by section 10, and have transactions by section 16, over one store. Such a run is a run of both systems, and what is claimed of either
--- holds of it (docs/RULES.md, rules 16.16 and 16.17). Of version 1.
+-- Desks that propose, ask and learn by section 10, and have transactions by section 16, over one store. Such a run is a
+-- run of both systems, and what is claimed of either holds of it (docs/RULES.md, rules 16.16 and 16.17). Of version 1.
 -- Assumes nothing.
 use Prim.Native.Nat.{ℕ, _<_}
 use mathlib.Core.Path.{_≡_}
@@ -26,12 +26,14 @@ use Rattle.transactions.specs.Desks.{Desks, DeskStep, outside, own, desksOpenin
 -- ---- one run
 
 pub data Deal : Type 0 where
-  -- a move of section 10 beside the store: a start, a proposal, a request to a queue, a lost queue, a pair that is learnt
+  -- a move of section 10 beside the store: a start, a proposal, a request to a queue, a lost queue, a pair that is
+  -- learnt
   beside : (m : Move) → Deal
   -- a step of section 16
   along : (m : DeskStep) → Deal
 
--- What a step sends to the store, as moves of section 10: an order when it arrives, recovery's writes one behind the other.
+-- What a step sends to the store, as moves of section 10: an order when it arrives, recovery's writes one behind the
+-- other.
 abbrev pub sendEach : List Sent → List Move
 sendEach = map send
 
@@ -73,7 +75,8 @@ sendsAlong (along m ∷ deals) = sendsAlong deals
 
 -- ---- by the rules of both
 
--- A run from a fresh store of any N and C that can be made, empty queues, nothing known and empty logs: its moves are by section 10, its steps by section 16.
+-- A run from a fresh store of any N and C that can be made, empty queues, nothing known and empty logs: its moves are
+-- by section 10, its steps by section 16.
 pub record ByBoth (n c : ℕ) (lent : ℕ → ℕ) (ruled : ℕ → Bool) (logs : ℕ → List ℕ) (deals : List Deal) : Type 0 where
   pub shape : T (shapeOk V1 n c)
   pub nobody : ruled 0 ≡ false
@@ -83,7 +86,8 @@ pub record ByBoth (n c : ℕ) (lent : ℕ → ℕ) (ruled : ℕ → Bool) (logs 
   pub moves : byRules V1 lent (opening V1 n c lent) (movesIn (desksOpening (fresh V1 n c) logs) deals) ≡ true
   pub steps : lawfulDeskSteps ruled (desksOpening (fresh V1 n c) logs) (stepsIn deals) ≡ true
 
--- Rule 16.16: it is a run of section 10 and a moment of section 16 over one store, so all claims of both hold of it: demand 3's premise is kept, and a commit is one step.
+-- Rule 16.16: it is a run of section 10 and a moment of section 16 over one store, so all claims of both hold of it:
+-- demand 3's premise is kept, and a commit is one step.
 pub record OneRun (n c : ℕ) (lent : ℕ → ℕ) (ruled : ℕ → Bool) (logs : ℕ → List ℕ) (deals : List Deal) : Type 0 where
   pub store :
       course V1 lent (opening V1 n c lent) (movesIn (desksOpening (fresh V1 n c) logs) deals) .image
@@ -100,7 +104,8 @@ BothAreOne =
 
 -- ---- an order by a proposal
 
--- A command for the card that relies on the x of a pair, and opens the session that a desk proposes, exclusive, once it has learnt that pair.
+-- A command for the card that relies on the x of a pair, and opens the session that a desk proposes, exclusive, once it
+-- has learnt that pair.
 pub record Proposes (y : System) (who card : ℕ) (pair : Pair) (s : Sent) : Type 0 where
   pub used : who < 4294967296
   pub number : proposed (learnt (knows y who card) pair) exclusive .number ≡ 0
@@ -109,7 +114,8 @@ pub record Proposes (y : System) (who card : ℕ) (pair : Pair) (s : Sent) : Typ
   pub relies : verifier (commandIn s) .x ≡ pair .x
   pub opens : update (commandIn s) ≡ proposed (learnt (knows y who card) pair) exclusive .pair
 
--- Rule 16.17: it keeps rule 16.4, on the word of the answer with that pair; and, once it is proposed, rule 10.8, whenever and however often it reaches the store.
+-- Rule 16.17: it keeps rule 16.4, on the word of the answer with that pair; and, once it is proposed, rule 10.8,
+-- whenever and however often it reaches the store.
 pub record MayOrder (lent : ℕ → ℕ) (y : System) (who card : ℕ) (pair : Pair) (s : Sent) : Type 0 where
   pub ordered : (v : Shown) → v .card ≡ card → v .x ≡ pair .x → opensAbove (commandIn s) v ≡ true
   pub arrives :

@@ -1,4 +1,5 @@
--- What holds of translations at every moment is kept by appends, recoveries and a log that begins again. Assumes nothing.
+-- What holds of translations at every moment is kept by appends, recoveries and a log that begins again. Assumes
+-- nothing.
 use Prim.Native.Nat.{ℕ, zero, suc, _≤_, _<_}
 use native.Mathlib.Omega.{arith}
 use mathlib.Core.Path.{_≡_, refl, sym, ap, _∙_, subst}

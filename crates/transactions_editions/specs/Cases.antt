@@ -1,5 +1,5 @@
--- An original and its translation changed by one transaction, and an original alone: what a reader of the translation gets after each part, by computation on bytes. Proved in
--- proofs/Cases.antt.
+-- An original and its translation changed by one transaction, and an original alone: what a reader of the translation
+-- gets after each part, by computation on bytes. Proved in proofs/Cases.antt.
 -- Assumes nothing.
 use Prim.Native.Nat.{ℕ}
 use mathlib.Core.Path.{_≡_}
@@ -18,7 +18,8 @@ use Rattle.transactions_editions.specs.Editions.{currentIn, currentAlong
 abbrev pub writtenTwice : List Step
 writtenTwice = writes1 0 (one 1) text190 ∷ other (sends (withPairs 4 exclusive 0 (pair 0 (one 1)) (pair 0 (one 1)) noMark noMark 1 3) text380 []) ∷ []
 
--- Desk 5 logs these updates and prepares the card; it commits; it writes the original out, and the translation, and releases the card.
+-- Desk 5 logs these updates and prepares the card; it commits; it writes the original out, and the translation, and
+-- releases the card.
 abbrev pub makesReady : List LogRecord → List Step
 makesReady us = logs (beginOf 1) ∷ logsAll us ++ (order (prepare 0 (one 1) (five 2)) 0 0 ∷ arrive 0 ∷ [])
 

@@ -1,5 +1,6 @@
--- Whether the translation of a card is current, over transactions (docs/RULES.md, rules 16.19 and 16.20): an original and its translation that are written in one transaction change together, for a
--- reader of the translation too. Of one desk and everybody else, as in `System`. The theorems stand in proofs/.
+-- Whether the translation of a card is current, over transactions (docs/RULES.md, rules 16.19 and 16.20): an original
+-- and its translation that are written in one transaction change together, for a reader of the translation too. Of one
+-- desk and everybody else, as in `System`. The theorems stand in proofs/.
 -- Assumes nothing.
 use Prim.Native.Nat.{ℕ, zero, suc}
 use mathlib.Core.Path.{_≡_}
@@ -26,7 +27,8 @@ currentIn image k = not (behind (entryFor image k .edition) (entryFor image k .f
 abbrev pub bringsCurrent : List LogRecord → ℕ → Bool
 bringsCurrent rs i = not (eqb (recordSide (recordIn rs i)) 1)
 
--- Whether it is current after those updates of card k that stand in the first i lines: of transaction t; or that are due.
+-- Whether it is current after those updates of card k that stand in the first i lines: of transaction t; or that are
+-- due.
 unfoldable pub currentWith : List LogRecord → ℕ → ℕ → ℕ → Bool → Bool
 currentWith rs t k zero c = c
 currentWith rs t k (suc i) c = cond (updateIn rs t i && eqb (recordCard (recordIn rs i)) k) (bringsCurrent rs i) (currentWith rs t k i c)
@@ -35,7 +37,8 @@ unfoldable pub currentBy : List LogRecord → ℕ → ℕ → Bool → Bool
 currentBy rs k zero c = c
 currentBy rs k (suc i) c = cond (dueFor rs k i) (bringsCurrent rs i) (currentBy rs k i c)
 
--- Rule 16.19: whether the translation is meant to be current, after a step: somebody else's accepted write changes it, and a commit that counts, and nothing else.
+-- Rule 16.19: whether the translation is meant to be current, after a step: somebody else's accepted write changes it,
+-- and a commit that counts, and nothing else.
 abbrev pub currentAfter : ℕ → OneDesk → (ℕ → Bool) → Step → ℕ → Bool
 currentAfter d y c (other s) k =
     cond (eqb (outcome y s .answer .number) 0 && eqb (commandIn s .card) k && isWrite (commandIn s)) (writesTranslation (commandIn s)) (c k)
@@ -59,7 +62,8 @@ meantCurrent d y m = currentAlong d (oneDeskOpening (m .image) (m .log)) (curren
 
 -- ---- what is claimed
 
--- Rule 16.19: on a card that does not bear the desk's mark the translation is current exactly where it is meant to be; on one that does, once what is due is applied.
+-- Rule 16.19: on a card that does not bear the desk's mark the translation is current exactly where it is meant to be;
+-- on one that does, once what is due is applied.
 pub record Editions (d : ℕ) (y : OneDesk) (c : ℕ → Bool) : Type 0 where
   pub plain : (k : ℕ) → eqb (markIn (y .image) k .desk) d ≡ false → currentIn (y .image) k ≡ c k
   pub marked : (k : ℕ) → eqb (markIn (y .image) k .desk) d ≡ true → currentBy (records (y .log)) k (length (records (y .log))) (currentIn (y .image) k) ≡ c k
@@ -67,7 +71,8 @@ pub record Editions (d : ℕ) (y : OneDesk) (c : ℕ → Bool) : Type 0 where
 abbrev pub EditionsAtOnce : Type 0
 EditionsAtOnce = (d : ℕ) (y : OneDesk) (m : Moment d y) → Editions d y (meantCurrent d y m)
 
--- Rule 16.20: a read of a translation that expects no mark of the desk's is accepted only where the translation is meant to be current, and is answered with 6 only where it is not.
+-- Rule 16.20: a read of a translation that expects no mark of the desk's is accepted only where the translation is
+-- meant to be current, and is answered with 6 only where it is not.
 pub record TranslationRead (d : ℕ) (y : OneDesk) (c : ℕ → Bool) (s : Sent) : Type 0 where
   pub shown : outcome y s .answer .number ≡ 0 → c (commandIn s .card) ≡ true
   pub refused : outcome y s .answer .number ≡ EDITION-WRONG → c (commandIn s .card) ≡ false

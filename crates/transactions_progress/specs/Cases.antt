@@ -1,4 +1,5 @@
--- What can be written and what cannot, at the edges, with what a recovery answers, by computation on bytes. Proved in proofs/Cases.antt.
+-- What can be written and what cannot, at the edges, with what a recovery answers, by computation on bytes. Proved in
+-- proofs/Cases.antt.
 -- Assumes nothing.
 use Prim.Native.Nat.{ℕ}
 use mathlib.Core.Path.{_≡_}

@@ -1,4 +1,5 @@
--- When the updates that are due can be written out, and that a recovery then writes out all of them (docs/RULES.md, rules 16.21 and 16.22). The theorems stand in proofs/.
+-- When the updates that are due can be written out, and that a recovery then writes out all of them (docs/RULES.md,
+-- rules 16.21 and 16.22). The theorems stand in proofs/.
 -- Assumes nothing.
 use Prim.Native.Nat.{ℕ, zero, suc, _+_}
 use mathlib.Core.Path.{_≡_}
@@ -30,7 +31,8 @@ originalsDue rs k (suc i) = cond (rewrites rs original k i) (suc (originalsDue r
 abbrev pub editionBefore : List ℕ → List LogRecord → ℕ → ℕ → ℕ
 editionBefore image rs k i = entryFor image k .edition + originalsDue rs k i
 
--- Rule 16.21: where line i is due, its card is in the image and its text has room there; a write of the original has an edition left, and a write of the translation has an original to be made from.
+-- Rule 16.21: where line i is due, its card is in the image and its text has room there; a write of the original has an
+-- edition left, and a write of the translation has an original to be made from.
 abbrev pub canWrite : List ℕ → List LogRecord → ℕ → Bool
 canWrite image rs i =
     not (due rs i)
@@ -42,7 +44,8 @@ canWrite image rs i =
 abbrev pub canFinish : List ℕ → List LogRecord → Bool
 canFinish image rs = every (canWrite image rs) (length rs)
 
--- Rule 16.22: where line i is due, the pair given for its card is one of an exclusive session, and the stored pair makes it neither stale nor too far ahead.
+-- Rule 16.22: where line i is due, the pair given for its card is one of an exclusive session, and the stored pair
+-- makes it neither stale nor too far ahead.
 abbrev pub goodPair : List ℕ → List LogRecord → Pairs → ℕ → Bool
 goodPair image rs pairs i =
     not (due rs i)
@@ -63,7 +66,8 @@ RecoveryTaken =
     → goodPairs image (records log) pairs ≡ true
     → recovered pairs log image .number ≡ 0
 
--- Rule 16.22: so at every moment of a run by the rules at which recovery is a step (rule 16.13), that one step leaves the texts that are meant on all cards.
+-- Rule 16.22: so at every moment of a run by the rules at which recovery is a step (rule 16.13), that one step leaves
+-- the texts that are meant on all cards.
 abbrev pub OneStepFinishes : Type 0
 OneStepFinishes =
     (d : ℕ) (y : OneDesk) (pairs : Pairs) → Moment d y → FitsPairs pairs
