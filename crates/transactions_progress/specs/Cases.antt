@@ -1,10 +1,10 @@
--- What can be written and what cannot, at the edges, with what a recovery answers, by computation on bytes. Proved in
--- proofs/Cases.antt.
+-- What can be written and what cannot, at the edges, with what a recovery answers; and a log that is taken over. By
+-- computation on bytes, proved in proofs/Cases.antt.
 -- Assumes nothing.
 use Prim.Native.Nat.{ℕ}
 use mathlib.Core.Path.{_≡_}
 use mathlib.Core.List.{List, [], _∷_, _++_, map}
-use mathlib.Core.Bool.{Bool, true, false}
+use mathlib.Core.Bool.{Bool, true, false, cond}
 use Rattle.formats.specs.Format.{V1}
 use Rattle.stamps.specs.Stamp.{noPair, noMark}
 use Rattle.image.specs.Image.{encode, fresh}
@@ -13,8 +13,10 @@ use Rattle.redo_log.specs.Log.{LogRecord, records}
 use Rattle.redo_log_claims.specs.Claims.{appendedAll}
 use Rattle.redo_log_claims.specs.Cases.{beginOf, updateOf, commitOf, emptyLog}
 use Rattle.recovery_model.specs.Recovery.{Pairs, recovered}
-use Rattle.transactions_cases.specs.Cases.{five}
+use Rattle.transactions.specs.System.{Step, lawful}
+use Rattle.transactions_cases.specs.Cases.{five, logs, ready, single}
 use Rattle.transactions_progress.specs.Progress.{canFinish, goodPairs}
+use Rattle.transactions_progress.specs.Holders.{Holders, seenAs, Acting, takes, acts, comes, isAct, lawfulActing, afterActings, lawfulActings, holdersOpening}
 
 -- A log with one committed transaction of these updates.
 abbrev pub loggedOnce : List LogRecord → List ℕ
@@ -71,3 +73,22 @@ pub record FinishCases : Type 0 where
   pub pairs :
       map (λ x. goodPairs (fresh V1 2 16) (records (loggedOnce (updateOf 0 1 text205 ∷ []))) (eachUnder x)) (five 1 ∷ 0 ∷ five 1000001 ∷ [])
       ≡ true ∷ false ∷ false ∷ []
+
+-- ---- a log that is taken over
+
+-- Holder 1 has made card 0 ready for a commit; then holder 2 takes the log over.
+abbrev pub doneBy : ℕ → Step → Acting
+doneBy who m = cond (isAct m) (acts who m) (comes m)
+
+abbrev pub handedOver : List Acting
+handedOver = map (doneBy 1) (ready single) ++ (takes 2 ∷ [])
+
+abbrev pub afterHandover : Holders
+afterHandover = afterActings 5 (holdersOpening 1 (fresh V1 2 16) (emptyLog 64)) handedOver
+
+pub record HandoverCases : Type 0 where
+  pub rules : lawfulActings 5 (holdersOpening 1 (fresh V1 2 16) (emptyLog 64)) handedOver ≡ true
+  -- holder 1 still has the card in mind as held, and may not commit; nor may holder 2, who knows nothing of it yet
+  pub minded : lawful 5 (seenAs 1 afterHandover) (logs (commitOf 1)) ≡ true
+  pub former : lawfulActing 5 afterHandover (acts 1 (logs (commitOf 1))) ≡ false
+  pub new : lawfulActing 5 afterHandover (acts 2 (logs (commitOf 1))) ≡ false
