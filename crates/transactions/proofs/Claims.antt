@@ -4,7 +4,7 @@ use native.Mathlib.Omega.{arith}
 use mathlib.Core.Path.{_≡_, refl, sym, ap, _∙_, subst}
 use mathlib.Core.Logic.{_⊎_, inl, inr}
 use mathlib.Core.List.{List, [], _∷_}
-use mathlib.Core.Bool.{Bool, true, false, cond, _&&_}
+use mathlib.Core.Bool.{Bool, true, false, cond, _&&_, and-false}
 use borrow.Author.Tests.{eqb-false, eq-eqb, ne-eqb, le-leb, lt-ltb, ltb-true}
 use lib.ListN.{length, getD, take, replicate, length-replicate}
 use lib.Dec.{eqb, lit<}
@@ -191,10 +191,6 @@ commits-at-once d y r = refines d y (kept-always d y r)
 pub reads-meant : ReadsMeant
 reads-meant d y r = shows d y (kept-always d y r)
 
-and-none : (b : Bool) → (b && false) ≡ false
-and-none true = refl
-and-none false = refl
-
 module _ (y : OneDesk) (k : ℕ) (l : Language) where
   after-refusal : (s : Sent) (n : ℕ) → outcome y s .answer .number ≡ suc n → meantAfter (outcome y s .answer .number) s (y .meant) k l ≡ y .meant k l
   after-refusal s n e = rw (ne-eqb (outcome y s .answer .number) 0 (λ z. omega arith))
@@ -202,7 +198,7 @@ module _ (y : OneDesk) (k : ℕ) (l : Language) where
   after-read : (s : Sent) → isWrite (commandIn s) ≡ false → meantAfter (outcome y s .answer .number) s (y .meant) k l ≡ y .meant k l
   after-read s e =
       ap (λ (b : Bool). cond (eqb (outcome y s .answer .number) 0 && eqb (commandIn s .card) k && b) (payload V1 (s .command)) (y .meant k l)) (no-writes (commandIn s) e l)
-      ∙ ap (λ (b : Bool). cond b (payload V1 (s .command)) (y .meant k l)) (and-none (eqb (outcome y s .answer .number) 0 && eqb (commandIn s .card) k))
+      ∙ ap (λ (b : Bool). cond b (payload V1 (s .command)) (y .meant k l)) (and-false (eqb (outcome y s .answer .number) 0 && eqb (commandIn s .card) k))
 
   module _ (budget : ℕ) (r : LogRecord) where
     abbrev number : ℕ
@@ -214,7 +210,7 @@ module _ (y : OneDesk) (k : ℕ) (l : Language) where
     after-other : eqb (r .kind) commitKind ≡ false → meantLogged number (records (y .log)) r (y .meant) k l ≡ y .meant k l
     after-other e =
         ap (λ (b : Bool). cond (eqb number 0 && b) (withUpdates (records (y .log)) (recordTransaction r) l k (length (records (y .log))) (y .meant k l)) (y .meant k l)) e
-        ∙ ap (λ (b : Bool). cond b (withUpdates (records (y .log)) (recordTransaction r) l k (length (records (y .log))) (y .meant k l)) (y .meant k l)) (and-none (eqb number 0))
+        ∙ ap (λ (b : Bool). cond b (withUpdates (records (y .log)) (recordTransaction r) l k (length (records (y .log))) (y .meant k l)) (y .meant k l)) (and-false (eqb number 0))
 
     after-commit : (d : ℕ) → number ≡ 0 → eqb (r .kind) commitKind ≡ true
         → afterStep d y (append budget r) .meant k l ≡ withUpdates (records (y .log)) (recordTransaction r) l k (length (records (y .log))) (y .meant k l)

@@ -4,7 +4,7 @@ use native.Mathlib.Omega.{arith}
 use mathlib.Core.Path.{_≡_, refl, sym, ap, _∙_, subst}
 use mathlib.Core.Logic.{_⊎_, inl, inr}
 use mathlib.Core.List.{List}
-use mathlib.Core.Bool.{Bool, true, false, cond, not, _&&_, _||_, or-false}
+use mathlib.Core.Bool.{Bool, true, false, cond, not, _&&_, _||_, or-false, and-false}
 use borrow.Author.Tests.{eqb-true, eqb-false, eq-eqb, ne-eqb, ltb-true, ltb-false, leb-true}
 use lib.ListN.{length}
 use lib.Dec.{eqb, ltb, leb}
@@ -25,10 +25,6 @@ placed i n = go (cases (ltb i n)) (cases (ltb n i))
     go (inl a) b = inl (ltb-true i n a)
     go (inr a) (inl b) = inr (inr (ltb-true n i b))
     go (inr a) (inr b) = inr (inl (omega (arith, ltb-false i n a, ltb-false n i b)))
-
-and-none : (a : Bool) → (a && false) ≡ false
-and-none true = refl
-and-none false = refl
 
 module _ (rs : List LogRecord) (r : LogRecord) where
   abbrev card : ℕ → ℕ
@@ -124,7 +120,7 @@ module _ (rs : List LogRecord) (r : LogRecord) where
       where
         go : (i : ℕ) → i < length rs → (eqb (card i) k ≡ true) ⊎ (eqb (card i) k ≡ false)
             → (due (more rs r) i && (eqb (card i) k && sideIs l (recordSide (recordIn rs i)))) ≡ (due rs i && (eqb (card i) k && sideIs l (recordSide (recordIn rs i))))
-        go i h (inr e) = rw (e, and-none (due (more rs r) i), and-none (due rs i))
+        go i h (inr e) = rw (e, and-false (due (more rs r) i), and-false (due rs i))
         go i h (inl e) =
             ap (λ (b : Bool). b && (eqb (card i) k && sideIs l (recordSide (recordIn rs i))))
             (due-old i h
@@ -304,7 +300,7 @@ module _ (rs : List LogRecord) (r : LogRecord) (o : Ordered rs) (f : Followed (t
 
     -- A line of another transaction: as it was.
     pub miss : (i : ℕ) → i < length rs → eqb (transactionIn rs i) t ≡ false → (rewrites (more rs r) l k i ≡ rewrites rs l k i) × (changesText rs t l k i ≡ false)
-    miss i h e = (after, ap (λ (b : Bool). updates i && b && own i) e ∙ ap (λ (b : Bool). b && own i) (and-none (updates i)))
+    miss i h e = (after, ap (λ (b : Bool). updates i && b && own i) e ∙ ap (λ (b : Bool). b && own i) (and-false (updates i)))
       where
         no : commitsTo (transactionIn rs i) r ≡ false
         no = rw (commits, ne-eqb t (transactionIn rs i) (λ z. eqb-false (transactionIn rs i) t e (sym z)))
@@ -383,7 +379,7 @@ module _ (rs : List LogRecord) (r : LogRecord) (o : Ordered rs) (f : Followed (t
             pick : (updateIn rs t i ≡ true) ⊎ (updateIn rs t i ≡ false) → changesText rs t l k i ≡ false
             pick (inr e) = ap (λ (b : Bool). b && own i) e
             pick (inl e) =
-                ap (λ (b : Bool). updateIn rs t i && (b && sideIs l (recordSide (recordIn rs i)))) (away i h e) ∙ and-none (updateIn rs t i)
+                ap (λ (b : Bool). updateIn rs t i && (b && sideIs l (recordSide (recordIn rs i)))) (away i h e) ∙ and-false (updateIn rs t i)
 
         go : (i : ℕ) → i < length rs → (eqb (transactionIn rs i) t ≡ true) ⊎ (eqb (transactionIn rs i) t ≡ false) → rewrites (more rs r) l k i ≡ rewrites rs l k i
         go i h (inr e) = miss i h e .0
@@ -398,4 +394,4 @@ module _ (rs : List LogRecord) (r : LogRecord) (o : Ordered rs) (f : Followed (t
             pick : (updateIn rs t i ≡ true) ⊎ (updateIn rs t i ≡ false) → changesText rs t l k i ≡ false
             pick (inr e) = ap (λ (b : Bool). b && own i) e
             pick (inl e) =
-                ap (λ (b : Bool). updateIn rs t i && (b && sideIs l (recordSide (recordIn rs i)))) (away i h e) ∙ and-none (updateIn rs t i)
+                ap (λ (b : Bool). updateIn rs t i && (b && sideIs l (recordSide (recordIn rs i)))) (away i h e) ∙ and-false (updateIn rs t i)

@@ -5,7 +5,7 @@ use native.Mathlib.Omega.{arith}
 use mathlib.Core.Path.{_≡_, refl, sym, ap, _∙_, subst}
 use mathlib.Core.Logic.{_⊎_, inl, inr}
 use mathlib.Core.List.{List, _∷_}
-use mathlib.Core.Bool.{Bool, true, false, cond, not, _&&_, _||_}
+use mathlib.Core.Bool.{Bool, true, false, cond, not, _&&_, _||_, and-false}
 use borrow.Author.Tests.{eqb-true, eq-eqb, ltb-true, leb-true, not-true}
 use lib.ListN.{length}
 use lib.Dec.{eqb, ltb, leb}
@@ -172,11 +172,7 @@ module _ (pairs : Pairs) (rs : List LogRecord) (cs : Cards) (gc : GoodCards V1 c
       by-card s (inl e) m =
           let same : recordCard (recordIn rs i) ≡ k = eqb-true (recordCard (recordIn rs i)) k e in
           subst (Moved (suc i)) same (moved-here i h z s (subst (Moved i) (sym same) m))
-      by-card s (inr e) m = moved-past i k (elsewhere i h z s k e) (ap (λ (b : Bool). due rs i && b) e ∙ none (due rs i)) m
-        where
-          none : (b : Bool) → (b && false) ≡ false
-          none true = refl
-          none false = refl
+      by-card s (inr e) m = moved-past i k (elsewhere i h z s k e) (ap (λ (b : Bool). due rs i && b) e ∙ and-false (due rs i)) m
 
       go : Idle pairs rs (encode V1 cs) i ⊎ Sends pairs rs (encode V1 cs) i → Moved i k → Moved (suc i) k
       go (inl idle) m =

@@ -5,7 +5,7 @@ use native.Mathlib.Omega.{arith}
 use mathlib.Core.Path.{_≡_, refl, sym, ap, _∙_, subst}
 use mathlib.Core.Logic.{_⊎_, inl, inr}
 use mathlib.Core.List.{List, []}
-use mathlib.Core.Bool.{Bool, true, false, not, _&&_}
+use mathlib.Core.Bool.{Bool, true, false, not, _&&_, and-false}
 use borrow.Author.Tests.{ne-eqb, ltb-true, ltb-false, not-true}
 use lib.ListN.{length, getD}
 use lib.Dec.{eqb, ltb}
@@ -32,10 +32,6 @@ use Rattle.transactions_editions.specs.Editions.{currentWith, currentBy,
 use Rattle.transactions_editions.proofs.Lines.{due-as, past-due, by-clear, by-same, by-same-all, with-none, by-commit-all}
 use Rattle.transactions_editions.proofs.Current.{cur}
 use Rattle.transactions_editions.proofs.Steps.{Onwards, Done, Tells, Turned, Holds, says-nothing}
-
-and-none : (a : Bool) → (a && false) ≡ false
-and-none true = refl
-and-none false = refl
 
 -- ---- an append
 
@@ -90,7 +86,7 @@ module _ (d : ℕ) (y : OneDesk) (k : Kept d y) (c : ℕ → Bool) (w : Turned d
             none i g = pick (cases (updateIn rs (recordTransaction r) i))
               where
                 pick : (updateIn rs (recordTransaction r) i ≡ true) ⊎ (updateIn rs (recordTransaction r) i ≡ false) → (updateIn rs (recordTransaction r) i && eqb (recordCard (recordIn rs i)) j) ≡ false
-                pick (inl u) = ap (λ (b : Bool). updateIn rs (recordTransaction r) i && b) (apart d y k budget r rb h z j e q i g u) ∙ and-none (updateIn rs (recordTransaction r) i)
+                pick (inl u) = ap (λ (b : Bool). updateIn rs (recordTransaction r) i && b) (apart d y k budget r rb h z j e q i g u) ∙ and-false (updateIn rs (recordTransaction r) i)
                 pick (inr u) = ap (λ (b : Bool). b && eqb (recordCard (recordIn rs i)) j) u
 
     plain-more : (j : ℕ) → Shift d y r (at (k .cs) j) j (c j) (c-now j) → bears d (at (k .cs) j) ≡ false → cur (at (k .cs) j) ≡ c-now j

@@ -4,7 +4,7 @@ use native.Mathlib.Omega.{arith}
 use mathlib.Core.Path.{_≡_, refl, sym, ap, _∙_, subst}
 use mathlib.Core.Logic.{_⊎_, inl, inr}
 use mathlib.Core.List.{List, _∷_}
-use mathlib.Core.Bool.{Bool, true, false, cond, not, _&&_, _||_}
+use mathlib.Core.Bool.{Bool, true, false, cond, not, _&&_, _||_, and-false}
 use borrow.Author.Tests.{eqb-true}
 use lib.ListN.{length}
 use lib.Dec.{eqb}
@@ -33,10 +33,6 @@ use Rattle.transactions_editions.specs.Editions.{bringsCurrent, currentB
 use Rattle.transactions_editions.proofs.Lines.{by-again, by-over}
 use Rattle.transactions_editions.proofs.Current.{cur, cur-then}
 use Rattle.transactions_editions.proofs.Steps.{Tells, Turned, Holds, Moved, still, up, sent-moved, told-moved}
-
-and-none : (a : Bool) → (a && false) ≡ false
-and-none true = refl
-and-none false = refl
 
 -- ---- the cards that a recovery leaves, behind lines of which none was refused
 
@@ -83,7 +79,7 @@ module _ (pairs : Pairs) (rs : List LogRecord) (cs : Cards) (gc : GoodCards V1 c
           subst (λ (n : ℕ). cur (at (leaves-cards (suc i)) n) ≡ bringsCurrent rs i) (eqb-true (recordCard (recordIn rs i)) j e) (cur-here i h z s)
           ∙ sym (ap (λ (b : Bool). cond b (bringsCurrent rs i) old) (and-in (s .is-due) e))
       by-card s (inr e) f =
-          not-due (ap (λ (b : Bool). due rs i && b) e ∙ and-none (due rs i)) (ap cur (elsewhere pairs rs cs gc fp fr i h z s j e) ∙ f)
+          not-due (ap (λ (b : Bool). due rs i && b) e ∙ and-false (due rs i)) (ap cur (elsewhere pairs rs cs gc fp fr i h z s j e) ∙ f)
 
       go : Idle pairs rs (encode V1 cs) i ⊎ Sends pairs rs (encode V1 cs) i → cur (at (leaves-cards i) j) ≡ old → cur (at (leaves-cards (suc i)) j) ≡ cond (dueFor rs j i) (bringsCurrent rs i) old
       go (inl idle) f =

@@ -4,7 +4,7 @@ use native.Mathlib.Omega.{arith}
 use mathlib.Core.Path.{_≡_, refl, sym, ap, _∙_, subst}
 use mathlib.Core.Logic.{_⊎_, inl, inr}
 use mathlib.Core.List.{List, [], _∷_}
-use mathlib.Core.Bool.{Bool, true, false, cond, not, _&&_, _||_}
+use mathlib.Core.Bool.{Bool, true, false, cond, not, _&&_, _||_, and-false}
 use borrow.Author.Tests.{eqb-true, eq-eqb, ne-eqb, ltb-true, ltb-false, not-true}
 use lib.ListN.{length, getD}
 use lib.Dec.{eqb, ltb}
@@ -119,11 +119,7 @@ module _ (d : ℕ) (y : OneDesk) (k : Kept d y) (c : ℕ → Bool) (w : Turned d
   c-refused n e j = let no : eqb (outcome y s .answer .number) 0 ≡ false = ne-eqb (outcome y s .answer .number) 0 (λ z. omega (arith, number-now d y k s, e)) in rw no
 
   c-other : (j : ℕ) → eqb (cmd .card) j ≡ false → c-now j ≡ c j
-  c-other j e = ap (λ (t : Bool). cond (t && isWrite cmd) (writesTranslation cmd) (c j)) (ap (λ (t : Bool). eqb (outcome y s .answer .number) 0 && t) e ∙ none (eqb (outcome y s .answer .number) 0))
-    where
-      none : (t : Bool) → (t && false) ≡ false
-      none true = refl
-      none false = refl
+  c-other j e = ap (λ (t : Bool). cond (t && isWrite cmd) (writesTranslation cmd) (c j)) (ap (λ (t : Bool). eqb (outcome y s .answer .number) 0 && t) e ∙ and-false (eqb (outcome y s .answer .number) 0))
 
   turned-refused : (n : ℕ) → numberOn V1 (k .cs) s ≡ suc n → Turned d (records (y .log)) (y .orders) (answered ∷ y .shown) c-now cards
   turned-refused n e =

@@ -4,7 +4,7 @@ use native.Mathlib.Omega.{arith}
 use mathlib.Core.Path.{_≡_, refl, sym, ap, _∙_, subst}
 use mathlib.Core.Logic.{_⊎_, inl, inr}
 use mathlib.Core.List.{List}
-use mathlib.Core.Bool.{Bool, true, false, cond, not, _&&_, _||_}
+use mathlib.Core.Bool.{Bool, true, false, cond, not, _&&_, _||_, and-false}
 use borrow.Author.Tests.{eqb-true, eq-eqb, ne-eqb, ltb-true, lt-ltb, le-ltb, leb-true, not-true}
 use lib.ListN.{length}
 use lib.Dec.{eqb, ltb, leb, lit<}
@@ -231,11 +231,7 @@ module _ (pairs : Pairs) (rs : List LogRecord) (cs : Cards) (gc : GoodCards V1 c
         edition-at j (inr e) =
             ap (λ (a : Card). a .edition) (others j e)
             ∙ s .edition j
-            ∙ ap (λ (n : ℕ). at cs j .edition + n) (sym (none-more i j (ap (λ (b : Bool). due rs i && (b && side)) e ∙ none (due rs i))))
-          where
-            none : (b : Bool) → (b && false) ≡ false
-            none true = refl
-            none false = refl
+            ∙ ap (λ (n : ℕ). at cs j .edition + n) (sym (none-more i j (ap (λ (b : Bool). due rs i && (b && side)) e ∙ and-false (due rs i))))
 
         pair-at : (j : ℕ) → (eqb k j ≡ true) ⊎ (eqb k j ≡ false) → (at (cards (suc i)) j .pair ≡ at cs j .pair) ⊎ (at (cards (suc i)) j .pair ≡ recoveryPair pairs j)
         pair-at j (inl e) = inr (subst (λ (n : ℕ). at (cards (suc i)) n .pair ≡ recoveryPair pairs n) (eqb-true k j e) pair-here)

@@ -2,7 +2,7 @@
 use Prim.Native.Nat.{ℕ, _+_, _≤_, max}
 use native.Mathlib.Omega.{arith}
 use mathlib.Core.Path.{_≡_, refl, ap, _∙_}
-use mathlib.Core.Bool.{Bool, true, false, cond, _||_}
+use mathlib.Core.Bool.{Bool, true, false, cond, _||_, or-true}
 use borrow.Author.Tests.{ltb-false, le-leb, le-ltb}
 use lib.ListN.{length}
 use lib.Dec.{eqb, ltb}
@@ -39,10 +39,6 @@ writing side card pair mark edition length =
       edition = cond side 0 edition;
       length = length;
     }
-
-or-true : (b : Bool) → (b || true) ≡ true
-or-true true = refl
-or-true false = refl
 
 pub well : (side : Bool) (card : ℕ) (pair : Pair) (mark : Mark) (edition size : ℕ) → all (sessionChecks exclusive pair) ≡ true → markWhole mark ≡ true → (side ≡ false → eqb edition 0 ≡ false)
     → wellFormed (writing side card pair mark edition size) ≡ true
