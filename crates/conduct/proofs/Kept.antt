@@ -24,6 +24,7 @@ use Rattle.guard.specs.Judge.{raise}
 use Rattle.guard.specs.Replies.{blankReply, replied}
 use Rattle.image.specs.Image.{Card, Cards, noCard, encode, GoodCards}
 use Rattle.image.specs.Convert.{widened, widenedCards, converted, convertNumber}
+use Rattle.image_claims.proofs.Claims.{goodEncodes}
 use Rattle.image_claims.proofs.Conversion.{getD-map}
 use Rattle.model.specs.Serve.{stepped, serve}
 use Rattle.model.specs.Words.{Sent, Event, eventOf, commandOf}
@@ -627,7 +628,7 @@ unfolding sendSteps
 sends-version y [] = refl
 sends-version y (s ∷ earlier) = sends-version y earlier
 
-sends-made : (y : System) (sent : List Sent) → sendSteps y sent .made ≡ y .made
+pub sends-made : (y : System) (sent : List Sent) → sendSteps y sent .made ≡ y .made
 unfolding sendSteps
 sends-made y [] = refl
 sends-made y (s ∷ earlier) = sends-made y earlier
@@ -645,7 +646,7 @@ kept-sends v n c y k (s ∷ earlier) b h =
 -- What a recovery sends is bytes.
 pub recovery-bytes : (f : Format) (image : List ℕ) (cs : Cards) → image ≡ encode f cs → GoodCards f cs → (pairs : Pairs) (log : List ℕ) → FitsPairs pairs → Bytes log
     → AllBytes (recoverySends f pairs log image)
-recovery-bytes V1 image cs e g pairs log fp lb = subst (λ (i : List ℕ). AllBytes (recovered pairs log i .sent)) (sym e) (recovered-bytes pairs log cs g fp lb)
+recovery-bytes V1 image cs e g pairs log fp lb = subst (λ (i : List ℕ). AllBytes (recovered pairs log i .sent)) (sym e) (recovered-bytes pairs log (encode V1 cs) (goodEncodes V1 cs g .bytes) fp lb)
 recovery-bytes V2 image cs e g pairs log fp lb = tt
 
 pub kept-recover : (v : Format) (n c : ℕ) (y : System) → Kept v n c y → (pairs : Pairs) (log : List ℕ) → FitsPairs pairs → Bytes log → allowed y (recover pairs log) ≡ true
