@@ -330,13 +330,13 @@ ready us = writes1 0 (one 1) text190 ∷ logs (beginOf 1) ∷ logsAll us ++ (ord
 abbrev pub single : List LogRecord
 single = updateOf 0 1 text205 ∷ []
 
-abbrev pub committed : List Step
-committed = ready single ++ (logs (commitOf 1) ∷ [])
+abbrev pub upToCommit : List Step
+upToCommit = ready single ++ (logs (commitOf 1) ∷ [])
 
 -- It is written out and released, and not noted; desk 1 writes the card.
 abbrev pub unnoted : List Step
 unnoted =
-    committed
+    upToCommit
     ++ (order (writeOut 0 (five 2) (five 3) text205) 1 0
     ∷ arrive 0
     ∷ order (release 0 (five 3) (five 4)) 0 0
@@ -390,19 +390,19 @@ pub record OrderRulesNeeded : Type 0 where
   -- a card is prepared while an update of it is due
   pub prepared-due : BrokenAt unnoted (order (prepare 0 (one 9) (five 10)) 0 0) (arrive 0 ∷ [])
   -- a release before the write-out
-  pub unwritten : BrokenAt committed (order (release 0 (five 2) (five 3)) 0 0) (arrive 0 ∷ [])
+  pub unwritten : BrokenAt upToCommit (order (release 0 (five 2) (five 3)) 0 0) (arrive 0 ∷ [])
   -- a write of a line that is not due, before the commit; of another text than the line's; of a line with one before it
   -- that is not written out
   pub not-due : BrokenAt (ready single) (order (writeOut 0 (five 2) (five 3) text205) 1 0) (arrive 0 ∷ [])
-  pub other-text : BrokenAt committed (order (writeOut 0 (five 2) (five 3) text401) 1 0) releasesNext
+  pub other-text : BrokenAt upToCommit (order (writeOut 0 (five 2) (five 3) text401) 1 0) releasesNext
   pub passed-over : BrokenAt (ready both ++ (logs (commitOf 1) ∷ [])) (order writeTranslated 2 0) releasesNext
   -- a synced record of a card that bears the mark; of a transaction that is not committed
-  pub not-free : BrokenAt committed (logs (syncedOf 0 1)) []
+  pub not-free : BrokenAt upToCommit (logs (syncedOf 0 1)) []
   pub uncommitted :
       BrokenAt (writes1 0 (one 1) text190 ∷ logs (beginOf 1) ∷ logs (updateOf 0 1 text205) ∷ []) (logs (syncedOf 0 1))
       (order (prepare 0 (one 1) (five 2)) 0 0 ∷ arrive 0 ∷ logs (commitOf 1) ∷ [])
   -- somebody else takes the mark off; somebody else puts it on
-  pub taken-off : BrokenAt committed (other (command 5 0 (five 2) (one 3) ours noMark [] [])) []
+  pub taken-off : BrokenAt upToCommit (other (command 5 0 (five 2) (one 3) ours noMark [] [])) []
   pub put-on : BrokenAt unnoted (other (command 5 0 (one 9) (one 10) noMark ours [] [])) []
   -- an order that relies on an x which no answer has shown: it comes late, and is not stale
   pub guessed :
@@ -437,7 +437,7 @@ pub record OrderRulesNeeded : Type 0 where
       (recover (bothUnder (five 4)) 2)
       (arrive 0 ∷ [])
   -- the log begins again while an update is due
-  pub still-due : BrokenAt committed renew []
+  pub still-due : BrokenAt upToCommit renew []
 
 -- ---- two desks
 
