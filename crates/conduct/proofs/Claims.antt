@@ -27,7 +27,7 @@ use Rattle.model.specs.Meaning.{Among, Ordered}
 use Rattle.model.proofs.Conversion.{demand3-across}
 use Rattle.model.proofs.Demand.{demand3, bytes-reverse}
 use Rattle.model.proofs.Formed.{formed-well}
-use Rattle.model.proofs.Meaning.{among-here, among-right, among-mapped, carries-means, premise-means}
+use Rattle.model.proofs.Meaning.{among-here, among-later, among-right, among-mapped, carries-means, premise-means}
 use Rattle.model.proofs.Pairs.{no-card}
 use Rattle.recovery_model.specs.Recovery.{Pairs, recoveryPair, recovered}
 use Rattle.recovery_model.specs.Claims.{AllUnder}
@@ -39,7 +39,7 @@ use Rattle.proposal_claims.proofs.Claims.{well-proposed}
 use Rattle.conduct.specs.System.{System, Made, Move, begin, propose, atQueue, lose, send, recover, convert, learn, opening, isMade, sendsMade, allMade, recoverySends, allowed, knows, nowKnows, withStore, withMade, sendSteps, convertStep, stepTo, course, byRules, Fits, AllFit}
 use Rattle.conduct.specs.Claims.{ByRules, finally, PremiseKept, DesksIsolated, StoreOf, oneVersion, convertedOnce, OneStore, StampsOnce, DesksValid, RecoveryAllowed}
 use Rattle.conduct.proofs.Backing.{among-none, Backed, backed-none}
-use Rattle.conduct.proofs.Kept.{Once, Kept, kept-begin, kept-propose, kept-request, kept-lose, kept-send, kept-recover, kept-convert, kept-learn, recovery-bytes, sends-version}
+use Rattle.conduct.proofs.Kept.{Once, Kept, kept-begin, kept-propose, kept-request, kept-lose, kept-send, kept-recover, kept-convert, kept-learn, recovery-bytes, sends-version, sends-made}
 use Rattle.conduct.proofs.Store.{Trace, plain, across, Held, held-fresh, held-send, held-convert}
 
 -- ---- the store, whatever the steps are
@@ -133,6 +133,39 @@ kept-run v n c y (s ∷ steps) k f h =
 
 kept-finally : (v : Format) (n c : ℕ) (places : ℕ → List Waiting) (steps : List Move) → ByRules v n c places steps → Kept v n c (finally v n c places steps)
 kept-finally v n c places steps r = kept-run v n c (opening v n c places) steps (kept-opening v n c places (r .shape)) (r .fits) (r .rules)
+
+-- ---- proposals stay, whatever the steps are
+
+made-next : (y : System) (s : Move) (m : Made) → Among m (y .made) → Among m (stepTo y s .made)
+unfolding stepTo
+made-next y (begin who) m a = a
+made-next y (propose who card mode) m a = go (proposed (knows y who card) mode .number)
+  where
+    new : Made
+    new = record { card = card; mode = mode; pair = proposed (knows y who card) mode .pair }
+
+    go : (number : ℕ) → Among m (settled number (withMade new (nowKnows who card (proposed (knows y who card) mode .known .pair) y)) y .made)
+    go zero = among-later new a
+    go (suc j) = a
+made-next y (atQueue card lent r) m a = a
+made-next y (lose card places) m a = a
+made-next y (send s) m a = a
+made-next y (recover pairs log) m a = subst (Among m) (sym (sends-made y (recoverySends (y .version) pairs log (y .image)))) a
+made-next y (convert lent) m a = go (y .version)
+  where
+    go : (g : Format) → Among m (convertStep g lent y .made)
+    go V2 = a
+    go V1 = by-number (convertNumber (y .image) lent)
+      where
+        by-number : (number : ℕ) → Among m (settled number (withStore V2 (converted (y .image)) (y .log) y) y .made)
+        by-number zero = a
+        by-number (suc j) = a
+made-next y (learn who card pair) m a = a
+
+pub made-run : (y : System) (steps : List Move) (m : Made) → Among m (y .made) → Among m (course y steps .made)
+unfolding course
+made-run y [] m a = a
+made-run y (s ∷ steps) m a = made-run (stepTo y s) steps m (made-next y s m a)
 
 -- ---- the claims
 
@@ -307,6 +340,5 @@ recovery-allowed v n c places steps r pairs log fp lb version given =
 
     under-all : AllUnder pairs (recovered pairs log (y .image) .sent)
     under-all =
-        let good = goodEncodes V1 (held .cards) (held .good) in
         subst (λ (i : List ℕ). AllUnder pairs (recovered pairs log i .sent)) (sym (held .image-is))
-        (under-pairs.under pairs log (encode V1 (held .cards)) fp lb (good .bytes))
+        (under-pairs.under pairs log (encode V1 (held .cards)) fp lb (goodEncodes V1 (held .cards) (held .good) .bytes))

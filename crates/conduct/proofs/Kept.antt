@@ -628,7 +628,7 @@ unfolding sendSteps
 sends-version y [] = refl
 sends-version y (s ∷ earlier) = sends-version y earlier
 
-sends-made : (y : System) (sent : List Sent) → sendSteps y sent .made ≡ y .made
+pub sends-made : (y : System) (sent : List Sent) → sendSteps y sent .made ≡ y .made
 unfolding sendSteps
 sends-made y [] = refl
 sends-made y (s ∷ earlier) = sends-made y earlier

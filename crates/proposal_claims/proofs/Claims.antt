@@ -24,9 +24,9 @@ use Rattle.lock_queue.proofs.After.{refusal-leaves, onto-largest}
 use Rattle.lock_queue_claims.proofs.Claims.{each-number, others-kept, stays-good}
 use Rattle.lock_queue_claims.specs.Course.{queueAfter}
 use Rattle.proposals.specs.declared.Known.{Known}
-use Rattle.proposals.specs.Propose.{nextT, ownAbove, lastT, pairFor, proposalRows, proposed}
-use Rattle.proposals.proofs.Propose.{made-rules, own-above, own-least, made-pair}
-use Rattle.proposal_claims.specs.Claims.{OfDesk, Smallest, Spent, WellProposed, entered, quiet, retried, NotDenied, retryNumbers, RetryListed, EachProposal, Unmoved, proposalNumbers, ProposalListed}
+use Rattle.proposals.specs.Propose.{learnt, nextT, ownAbove, lastT, pairFor, proposalRows, proposed}
+use Rattle.proposals.proofs.Propose.{made-rules, own-above, own-least, pair-exclusive, made-pair}
+use Rattle.proposal_claims.specs.Claims.{OfDesk, Smallest, Spent, WellProposed, PassesPair, PassesLearnt, entered, quiet, retried, NotDenied, retryNumbers, RetryListed, EachProposal, Unmoved, proposalNumbers, ProposalListed}
 
 -- A number with this desk and start is the stamp of its T.
 own-stamp : (desk start m : ℕ) → OfDesk desk start m → m ≡ stamp (m / 4294967296) desk start
@@ -219,6 +219,14 @@ retry-listed lent q new between k mode r l d i vs vx =
     go false true c n = absurd (n refl)
     go false false true n = tt
     go false false false n = tt
+
+pub passes-learnt : PassesLearnt
+unfolding learnt
+passes-learnt k p d i e =
+    let known : Known = learnt k p in
+    let up : known .pair .x < ownAbove (k .desk) (k .start) (known .pair .x) = own-above (k .desk) (k .start) (known .pair .x) d i in
+    subst (PassesPair p) (sym (made-pair known exclusive e ∙ pair-exclusive known))
+    (record { x = omega (arith, up); s = omega arith })
 
 -- ---- the numbers
 

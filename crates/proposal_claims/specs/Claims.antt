@@ -9,14 +9,15 @@ use mathlib.Core.Bool.{Bool, true, false, not, _&&_}
 use lib.Dec.{T, eqb}
 use lib.ListN.{length}
 use Rattle.lists.specs.Table.{all, applies, noRow, earlier, listed}
-use Rattle.stamps.specs.Stamp.{deskNumber, deskOf, stampValid, sessionChecks, noPair}
+use Rattle.stamps.specs.Stamp.{deskNumber, deskOf, stampValid, sessionChecks, exclusive, noPair}
+use Rattle.stamps.specs.declared.Pair.{Pair}
 use Rattle.lock_queue.specs.Queue.{State}
 use Rattle.lock_queue.specs.declared.Waiting.{Waiting}
 use Rattle.lock_queue.specs.Numbers.{PAIR-DENIED, STANDS-ALREADY, QUEUE-FULL}
 use Rattle.lock_queue.specs.Requests.{Request, asks, leaves, lapses, number, after, answer}
 use Rattle.lock_queue_claims.specs.Course.{queueAfter}
 use Rattle.proposals.specs.declared.Known.{Known}
-use Rattle.proposals.specs.Propose.{nextT, ownAbove, lastT, proposalRows, proposed}
+use Rattle.proposals.specs.Propose.{learnt, nextT, ownAbove, lastT, proposalRows, proposed}
 
 -- A stamp of this desk and start.
 pub record OfDesk (desk start n : ℕ) : Type 0 where
@@ -49,6 +50,16 @@ abbrev pub WellProposed : Type 0
 WellProposed =
     (k : Known) (mode : ℕ) → k .desk < 65536 → k .start < 65536 → stampValid (k .pair .s) ≡ true → stampValid (k .pair .x) ≡ true →
     proposed k mode .number ≡ 0 → Fine k mode
+
+-- Rule 10.18: an exclusive proposal passes every pair that the desk has learnt: its x is larger, and its s is no smaller.
+pub record PassesPair (p made : Pair) : Type 0 where
+  pub x : p .x < made .x
+  pub s : p .s ≤ made .s
+
+abbrev pub PassesLearnt : Type 0
+PassesLearnt =
+    (k : Known) (p : Pair) → k .desk < 65536 → k .start < 65536 →
+    proposed (learnt k p) exclusive .number ≡ 0 → PassesPair p (proposed (learnt k p) exclusive .pair)
 
 -- A request that the queue accepts as an entry: leaving, also by lease, accepts nothing.
 abbrev pub entered : ℕ → State → Request → Bool

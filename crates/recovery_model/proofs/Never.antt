@@ -36,15 +36,15 @@ apart : (n : ℕ) → (n ≡ 4 → ⊥) → (n ≡ 6 → ⊥) → (n ≡ 8 → �
 apart n a b c = rw (ne-eqb n 4 a, ne-eqb n 6 b, ne-eqb n 8 c)
 
 -- A mark passes itself.
-fits-itself : (m : Mark) → markFits m m ≡ true
+pub fits-itself : (m : Mark) → markFits m m ≡ true
 fits-itself m = and-in (eq-eqb (m .desk) (m .desk) refl) (le-leb (m .transaction) (m .transaction) (omega arith))
 
 -- A write of the original, or of a translation that names the stored edition, is of no wrong edition, and needs no reply buffer.
-right-edition : (original : Bool) (e : Entry) (c : Command) → c .act ≡ cond original 3 4 → c .edition ≡ cond original 0 (e .edition) → wrongEdition e c ≡ false
+pub right-edition : (original : Bool) (e : Entry) (c : Command) → c .act ≡ cond original 3 4 → c .edition ≡ cond original 0 (e .edition) → wrongEdition e c ≡ false
 right-edition true e c a n = rw a
 right-edition false e c a n = rw (a, n, eq-eqb (e .edition) (e .edition) refl)
 
-no-reply : (original : Bool) (e : Entry) (c : Command) (lent : ℕ) → c .act ≡ cond original 3 4 → replyShort e c lent ≡ false
+pub no-reply : (original : Bool) (e : Entry) (c : Command) (lent : ℕ) → c .act ≡ cond original 3 4 → replyShort e c lent ≡ false
 no-reply true e c lent a = rw a
 no-reply false e c lent a = rw a
 

@@ -147,7 +147,7 @@ left-bytes pairs log image ib fp lb =
 
 -- ---- mixed lists
 
-after-append : (start : List ℕ) (a b : List Sent) → imageAfter V1 start (a ++ b) ≡ imageAfter V1 (imageAfter V1 start b) a
+pub after-append : (start : List ℕ) (a b : List Sent) → imageAfter V1 start (a ++ b) ≡ imageAfter V1 (imageAfter V1 start b) a
 unfolding imageAfter
 after-append start [] b = refl
 after-append start (s ∷ a) b = ap (λ (im : List ℕ). serve V1 im (s .command) (s .lent) .image) (after-append start a b)
@@ -161,7 +161,7 @@ same-mixed start (oneRecovery pairs log ∷ before) =
     ∙ ap (λ (im : List ℕ). imageAfter V1 im (recovered pairs log (imageAfterDeeds start before) .sent)) (same-mixed start before)
     ∙ sym (after-append start (recovered pairs log (imageAfterDeeds start before) .sent) (requestsOfDeeds start before))
 
-bytes-append : (a b : List Sent) → AllBytes a → AllBytes b → AllBytes (a ++ b)
+pub bytes-append : (a b : List Sent) → AllBytes a → AllBytes b → AllBytes (a ++ b)
 bytes-append [] b x y = y
 bytes-append (s ∷ a) b x y = (x .0, bytes-append a b (x .1) y)
 

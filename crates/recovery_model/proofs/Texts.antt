@@ -63,7 +63,7 @@ settles rs l k (suc i) = go (rewrites rs l k i) refl (settles rs l k i)
     go false e (inr h) = inr (last e h)
 
 -- The first i records, and then the first n, leave what the first n leave.
-over-again : (rs : List LogRecord) (l : Language) (k i n : ℕ) → i ≤ n → (a : List ℕ) → rewritten rs l k n (rewritten rs l k i a) ≡ rewritten rs l k n a
+pub over-again : (rs : List LogRecord) (l : Language) (k i n : ℕ) → i ≤ n → (a : List ℕ) → rewritten rs l k n (rewritten rs l k i a) ≡ rewritten rs l k n a
 over-again rs l k i n h a = go (settles rs l k n)
   where
     go : ((a b : List ℕ) → rewritten rs l k n a ≡ rewritten rs l k n b) ⊎ ((j : ℕ) → j ≤ n → (a : List ℕ) → rewritten rs l k j a ≡ a)
@@ -132,7 +132,7 @@ module _ (cs : Cards) (s : Sent) (c : Command) (written : List ℕ) (fields : fi
 -- ---- a run from cards by the rules
 
 -- Where there is no such card, an empty one stands for it: it has as many translations.
-counted : (cs : Cards) → GoodCards V1 cs → (k : ℕ) → length (getD (cs .cards) k (noCard V1) .translated) ≡ translations V1
+pub counted : (cs : Cards) → GoodCards V1 cs → (k : ℕ) → length (getD (cs .cards) k (noCard V1) .translated) ≡ translations V1
 counted cs g k = go (cases (ltb k (length (cs .cards))))
   where
     go : (ltb k (length (cs .cards)) ≡ true) ⊎ (ltb k (length (cs .cards)) ≡ false) → length (getD (cs .cards) k (noCard V1) .translated) ≡ translations V1
@@ -151,45 +151,42 @@ module _ (pairs : Pairs) (rs : List LogRecord) (cs : Cards) (gc : GoodCards V1 c
   at i = cardsFrom V1 cs (R pairs rs (encode V1 cs) i .sent)
 
   module _ (i : ℕ) (h : i ≤ length rs) where
-    cards-good : GoodCards V1 (at i)
+    pub cards-good : GoodCards V1 (at i)
     cards-good = all-good V1 cs (R pairs rs (encode V1 cs) i .sent) gc (all-bytes pairs rs (encode V1 cs) ib fp fit i h)
 
-    image-is : R pairs rs (encode V1 cs) i .image ≡ encode V1 (at i)
+    pub image-is : R pairs rs (encode V1 cs) i .image ≡ encode V1 (at i)
     image-is = stands pairs rs (encode V1 cs) i ∙ same-images V1 cs (R pairs rs (encode V1 cs) i .sent) gc (all-bytes pairs rs (encode V1 cs) ib fp fit i h)
 
-    decode-is : decode V1 (R pairs rs (encode V1 cs) i .image) ≡ at i
+    pub decode-is : decode V1 (R pairs rs (encode V1 cs) i .image) ≡ at i
     decode-is = ap (decode V1) image-is ∙ goodEncodes V1 (at i) cards-good .same
 
-  before-zero : (i : ℕ) → R pairs rs (encode V1 cs) (suc i) .number ≡ 0 → R pairs rs (encode V1 cs) i .number ≡ 0
+  pub before-zero : (i : ℕ) → R pairs rs (encode V1 cs) (suc i) .number ≡ 0 → R pairs rs (encode V1 cs) i .number ≡ 0
   before-zero i z = go (next pairs rs (encode V1 cs) i)
     where
       go : Idle pairs rs (encode V1 cs) i ⊎ Sends pairs rs (encode V1 cs) i → R pairs rs (encode V1 cs) i .number ≡ 0
       go (inl idle) = sym (ap (λ (r : Recovery). r .number) (idle .same)) ∙ z
       go (inr s) = s .so-far
 
-  module _ (i : ℕ) (h : i < length rs) (z : R pairs rs (encode V1 cs) (suc i) .number ≡ 0) (l : Language) (k : ℕ) where
-    abbrev old : List ℕ
-    old = text l (getD (at i .cards) k (noCard V1))
-
+  -- The request for record i, on the cards before it.
+  module _ (i : ℕ) (h : i < length rs) where
     abbrev r : LogRecord
     r = recordIn rs i
 
     upto : i ≤ length rs
     upto = omega arith
 
-    number-here : Sends pairs rs (encode V1 cs) i → numberOn V1 (at i) (S pairs rs (encode V1 cs) i) ≡ 0
+    pub number-here : Sends pairs rs (encode V1 cs) i → numberOn V1 (at i) (S pairs rs (encode V1 cs) i) ≡ R pairs rs (encode V1 cs) (suc i) .number
     unfolding recoveryStep replied
     number-here s =
         ap (λ (e : Event). e .answer .number) (sym (same-event V1 (at i) (S pairs rs (encode V1 cs) i) (cards-good i upto)))
         ∙ ap (λ (im : List ℕ). serve V1 im (S pairs rs (encode V1 cs) i .command) (S pairs rs (encode V1 cs) i .lent) .answer .number) (sym (image-is i upto))
         ∙ sym (ap (λ (q : Recovery). q .number) (s .now))
-        ∙ z
 
-    cards-next : Sends pairs rs (encode V1 cs) i → at (suc i) ≡ cardsBy V1 (numberOn V1 (at i) (S pairs rs (encode V1 cs) i)) (at i) (S pairs rs (encode V1 cs) i)
+    pub cards-next : Sends pairs rs (encode V1 cs) i → at (suc i) ≡ cardsBy V1 (numberOn V1 (at i) (S pairs rs (encode V1 cs) i)) (at i) (S pairs rs (encode V1 cs) i)
     unfolding recoveryStep cardsFrom
     cards-next s = ap (λ (q : Recovery). cardsFrom V1 cs (q .sent)) (s .now)
 
-    fields-here : fieldsOf V1 (S pairs rs (encode V1 cs) i .command) ≡ writeOf pairs (R pairs rs (encode V1 cs) i .image) r
+    pub fields-here : fieldsOf V1 (S pairs rs (encode V1 cs) i .command) ≡ writeOf pairs (R pairs rs (encode V1 cs) i .image) r
     unfolding recoverySent
     fields-here = fields-command (writeOf pairs (R pairs rs (encode V1 cs) i .image) r) (recordText r) V1 (fits-here pairs rs (encode V1 cs) ib fp fit i h) (lit< tt)
 
@@ -197,25 +194,29 @@ module _ (pairs : Pairs) (rs : List LogRecord) (cs : Cards) (gc : GoodCards V1 c
     unfolding recoverySent
     payload-here = payload-command (writeOf pairs (R pairs rs (encode V1 cs) i .image) r) (recordText r) V1
 
-    text-more : text l (getD (at (suc i) .cards) k (noCard V1)) ≡ cond (rewrites rs l k i) (recordText r) old
+  module _ (i : ℕ) (h : i < length rs) (z : R pairs rs (encode V1 cs) (suc i) .number ≡ 0) (l : Language) (k : ℕ) where
+    abbrev old : List ℕ
+    old = text l (getD (at i .cards) k (noCard V1))
+
+    text-more : text l (getD (at (suc i) .cards) k (noCard V1)) ≡ cond (rewrites rs l k i) (recordText (r i h)) old
     text-more = go (next pairs rs (encode V1 cs) i)
       where
-        mixed : (a b : Bool) → cond a (cond b (recordText r) old) old ≡ cond (a && b) (recordText r) old
+        mixed : (a b : Bool) → cond a (cond b (recordText (r i h)) old) old ≡ cond (a && b) (recordText (r i h)) old
         mixed true b = refl
         mixed false b = refl
 
-        go : Idle pairs rs (encode V1 cs) i ⊎ Sends pairs rs (encode V1 cs) i → text l (getD (at (suc i) .cards) k (noCard V1)) ≡ cond (rewrites rs l k i) (recordText r) old
+        go : Idle pairs rs (encode V1 cs) i ⊎ Sends pairs rs (encode V1 cs) i → text l (getD (at (suc i) .cards) k (noCard V1)) ≡ cond (rewrites rs l k i) (recordText (r i h)) old
         go (inl idle) =
             ap (λ (q : Recovery). text l (getD (cardsFrom V1 cs (q .sent) .cards) k (noCard V1))) (idle .same)
             ∙ sym (rw (idle .why (before-zero i z)))
         go (inr s) =
-            ap (λ (m : Cards). text l (getD (m .cards) k (noCard V1))) (cards-next s)
-            ∙ text-after (at i) (S pairs rs (encode V1 cs) i) (writeOf pairs (R pairs rs (encode V1 cs) i .image) r) (recordText r) fields-here payload-here (number-here s) l k
-            ∙ ap (λ (m : List ℕ). cond (eqb (recordCard r) k) m old) (step-text (getD (at i .cards) k (noCard V1)) (recoveryPair pairs (recordCard r)) (entryFor (R pairs rs (encode V1 cs) i .image) (recordCard r)) r l (counted (at i) (cards-good i upto) k))
-            ∙ mixed (eqb (recordCard r) k) (sideIs l (recordSide r))
-            ∙ sym (ap (λ (d : Bool). cond (d && (eqb (recordCard r) k && sideIs l (recordSide r))) (recordText r) old) (s .is-due))
+            ap (λ (m : Cards). text l (getD (m .cards) k (noCard V1))) (cards-next i h s)
+            ∙ text-after (at i) (S pairs rs (encode V1 cs) i) (writeOf pairs (R pairs rs (encode V1 cs) i .image) (r i h)) (recordText (r i h)) (fields-here i h) (payload-here i h) (number-here i h s ∙ z) l k
+            ∙ ap (λ (m : List ℕ). cond (eqb (recordCard (r i h)) k) m old) (step-text (getD (at i .cards) k (noCard V1)) (recoveryPair pairs (recordCard (r i h))) (entryFor (R pairs rs (encode V1 cs) i .image) (recordCard (r i h))) (r i h) l (counted (at i) (cards-good i (upto i h)) k))
+            ∙ mixed (eqb (recordCard (r i h)) k) (sideIs l (recordSide (r i h)))
+            ∙ sym (ap (λ (d : Bool). cond (d && (eqb (recordCard (r i h)) k && sideIs l (recordSide (r i h)))) (recordText (r i h)) old) (s .is-due))
 
-  texts : (i : ℕ) → i ≤ length rs → R pairs rs (encode V1 cs) i .number ≡ 0 → (l : Language) (k : ℕ)
+  pub texts : (i : ℕ) → i ≤ length rs → R pairs rs (encode V1 cs) i .number ≡ 0 → (l : Language) (k : ℕ)
       → text l (getD (at i .cards) k (noCard V1)) ≡ rewritten rs l k i (text l (getD (cs .cards) k (noCard V1)))
   unfolding recovering rewritten cardsFrom
   texts zero h z l k = refl

@@ -4,6 +4,7 @@ pub mod Claims
 pub mod Zeros
 pub mod Order
 pub mod Full
+pub mod Life
 pub mod Cases
 pub mod Edges
 pub mod Uses

@@ -1,3 +1,4 @@
 pub mod Claims
+pub mod Life
 pub mod Cases
 pub mod Edges

@@ -1,0 +1,12 @@
+pub mod Records
+pub mod Due
+pub mod Serving
+pub mod Kept
+pub mod Requests
+pub mod Orders
+pub mod Arrivals
+pub mod Logged
+pub mod Rewriting
+pub mod Renewing
+pub mod Claims
+pub mod Joint

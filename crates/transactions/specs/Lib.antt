@@ -1,0 +1,3 @@
+pub mod System
+pub mod Claims
+pub mod Desks

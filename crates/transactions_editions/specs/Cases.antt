@@ -1,0 +1,65 @@
+-- An original and its translation changed by one transaction, and an original alone: what a reader of the translation
+-- gets after each part, by computation on bytes. Proved in proofs/Cases.antt.
+-- Assumes nothing.
+use Prim.Native.Nat.{ℕ}
+use mathlib.Core.Path.{_≡_}
+use mathlib.Core.List.{List, [], _∷_, _++_}
+use mathlib.Core.Bool.{true, false}
+use lib.ListN.{take}
+use Rattle.stamps.specs.Stamp.{exclusive, noMark}
+use Rattle.model.specs.Cases.{pair, withPairs, sends, text205, text401, long}
+use Rattle.redo_log.specs.Log.{LogRecord}
+use Rattle.redo_log_claims.specs.Cases.{beginOf, commitOf}
+use Rattle.transactions.specs.System.{OneDesk, Step, other, order, arrive, outcome, afterSteps}
+use Rattle.transactions_cases.specs.Cases.{atFirst, text190, text380, one, five, command, writes1, ours, prepare, writeOut, release, logs, logsAll, inOrder, Shows, both, single}
+use Rattle.transactions_editions.specs.Editions.{currentIn, currentAlong}
+
+-- Desk 1 writes card 0 in both languages.
+abbrev pub writtenTwice : List Step
+writtenTwice = writes1 0 (one 1) text190 ∷ other (sends (withPairs 4 exclusive 0 (pair 0 (one 1)) (pair 0 (one 1)) noMark noMark 1 3) text380 []) ∷ []
+
+-- Desk 5 logs these updates and prepares the card; it commits; it writes the original out, and the translation, and
+-- releases the card.
+abbrev pub makesReady : List LogRecord → List Step
+makesReady us = logs (beginOf 1) ∷ logsAll us ++ (order (prepare 0 (one 1) (five 2)) 0 0 ∷ arrive 0 ∷ [])
+
+abbrev pub commitsIt : List Step
+commitsIt = logs (commitOf 1) ∷ []
+
+abbrev pub originalOut : List Step
+originalOut = order (writeOut 0 (five 2) (five 3) text205) 1 0 ∷ arrive 0 ∷ []
+
+abbrev pub translationOut : List Step
+translationOut = order (sends (withPairs 4 exclusive 0 (pair 0 (five 3)) (pair 0 (five 4)) ours ours 2 3) text401 []) 2 0 ∷ arrive 0 ∷ []
+
+abbrev pub releasedAt : ℕ → List Step
+releasedAt x = order (release 0 x (five 5)) 0 0 ∷ arrive 0 ∷ []
+
+-- A read of the translation, and what it gets after each part.
+abbrev pub readIt : OneDesk → Shows
+readIt y =
+    let r = outcome y (command 2 0 (five 9) (five 9) noMark noMark [] (long 3)) in
+    record { number = r .answer .number; text = take (r .answer .length) (r .reply) }
+
+abbrev pub translationAfter : OneDesk → List (List Step) → List Shows
+translationAfter y [] = []
+translationAfter y (part ∷ parts) = readIt (afterSteps 5 y part) ∷ translationAfter (afterSteps 5 y part) parts
+
+abbrev pub readerGets : ℕ → List ℕ → Shows
+readerGets number text = record { number = number; text = text }
+
+abbrev pub together : List (List Step)
+together = writtenTwice ∷ makesReady both ∷ commitsIt ∷ originalOut ∷ translationOut ∷ releasedAt (five 4) ∷ []
+
+abbrev pub originalAlone : List (List Step)
+originalAlone = writtenTwice ∷ makesReady single ∷ commitsIt ∷ originalOut ∷ releasedAt (five 3) ∷ []
+
+pub record DropsChanged : Type 0 where
+  pub rules : inOrder atFirst together ≡ true
+  -- the old one, nothing while the card is marked, the new one
+  pub reads : translationAfter atFirst together ≡ readerGets 0 text380 ∷ readerGets 4 [] ∷ readerGets 4 [] ∷ readerGets 4 [] ∷ readerGets 4 [] ∷ readerGets 0 text401 ∷ []
+  pub current : currentAlong 5 atFirst (currentIn (atFirst .image)) (writtenTwice ++ (makesReady both ++ commitsIt)) 0 ≡ true
+  -- the original alone: the translation is behind from the commit on, and no reader is shown it
+  pub rules-alone : inOrder atFirst originalAlone ≡ true
+  pub reads-alone : translationAfter atFirst originalAlone ≡ readerGets 0 text380 ∷ readerGets 4 [] ∷ readerGets 4 [] ∷ readerGets 4 [] ∷ readerGets 6 [] ∷ []
+  pub behind : currentAlong 5 atFirst (currentIn (atFirst .image)) (writtenTwice ++ (makesReady single ++ commitsIt)) 0 ≡ false

@@ -1,0 +1,4 @@
+pub mod Taken
+pub mod Claims
+pub mod Holders
+pub mod Cases
