@@ -7,31 +7,14 @@ ghost use Rattle.guard.specs.Judge.{behind};
 ghost use Rattle.guard.specs.Replies.{blankReply, readLength, replied, refused};
 ghost use Rattle.lists.specs.Table.{settled};
 use commands::Command;
-use stamps::MALFORMED;
+use numbers::ACCEPTED;
+use numbers::MALFORMED;
+use numbers::NO_CARD;
+use numbers::UNSOUND;
 use stamps::Mark;
 use stamps::Pair;
 
 // ---- The numbers of the table. Number 1 stands with the rules of stamps.
-
-pub const ACCEPTED: u8 = 0;
-
-pub const NO_CARD: u8 = 2;
-
-pub const STALE: u8 = 3;
-
-pub const MARK_DIFFERS: u8 = 4;
-
-pub const PAYLOAD_LONG: u8 = 5;
-
-pub const EDITION_WRONG: u8 = 6;
-
-pub const EDITIONS_SPENT: u8 = 7;
-
-pub const REPLY_SHORT: u8 = 8;
-
-pub const UNSOUND: u8 = 9;
-
-pub const TOO_FAR: u8 = 17;
 
 // ---- The guard of one card: an entry that judges a command.
 

@@ -27,12 +27,13 @@ use Rattle.guard.specs.Replies.{replied, refused}
 use Rattle.guard.specs.declared.Answer.{Answer}
 use Rattle.stream.specs.Stream.{commands, endOf}
 use Rattle.history.specs.WorkedOut.{concerns, entryFrom, textFrom}
-use Rattle.history.specs.Engine.{mostKept, mostPayload, overLimits, HISTORY-FULL, readFrom, guardRows, engineRows, keptBy, deducedBy, deduced}
+use Rattle.history.specs.Engine.{mostKept, mostPayload, overLimits, readFrom, guardRows, engineRows, keptBy, deducedBy, deduced}
 use Rattle.history.specs.Lent.{historySize, keptIn, bytesBy, usedBy, HistoryOutcome, historyServe}
-use Rattle.history.specs.Steps.{Measured, writtenBy, overWith, weighedNumber, weighed, historyCarried}
+use Rattle.history.specs.inner.Steps.{Measured, writtenBy, overWith, weighedNumber, weighed, historyCarried}
 use Rattle.history.specs.declared.Totals.{Totals}
 use Rattle.history.proofs.Raised.{one-translation, entry-here}
 use Rattle.history.proofs.Extents.{Sized, sized-commands, sized-last, over-is, fits-behind}
+use Rattle.numbers.specs.Numbers.{HISTORY-FULL}
 
 -- ---- weighing
 

@@ -6,8 +6,8 @@ ghost use Rattle.history.specs.Lent.{historyServe};
 use commands::Parsed;
 use guard::Answer;
 use guard::Judged;
-use guard::NO_CARD;
-use stamps::MALFORMED;
+use numbers::MALFORMED;
+use numbers::NO_CARD;
 
 // How many commands a history keeps at most, and how many payload bytes these have in all at most.
 pub const MOST_KEPT: usize = 200;
@@ -16,9 +16,6 @@ pub const MOST_PAYLOAD: usize = 32768;
 
 // The lent bytes: room for a history at both limits.
 pub const SIZE: usize = 43168;
-
-// The number of a history that has no room for one more accepted command.
-pub const FULL: u8 = 22;
 
 // What a request is answered, and how many of the lent bytes are used after it.
 pub struct HistoryAnswer {

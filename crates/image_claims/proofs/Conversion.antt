@@ -8,7 +8,7 @@ use borrow.Author.Tests.{eqb-true, not-false}
 use lib.Dec.{T, eqb, lit<}
 use lib.ListN.{length, getD, length-map}
 use Rattle.lists.specs.Le.{le, toLe}
-use Rattle.lists.specs.Parts.{part, spread, table, every, zeros, Bytes}
+use Rattle.lists.specs.Parts.{part, concatMap, tabulate, every, zeros, Bytes}
 use Rattle.lists.specs.Table.{all, allFrom, applies}
 use Rattle.lists.proofs.Bytes.{Bytes-nil}
 use Rattle.lists.proofs.Table.{unapplied, none-applies}
@@ -131,5 +131,5 @@ conversion image lent b e =
 -- ---- the worked cases, by computation
 
 pub convert-cases : ConvertCases
-unfolding converted decode cardAt sound headerSound cardSound translationSound tailZero entryAt readEntry encode bodies pad entryBytes header makes shapeOk entrySound all allFrom le toLe part spread table every zeros
+unfolding converted decode cardAt sound headerSound cardSound translationSound tailZero entryAt readEntry encode bodies pad entryBytes header makes shapeOk entrySound all allFrom le toLe part concatMap tabulate every zeros
 convert-cases = record { image = refl; numbers = refl }

@@ -24,7 +24,7 @@ use Rattle.lock_queue.proofs.Standing.{stands-place, stands-append, map-append}
 use Rattle.lock_queue.proofs.Judged.{each-once, accepted-good, accepted-after, leave-place, lapse-leaves}
 use Rattle.lock_queue.proofs.Removed.{all-at, gone, removed-absent, stands-inside, place-desk, place-last, none-exclusive}
 use Rattle.lock_queue.proofs.After as queue-after
-use Rattle.lock_queue.proofs.After.{after-keeps, absent, joined-standing, joined-good, some-left, without-standing, without-good, up-left, up-lie, up-again, up-plain, plainly, onto-largest}
+use Rattle.lock_queue.proofs.After.{after-keeps, absent, joined-standing, joined-good, some-left, without-standing, without-good, up-left, up-lie, up-again, up-plain, plainly, queueJoined-largest}
 
 pub each-number : EachNumber
 unfolding number
@@ -110,7 +110,7 @@ largest-grows lent q r =
     after-keeps (λ s. (q .largest .s ≤ s .largest .s) × (q .largest .x ≤ s .largest .x)) lent q r (omega arith) (made r)
   where
     made : (r : Request) → number lent q r ≡ 0 → (q .largest .s ≤ applied r q .largest .s) × (q .largest .x ≤ applied r q .largest .x)
-    made (asks new) e = rw (onto-largest (new .mode) (desk new) q) (larger-old (q .largest) (new .pair))
+    made (asks new) e = rw (queueJoined-largest (new .mode) (desk new) q) (larger-old (q .largest) (new .pair))
     made (leaves d) e = omega arith
     made (lapses l) e = omega arith
 

@@ -11,7 +11,7 @@ use Rattle.program.proofs.Puts.{put-put, put-wide, Putting, putting-non
 use Rattle.guard.specs.declared.Answer.{Answer}
 use Rattle.program.specs.Program.{lineBy, lineOf, linesFrom, lastLine, mostLine, printed, mostPrinted}
 use Rattle.store.specs.Runs.{runs, numbersOf}
-use Rattle.model.specs.Serve.{serve}
+use Rattle.store_model.specs.Serve.{serve}
 use Rattle.stream.specs.Stream.{commands, nextAt, endOf}
 use Rattle.stream.specs.declared.Next.the-variants.{Whole, Cut}
 use Rattle.stream.proofs.Commands.{Walked, walked-none, walked-more, walked-done}

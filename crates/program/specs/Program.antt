@@ -11,7 +11,7 @@ use Rattle.image.specs.Layout.{mostBytes, mostRoom}
 use Rattle.image.specs.Bytes.{countOf, roomOf}
 use Rattle.image.specs.Image.{goodFront, frontSize, sound}
 use Rattle.guard.specs.declared.Answer.{Answer}
-use Rattle.lists.specs.Parts.{spread}
+use Rattle.lists.specs.Parts.{concatMap}
 use Rattle.store.specs.Runs.{Run, runs, numbersOf, perLine}
 use Rattle.stream.specs.Stream.{commands, endOf}
 use Rattle.program.specs.Text.{quoted, decimal, spaced, mostDigits}
@@ -24,7 +24,7 @@ firstLine cards = quoted "cards" ++ spaced cards ++ quoted "\n"
 
 -- A command's line: its place, then the numbers of its answer.
 abbrev pub lineBy : ℕ → List ℕ → List ℕ
-lineBy place numbers = decimal place ++ spread spaced numbers ++ quoted "\n"
+lineBy place numbers = decimal place ++ concatMap spaced numbers ++ quoted "\n"
 
 unfoldable pub lineOf : ℕ → Answer → List ℕ
 lineOf place a = lineBy place (numbersOf a)

@@ -18,7 +18,7 @@ use Rattle.lists.proofs.Parts.{drop-left, part-part}
 use Rattle.lists.proofs.Every.{every-fail}
 use Rattle.redo_log.specs.Log.{LogRecord, beginKind, commitKind, bodiesFrom, mostLog, mostRecords, shaped, follows, joins, total, checksum, kindAt, placeAt, lengthAt, sumAt, recordCount, startAt, recordAt, lastBegun, opened, recordOk, goodLog}
 use Rattle.redo_log.proofs.Records.{start-next, ok-inside, begin-length}
-use Rattle.redo_log.specs.Scanned.{scanned}
+use Rattle.redo_log.specs.inner.Scanned.{scanned}
 use Rattle.redo_log.specs.declared.inner.reading.Scan.{Scan}
 
 -- ---- the sum

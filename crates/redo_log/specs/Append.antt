@@ -9,7 +9,8 @@ use lib.Dec.{ltb, eqb}
 use Rattle.lists.specs.Le.{toLe}
 use Rattle.lists.specs.Table.{Row, row, first}
 use Rattle.lists.specs.Parts.{every}
-use Rattle.redo_log.specs.Log.{BAD-LOG, LogRecord, bodiesFrom, mostLog, mostRecords, recordCount, linePlace, startAt, recordAt, lastBegun, opened, recordOk, joins, checksum, goodLog}
+use Rattle.redo_log.specs.Log.{LogRecord, bodiesFrom, mostLog, mostRecords, recordCount, linePlace, startAt, recordAt, lastBegun, opened, recordOk, joins, checksum, goodLog}
+use Rattle.numbers.specs.Numbers.{BAD-LOG, LOG-FULL, APPEND-CUT}
 
 -- ---- stores (rule 11.9): the power may fail between any two of them
 
@@ -47,13 +48,6 @@ accepts log r = goodLog log && joins (lastBegun (recordAt log) (recordCount log)
 
 abbrev pub lacks : List ℕ → LogRecord → Bool
 lacks log r = eqb (recordCount log) mostRecords || ltb (length log) (startAt log (recordCount log) + length (r .body))
-
--- The numbers of an append that has no room, and of one that is cut.
-abbrev pub LOG-FULL : ℕ
-LOG-FULL = 24
-
-abbrev pub APPEND-CUT : ℕ
-APPEND-CUT = 26
 
 -- Rule 11.11, in its order.
 abbrev pub appendRows : ℕ → List ℕ → LogRecord → List Row

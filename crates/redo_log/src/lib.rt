@@ -4,13 +4,10 @@ pub mod inner;
 ghost use mathlib.Core.Path.{_≡_};
 ghost use Rattle.redo_log.specs.Log.{logNumber, readAt};
 ghost use Rattle.redo_log.specs.Append.{appendNumber, appended};
+use numbers::APPEND_CUT;
+use numbers::BAD_LOG;
+use numbers::LOG_FULL;
 use slices::inner::fixed_width as le;
-
-pub const BAD_LOG: u8 = 23;
-
-pub const LOG_FULL: u8 = 24;
-
-pub const CUT: u8 = 26;
 
 // 0 for a good log, else 23.
 pub fn check(log: &[u8]) -> u8
@@ -69,7 +66,7 @@ pub fn append(log: &mut [u8], kind: u8, body: &[u8], budget: usize) -> u8
     }
     inner::storing::store(log, kind, body, stop, budget);
     if budget < body.len() + 12 {
-        return CUT;
+        return APPEND_CUT;
     }
     0
 }

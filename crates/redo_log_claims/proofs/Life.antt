@@ -10,7 +10,7 @@ use borrow.Author.Tests.{eqb-true, eqb-false, eq-eqb, ltb-true, le-leb}
 use lib.ListN.{length, take, drop, getD, set, length-set}
 use lib.Seq.{set-set, set-comm, take-all, getD-take, getD-drop, getD-set-same, getD-set-other, take-set-lt, drop-set-add}
 use lib.Dec.{eqb, ltb, leb, lit<}
-use Rattle.lists.specs.Parts.{Bytes, part, splice, table, every}
+use Rattle.lists.specs.Parts.{Bytes, part, splice, tabulate, every}
 use Rattle.lists.specs.Le.{le, field}
 use Rattle.lists.specs.Search.{any}
 use Rattle.lists.specs.Table.{all, allFrom}
@@ -330,7 +330,7 @@ byte-changed log i p b g lb h low high small ne = rw (bad-now log i p b g lb h l
 -- ---- a log that begins again
 
 pub renews : Renews
-unfolding stored puts goodLog records every table
+unfolding stored puts goodLog records every tabulate
 renews log g =
     let s = sizes log g in
     let none : recordCount (set log 0 0) ≡ 0 = getD-set-same log 0 0 0 (omega (arith, s .0)) in

@@ -10,7 +10,7 @@ use borrow.Author.Tests.{eq-eqb, le-leb, ltb-true, eqb-true}
 use lib.ListN.{length, take, getD}
 use lib.Seq.{take-all}
 use lib.Dec.{ltb, leb, eqb, lit<}
-use Rattle.lists.specs.Parts.{Bytes, part, splice, table, every}
+use Rattle.lists.specs.Parts.{Bytes, part, splice, tabulate, every}
 use Rattle.lists.specs.Le.{le, toLe, field}
 use Rattle.lists.specs.Table.{all, allFrom}
 use Rattle.lists.proofs.Tests.{and-left, and-right, or-cases}
@@ -226,9 +226,9 @@ module _ (log : List ℕ) (r : LogRecord) (room : Admitted log r) where
       (every-more (recordOk (full log r)) (recordCount log) old ok-there)
 
   pub records-there : records (full log r) ≡ records log ++ r ∷ []
-  unfolding records table
+  unfolding records tabulate
   records-there =
       let one : recordCount log + 1 ≡ suc (recordCount log) = omega arith in
-      ap (table (recordAt (full log r))) (count-there ∙ one)
-      ∙ ap (λ (e : LogRecord). table (recordAt (full log r)) (recordCount log) ++ (e ∷ [])) record-there
+      ap (tabulate (recordAt (full log r))) (count-there ∙ one)
+      ∙ ap (λ (e : LogRecord). tabulate (recordAt (full log r)) (recordCount log) ++ (e ∷ [])) record-there
       ∙ ap (λ (l : List LogRecord). l ++ (r ∷ [])) (sym (records-same log (full log r) same-full))

@@ -21,9 +21,6 @@ pub const SHARED: u8 = 1;
 
 pub const EXCLUSIVE: u8 = 2;
 
-// The number of a mode or of stamps that break the rules.
-pub const MALFORMED: u8 = 1;
-
 // A stamp is T.desk.start: 32, 16 and 16 bits, T highest. So many numbers a start, a desk, and a desk with its start have.
 pub const STARTS: u64 = 65536;
 

@@ -8,7 +8,7 @@ use lib.ListN.{length, drop}
 use lib.Seq.{drop-length}
 use Rattle.texts.specs.Text.{Section, sectionBytes, Says, WellFormedText, deepest}
 use Rattle.texts.specs.Agree.{verdict, told, placed, unmatched, Compared, judged}
-use Rattle.texts.specs.Walk.{SectionThere, walked, TwoSections, SectionsWalked}
+use Rattle.texts.specs.inner.Walk.{SectionThere, walked, TwoSections, SectionsWalked}
 use Rattle.texts.specs.declared.inner.walk.Walk.the-variants.{Same, Differ}
 use Rattle.texts.specs.declared.Agreement.the-variants.{Agree, Unmatched}
 

@@ -9,10 +9,10 @@ use Rattle.lists.specs.Parts.{part}
 use Rattle.lists.specs.Le.{le, toLe, field}
 use Rattle.lists.proofs.Le.{length-toLe, le-toLe}
 use Rattle.lists.proofs.Parts.{drop-left}
-use Rattle.drops.specs.Drop.{Scale, unitByte}
+use Rattle.text_drops.specs.Drop.{Scale, unitByte}
 use Rattle.texts.specs.Text.{TextStep, words, temperature, section, Section, _then_, stepCount, stepBytes, stepsBytes, sectionBytes, StepWithin, StepsWithin, SectionWithin}
 use Rattle.texts.proofs.Reading.{two, step-long, out}
-use Rattle.texts.specs.Walk.{SectionThere, StepThere, StepsThere}
+use Rattle.texts.specs.inner.Walk.{SectionThere, StepThere, StepsThere}
 
 -- The byte that a step begins with.
 abbrev pub kind : TextStep → ℕ

@@ -6,10 +6,10 @@ use mathlib.Core.Bool.{Bool, true, false, cond}
 use mathlib.Core.Option.{Option, none, some}
 use mathlib.Core.List.{List}
 use lib.ListN.{length, getD, length-append}
-use Rattle.drops.specs.Drop.{Scale, celsius, fahrenheit, unitByte, scaleOf, dropOf, near}
+use Rattle.text_drops.specs.Drop.{Scale, celsius, fahrenheit, unitByte, scaleOf, dropOf, near}
 use Rattle.texts.specs.Text.{TextStep, words, temperature, section, Section, done, _then_, stepCount, stepBytes, stepsBytes, sectionBytes}
 use Rattle.texts.specs.Agree.{unmatchedStep, unmatched, orElse}
-use Rattle.texts.specs.Walk.{dropThere, walked, TwoSections, TwoRuns, TwoSteps, SectionsWalked, RunsWalked, StepsWalked}
+use Rattle.texts.specs.inner.Walk.{dropThere, walked, TwoSections, TwoRuns, TwoSteps, SectionsWalked, RunsWalked, StepsWalked}
 use Rattle.texts.specs.declared.inner.walk.Walk.{Walk}
 use Rattle.texts.specs.declared.inner.walk.Walk.the-variants.{Same, Differ}
 use Rattle.texts.proofs.Standing.{kind, opened, step-of, rest-of, step-fits, kind-here, words-here, drop-here, section-here, words-end, drop-end}

@@ -9,7 +9,7 @@ use Rattle.lists.proofs.Every.{every-out}
 use Rattle.lists.proofs.Tests.{and-left, and-right}
 use Rattle.lists.specs.Le.{le as leNumber, toLe}
 use Rattle.floats.specs.Numbers.{wholeFloat, half}
-use Rattle.drops.specs.Drop.{degreesOf, dropOf, inFahrenheit, near}
+use Rattle.text_drops.specs.Drop.{degreesOf, dropOf, inFahrenheit, near}
 use Rattle.texts.specs.Text.{stepCount, stepBytes}
 use Rattle.texts.specs.Agree.{unmatchedStep, verdict}
 use Rattle.texts_claims.specs.Cases.{times, around, sample, textCases, TextsWorked, SampleWorked, PlacesWorked}

@@ -12,7 +12,7 @@ use borrow.Author.Tests.{eqb-true, ltb-true, le-leb}
 use Rattle.lists.specs.Le.{le, toLe}
 use Rattle.lists.proofs.Le.{le-toLe}
 use Rattle.lists.proofs.Tests.{and-left, and-right, never-both}
-use Rattle.drops.specs.Drop.{Scale, celsius, fahrenheit, unitByte}
+use Rattle.text_drops.specs.Drop.{Scale, celsius, fahrenheit, unitByte}
 use Rattle.texts.specs.Text.{TextStep, words, temperature, section, Section, done, _then_, stepCount, stepBytes, stepsBytes, sectionBytes, StepWithin, StepsWithin, SectionWithin, deepest, Says, WellFormedText}
 use Rattle.texts.specs.Agree.{unmatched, Verdict, verdict, placed, Compared, firstIll, secondIll, judged}
 use Rattle.texts.proofs.Reading.{out}

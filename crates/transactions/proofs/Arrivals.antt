@@ -17,11 +17,11 @@ use Rattle.commands.specs.Command.{Language, isWrite, writes}
 use Rattle.commands.specs.Bytes.{payload}
 use Rattle.guard.specs.declared.Answer.{Answer}
 use Rattle.image.specs.Image.{Card, Cards, text, encode}
-use Rattle.model.specs.Words.{Sent}
-use Rattle.model.proofs.Machine.{numberOn}
+use Rattle.store_model.specs.Words.{Sent}
+use Rattle.store_model.proofs.Machine.{numberOn}
 use Rattle.redo_log.specs.Log.{LogRecord, recordText, records}
-use Rattle.recovery_model.specs.Recovery.{recordIn}
-use Rattle.recovery_model.specs.Claims.{rewrites, rewritten}
+use Rattle.redo_recovery_model.specs.Recovery.{recordIn}
+use Rattle.redo_recovery_model.specs.Claims.{rewrites, rewritten}
 use Rattle.transactions.specs.System.{OneDesk, Order, Shown, Holding, unknown, held, free, arrive, noOrder, commandIn, expects, leaves, prepares, writesOut, releases, lawful, outcome, heardOf, noting, reachOf, afterStep}
 use Rattle.transactions.proofs.Records.{All, all-map}
 use Rattle.transactions.proofs.Due.{rewritten-none, rewritten-some}

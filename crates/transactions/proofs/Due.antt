@@ -12,8 +12,8 @@ use Rattle.lists.specs.Search.{any}
 use Rattle.lists.proofs.Tests.{cases, never-both, and-left, and-right, and-in}
 use Rattle.commands.specs.Command.{Language}
 use Rattle.redo_log.specs.Log.{LogRecord, updateKind, commitKind, syncedKind, recordCard, recordSide, recordText, recordTransaction, opened}
-use Rattle.recovery_model.specs.Recovery.{recordIn, transactionIn, commitsTo, syncsFrom, due}
-use Rattle.recovery_model.specs.Claims.{sideIs, rewrites, rewritten}
+use Rattle.redo_recovery_model.specs.Recovery.{recordIn, transactionIn, commitsTo, syncsFrom, due}
+use Rattle.redo_recovery_model.specs.Claims.{sideIs, rewrites, rewritten}
 use Rattle.transactions.specs.System.{updateIn, changesText, withUpdates}
 use Rattle.transactions.proofs.Records.{any-more, none-of, more, length-more, in-old, in-new, transaction-old, due-past, closing, Below, Ordered, Followed, kind-not}
 

@@ -18,16 +18,16 @@ use Rattle.commands.specs.Command.{Language, isWrite, writes}
 use Rattle.commands.specs.Bytes.{payload, formed}
 use Rattle.image.specs.Image.{Card, Cards, GoodCards, text, encode, decode, sound}
 use Rattle.image_claims.proofs.Claims.{soundReadsBack, goodEncodes}
-use Rattle.model.specs.Serve.{Outcome, serve}
-use Rattle.model.specs.Words.{Sent}
-use Rattle.model.specs.Claims.{SentBytes}
-use Rattle.model.proofs.Machine.{numberOn}
-use Rattle.model.proofs.Simulation.{good-more, same-image}
+use Rattle.store_model.specs.Serve.{Outcome, serve}
+use Rattle.store_model.specs.Words.{Sent}
+use Rattle.store_model.specs.Claims.{SentBytes}
+use Rattle.store_model.proofs.Machine.{numberOn}
+use Rattle.store_model.proofs.Simulation.{good-more, same-image}
 use Rattle.redo_log.specs.Log.{LogRecord, goodLog, records}
 use Rattle.redo_log.specs.Append.{appendNumber, appended}
 use Rattle.redo_log_claims.specs.Life.{renewed}
-use Rattle.recovery_model.specs.Recovery.{Pairs, FitsPairs, recovering}
-use Rattle.recovery_model.specs.Claims.{rewritten}
+use Rattle.redo_recovery_model.specs.Recovery.{Pairs, FitsPairs, recovering}
+use Rattle.redo_recovery_model.specs.Claims.{rewritten}
 use Rattle.transactions.specs.System.{OneDesk, Order, Shown, Holding, unknown, held, free, Step, other, order, arrive, append, crash, recover, renew, noOrder, commandIn, expects, leaves, lawful, meantAfter, meantLogged, afterStep}
 use Rattle.transactions.specs.Claims.{StepBytes}
 use Rattle.transactions.specs.Desks.{Part, Desks, seenBy, partOf, desksOpening, DeskStep, outside, own, ownStep, lawfulDeskStep, afterDeskStep, afterDeskSteps, lawfulDeskSteps, DeskStepBytes, AllDeskSteps, DesksMoment, DesksCommitAtOnce, DesksMeantOnlyThen, DesksReadsMeant}
@@ -37,7 +37,7 @@ use Rattle.transactions.proofs.Kept.{bears, Stands, cardFor, Fine, prep
 use Rattle.transactions.proofs.Requests.{kept-other, kept-crash}
 use Rattle.transactions.proofs.Orders.{kept-order}
 use Rattle.transactions.proofs.Arrivals.{kept-arrive}
-use Rattle.transactions.proofs.Logged.{kept-append, unborne-meant}
+use Rattle.transactions.proofs.Traced.{kept-append, unborne-meant}
 use Rattle.transactions.proofs.Rewriting.{Raised, stays, rises, raised, kept-recover}
 use Rattle.transactions.proofs.Renewing.{kept-renew}
 use Rattle.transactions.proofs.Claims.{meant-only-then}

@@ -22,8 +22,8 @@ use Rattle.redo_log.proofs.ReadBack.{length-records, record-of}
 use Rattle.redo_log.proofs.Steps.{left-23}
 use Rattle.redo_log_claims.specs.Claims.{appendNumbers}
 use Rattle.redo_log_claims.proofs.Claims.{appends, log-listed}
-use Rattle.recovery_model.specs.Recovery.{recordIn, transactionIn, commitsTo}
-use Rattle.recovery_model.specs.Claims.{rewrites, rewritten}
+use Rattle.redo_recovery_model.specs.Recovery.{recordIn, transactionIn, commitsTo}
+use Rattle.redo_recovery_model.specs.Claims.{rewrites, rewritten}
 use Rattle.transactions.specs.System.{OneDesk, Order, Shown, Holding, unknown, held, free, append, noOrder, noShown, writtenOut, updateIn, withUpdates, isHeld, isFree, lawful, meantLogged, afterStep}
 use Rattle.transactions.proofs.Records.{All, more, length-more, in-old, Ordered, Followed, followed, ordered-more}
 use Rattle.transactions.proofs.Due.{same-apart, no-more, rewritten-same, text-same, text-commit, same-commit, applied-away}

@@ -15,11 +15,11 @@ use Rattle.commands.specs.declared.Command.{Command}
 use Rattle.commands.specs.Command.{Language, original, translation, writes, verifier, update}
 use Rattle.commands.specs.Bytes.{fieldsOf, payload}
 use Rattle.image.specs.Image.{Card, text}
-use Rattle.model.specs.Words.{Sent}
-use Rattle.model.specs.Claims.{SentBytes}
+use Rattle.store_model.specs.Words.{Sent}
+use Rattle.store_model.specs.Claims.{SentBytes}
 use Rattle.redo_log.specs.Log.{LogRecord, recordCard, recordSide, recordText, records}
-use Rattle.recovery_model.specs.Recovery.{recordIn, due}
-use Rattle.recovery_model.specs.Claims.{sideIs, rewrites, rewritten}
+use Rattle.redo_recovery_model.specs.Recovery.{recordIn, due}
+use Rattle.redo_recovery_model.specs.Claims.{sideIs, rewrites, rewritten}
 use Rattle.transactions.specs.System.{OneDesk, Order, Shown, unknown, order, noShown, commandIn, prepares, writesOut, releases, dueFor, writtenOut, sameBytes, writesLine, opensAbove, orderly, lawful, noting, afterStep}
 use Rattle.transactions.proofs.Records.{due-past}
 use Rattle.transactions.proofs.Due.{placed, rewritten-none}

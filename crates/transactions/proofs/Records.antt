@@ -13,7 +13,7 @@ use Rattle.lists.specs.Search.{any}
 use Rattle.lists.proofs.Tests.{cases, never-both, and-left, and-right, or-cases}
 use Rattle.redo_log.specs.Log.{LogRecord, noRecord, beginKind, updateKind, commitKind, syncedKind, recordTransaction, lastBegun, opened, follows}
 use Rattle.redo_log.proofs.Records.{last-ext, opened-ext}
-use Rattle.recovery_model.specs.Recovery.{recordIn, transactionIn, commitsTo, due}
+use Rattle.redo_recovery_model.specs.Recovery.{recordIn, transactionIn, commitsTo, due}
 
 -- ---- lists
 

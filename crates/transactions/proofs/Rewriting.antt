@@ -19,14 +19,14 @@ use Rattle.commands.specs.declared.Command.{Command}
 use Rattle.commands.specs.Command.{Language, update}
 use Rattle.image.specs.Image.{Card, Cards, GoodCards, text, encode, decode}
 use Rattle.image_claims.proofs.Claims.{goodEncodes}
-use Rattle.model.specs.Words.{Sent}
-use Rattle.model.proofs.Machine.{cardsBy, cardsFrom}
+use Rattle.store_model.specs.Words.{Sent}
+use Rattle.store_model.proofs.Machine.{cardsBy, cardsFrom}
 use Rattle.redo_log.specs.Log.{LogRecord, recordCard, records}
-use Rattle.recovery_model.specs.Recovery.{Pairs, FitsPairs, Recovery, recordIn, due, recoveryPair, writeOf, recovering}
-use Rattle.recovery_model.specs.Claims.{rewritten}
-use Rattle.recovery_model.proofs.Steps.{R, S, Idle, Sends, next}
-use Rattle.recovery_model.proofs.Sending.{FitsRecords, fits-log}
-use Rattle.recovery_model.proofs.Texts.{over-again, cards-good, image-is, decode-is, before-zero, number-here, cards-next, fields-here, texts}
+use Rattle.redo_recovery_model.specs.Recovery.{Pairs, FitsPairs, Recovery, recordIn, due, recoveryPair, writeOf, recovering}
+use Rattle.redo_recovery_model.specs.Claims.{rewritten}
+use Rattle.redo_recovery_model.proofs.Steps.{R, S, Idle, Sends, next}
+use Rattle.redo_recovery_model.proofs.Sending.{FitsRecords, fits-log}
+use Rattle.redo_recovery_model.proofs.Texts.{over-again, cards-good, image-is, decode-is, before-zero, number-here, cards-next, fields-here, texts}
 use Rattle.transactions.specs.System.{OneDesk, Order, Shown, unknown, recover, commandIn, markIn, storedX, dueFor, writtenOut, rewritable, lawful, shownBy, forgetting, afterStep}
 use Rattle.transactions.proofs.Records.{All, all-map}
 use Rattle.transactions.proofs.Due.{placed}

@@ -25,12 +25,12 @@ use Rattle.guard.specs.Judge.{raise}
 use Rattle.guard.specs.Replies.{blankReply, readLength, replied}
 use Rattle.guard.specs.declared.Answer.{Answer}
 use Rattle.image.specs.Image.{Card, Cards, GoodCards, view, text, noCard, encode}
-use Rattle.model.specs.Serve.{serve, stepped, textRead, requestRows, answerBy, replyBy}
-use Rattle.model.specs.Words.{Sent, Event}
-use Rattle.model.proofs.Machine.{numberOn, cardsBy, Passed, passed}
-use Rattle.model.proofs.Simulation.{same-event}
-use Rattle.model.proofs.Stepped.{text-step}
-use Rattle.recovery_model.proofs.Texts.{counted}
+use Rattle.store_model.specs.Serve.{serve, stepped, textRead, requestRows, answerBy, replyBy}
+use Rattle.store_model.specs.Words.{Sent, Event}
+use Rattle.store_model.proofs.Machine.{numberOn, cardsBy, Passed, passed}
+use Rattle.store_model.proofs.Simulation.{same-event}
+use Rattle.store_model.proofs.Stepped.{text-step}
+use Rattle.redo_recovery_model.proofs.Texts.{counted}
 use Rattle.transactions.specs.System.{commandIn}
 
 abbrev pub at : Cards → ℕ → Card

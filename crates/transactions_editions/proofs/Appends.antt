@@ -17,7 +17,7 @@ use Rattle.image.specs.Image.{Card, decode}
 use Rattle.redo_log.specs.Log.{LogRecord, commitKind, recordCard, recordTransaction, records}
 use Rattle.redo_log.specs.Append.{appendNumber, appended}
 use Rattle.redo_log_claims.proofs.Claims.{appends}
-use Rattle.recovery_model.specs.Recovery.{recordIn, due}
+use Rattle.redo_recovery_model.specs.Recovery.{recordIn, due}
 use Rattle.transactions.specs.System.{OneDesk, Order, Shown, append, renew, noOrder, noShown, dueFor, updateIn, isHeld, lawful, afterStep}
 use Rattle.transactions.proofs.Records.{all-map, more}
 use Rattle.transactions.proofs.Due.{same-commit}
@@ -26,7 +26,7 @@ use Rattle.transactions.proofs.Kept.{bears, cardFor, relies, Kept, decoded, all
 use Rattle.redo_log_claims.proofs.Life.{renews}
 use Rattle.transactions.proofs.Kept.{Held}
 use Rattle.transactions.specs.System.{meantLogged}
-use Rattle.transactions.proofs.Logged.{all-by, uncounted, held-of, Change, unchanged, unmarked, committed, follow, apart, change}
+use Rattle.transactions.proofs.Traced.{all-by, uncounted, held-of, Change, unchanged, unmarked, committed, follow, apart, change}
 use Rattle.transactions.proofs.Rewriting.{sent, new}
 use Rattle.transactions_editions.specs.Editions.{currentWith, currentBy, currentAfter}
 use Rattle.transactions_editions.proofs.Lines.{due-as, past-due, by-clear, by-same, by-same-all, with-none, by-commit-all}

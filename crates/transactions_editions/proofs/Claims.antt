@@ -19,9 +19,9 @@ use Rattle.commands.proofs.CommandBytes.{language-within}
 use Rattle.guard.specs.Judge.{behind}
 use Rattle.guard.specs.declared.Entry.{Entry}
 use Rattle.image.specs.Image.{view}
-use Rattle.model.specs.Serve.{requestRows}
-use Rattle.model.specs.Words.{Sent}
-use Rattle.model.proofs.Machine.{numberOn, passed}
+use Rattle.store_model.specs.Serve.{requestRows}
+use Rattle.store_model.specs.Words.{Sent}
+use Rattle.store_model.proofs.Machine.{numberOn, passed}
 use Rattle.redo_log.specs.Log.{records}
 use Rattle.transactions.specs.System.{OneDesk, Step, other, order, arrive, append, crash, recover, renew, oneDeskOpening, commandIn, lawful, afterStep, afterSteps, lawfulAll}
 use Rattle.transactions.specs.Claims.{StepBytes, AllSteps, Moment}

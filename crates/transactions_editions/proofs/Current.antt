@@ -14,16 +14,16 @@ use Rattle.commands.specs.Command.{original, isWrite, writes, writesTranslation
 use Rattle.commands.specs.Bytes.{payload}
 use Rattle.commands.proofs.Rules.{CommandRules}
 use Rattle.commands.proofs.CommandBytes.{language-within}
-use Rattle.model.proofs.Formed.{formed-rules}
+use Rattle.store_model.proofs.Formed.{formed-rules}
 use Rattle.guard.specs.Entry.{entrySound}
 use Rattle.guard.specs.Judge.{behind, raise}
 use Rattle.guard.specs.declared.Entry.{Entry}
 use Rattle.image.specs.Image.{Card, Cards, GoodCards, view, translationOf}
-use Rattle.model.specs.Serve.{stepped}
-use Rattle.model.specs.Words.{Sent}
-use Rattle.model.proofs.Machine.{numberOn, Passed, passed}
-use Rattle.model.proofs.Stepped.{from-step}
-use Rattle.recovery_model.proofs.Texts.{counted}
+use Rattle.store_model.specs.Serve.{stepped}
+use Rattle.store_model.specs.Words.{Sent}
+use Rattle.store_model.proofs.Machine.{numberOn, Passed, passed}
+use Rattle.store_model.proofs.Stepped.{from-step}
+use Rattle.redo_recovery_model.proofs.Texts.{counted}
 use Rattle.transactions.specs.System.{commandIn}
 use Rattle.transactions.proofs.Serving.{at, then, stepped-here}
 

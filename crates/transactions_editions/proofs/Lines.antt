@@ -11,8 +11,8 @@ use lib.Dec.{eqb, ltb}
 use Rattle.lists.proofs.Tests.{cases, and-left, and-right, and-in}
 use Rattle.commands.specs.Command.{Language, original, translation}
 use Rattle.redo_log.specs.Log.{LogRecord, commitKind, recordCard, recordSide, recordTransaction, opened}
-use Rattle.recovery_model.specs.Recovery.{recordIn, transactionIn, due}
-use Rattle.recovery_model.specs.Claims.{sideIs, rewrites}
+use Rattle.redo_recovery_model.specs.Recovery.{recordIn, transactionIn, due}
+use Rattle.redo_recovery_model.specs.Claims.{sideIs, rewrites}
 use Rattle.transactions.specs.System.{dueFor, updateIn, changesText}
 use Rattle.transactions.proofs.Records.{more, length-more, in-old, due-past, Ordered, Followed}
 use Rattle.transactions.proofs.Due.{placed, outside, hit, miss, earlier}

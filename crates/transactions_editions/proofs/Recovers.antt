@@ -16,13 +16,13 @@ use Rattle.commands.specs.declared.Command.{Command}
 use Rattle.commands.specs.Command.{isWrite, writesTranslation}
 use Rattle.image.specs.Image.{Card, Cards, GoodCards, encode, decode}
 use Rattle.image_claims.proofs.Claims.{goodEncodes}
-use Rattle.model.specs.Words.{Sent}
-use Rattle.model.proofs.Machine.{cardsFrom}
+use Rattle.store_model.specs.Words.{Sent}
+use Rattle.store_model.proofs.Machine.{cardsFrom}
 use Rattle.redo_log.specs.Log.{LogRecord, recordCard, recordSide, records}
-use Rattle.recovery_model.specs.Recovery.{Pairs, FitsPairs, Recovery, recordIn, due, recoveryPair, recovering}
-use Rattle.recovery_model.proofs.Steps.{Idle, Sends, next}
-use Rattle.recovery_model.proofs.Sending.{FitsRecords}
-use Rattle.recovery_model.proofs.Texts.{before-zero, number-here}
+use Rattle.redo_recovery_model.specs.Recovery.{Pairs, FitsPairs, Recovery, recordIn, due, recoveryPair, recovering}
+use Rattle.redo_recovery_model.proofs.Steps.{Idle, Sends, next}
+use Rattle.redo_recovery_model.proofs.Sending.{FitsRecords}
+use Rattle.redo_recovery_model.proofs.Texts.{before-zero, number-here}
 use Rattle.transactions.specs.System.{OneDesk, Shown, recover, commandIn, dueFor, lawful, shownBy, afterStep}
 use Rattle.transactions.proofs.Records.{All}
 use Rattle.transactions.proofs.Serving.{at, then}

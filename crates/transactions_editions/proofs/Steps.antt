@@ -17,12 +17,12 @@ use Rattle.commands.specs.Command.{Language, original, isWrite, writes, writesT
 use Rattle.commands.specs.Bytes.{formed}
 use Rattle.image.specs.Image.{Card, Cards, decode}
 use Rattle.image_claims.proofs.Claims.{goodEncodes}
-use Rattle.model.specs.Words.{Sent}
-use Rattle.model.specs.Claims.{SentBytes}
-use Rattle.model.proofs.Machine.{numberOn}
+use Rattle.store_model.specs.Words.{Sent}
+use Rattle.store_model.specs.Claims.{SentBytes}
+use Rattle.store_model.proofs.Machine.{numberOn}
 use Rattle.redo_log.specs.Log.{LogRecord, recordCard, recordSide, records}
-use Rattle.recovery_model.specs.Recovery.{recordIn, due}
-use Rattle.recovery_model.proofs.Steps.{next}
+use Rattle.redo_recovery_model.specs.Recovery.{recordIn, due}
+use Rattle.redo_recovery_model.proofs.Steps.{next}
 use Rattle.transactions.specs.System.{OneDesk, Order, Shown, other, order, arrive, noOrder, noShown, commandIn, expects, leaves, prepares, writesOut, releases, dueFor, writtenOut, opensAbove, orderly, writesLine, lawful, outcome, reachOf, afterStep}
 use Rattle.transactions.proofs.Records.{All}
 use Rattle.transactions.proofs.Serving.{at, then, Taken, taken, kept}

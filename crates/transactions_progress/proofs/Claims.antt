@@ -23,16 +23,16 @@ use Rattle.guard.specs.Entry.{entrySound}
 use Rattle.guard.specs.Judge.{lastEdition, editionsSpent, raise}
 use Rattle.image.specs.Image.{Card, Cards, GoodCards, view, encode, decode, sound}
 use Rattle.image_claims.proofs.Claims.{soundReadsBack, goodEncodes}
-use Rattle.model.specs.Serve.{stepped}
-use Rattle.model.specs.Words.{Sent}
-use Rattle.model.proofs.Machine.{numberOn, count-kept, cardsBy, cardsFrom}
+use Rattle.store_model.specs.Serve.{stepped}
+use Rattle.store_model.specs.Words.{Sent}
+use Rattle.store_model.proofs.Machine.{numberOn, count-kept, cardsBy, cardsFrom}
 use Rattle.redo_log.specs.Log.{LogRecord, recordCard, recordSide, recordText, goodLog, records}
-use Rattle.recovery_model.specs.Recovery.{Pairs, FitsPairs, Recovery, recordIn, due, recoveryPair, entryFor, writeOf, recoverySent, recovering, recovered}
-use Rattle.recovery_model.specs.Claims.{textIn, sideIs, rewrites}
-use Rattle.recovery_model.proofs.Steps.{R, S, Idle, Sends, next}
-use Rattle.recovery_model.proofs.Sending.{FitsRecords, fits-log, fits-here}
-use Rattle.recovery_model.proofs.Never.{fits-itself, right-edition, no-reply}
-use Rattle.recovery_model.proofs.Texts.{cards-good, decode-is, number-here, cards-next, fields-here}
+use Rattle.redo_recovery_model.specs.Recovery.{Pairs, FitsPairs, Recovery, recordIn, due, recoveryPair, entryFor, writeOf, recoverySent, recovering, recovered}
+use Rattle.redo_recovery_model.specs.Claims.{textIn, sideIs, rewrites}
+use Rattle.redo_recovery_model.proofs.Steps.{R, S, Idle, Sends, next}
+use Rattle.redo_recovery_model.proofs.Sending.{FitsRecords, fits-log, fits-here}
+use Rattle.redo_recovery_model.proofs.Never.{fits-itself, right-edition, no-reply}
+use Rattle.redo_recovery_model.proofs.Texts.{cards-good, decode-is, number-here, cards-next, fields-here}
 use Rattle.transactions.specs.System.{commandIn, markIn, storedX, dueFor, writtenOut, rewritable, afterStep}
 use Rattle.transactions.proofs.Serving.{at, then, taken, stepped-here}
 use Rattle.transactions.proofs.Kept.{Kept}

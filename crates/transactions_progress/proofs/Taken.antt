@@ -18,9 +18,9 @@ use Rattle.commands.specs.Command.{wellFormed, verifier, update}
 use Rattle.commands.specs.Bytes.{fieldsOf, formed}
 use Rattle.guard.specs.Judge.{wrongEdition, editionsSpent, replyShort}
 use Rattle.image.specs.Image.{Cards}
-use Rattle.model.specs.Serve.{requestRows, entryOf}
-use Rattle.model.specs.Words.{Sent}
-use Rattle.model.proofs.Machine.{numberOn}
+use Rattle.store_model.specs.Serve.{requestRows, entryOf}
+use Rattle.store_model.specs.Words.{Sent}
+use Rattle.store_model.proofs.Machine.{numberOn}
 
 -- ---- a request that no row refuses
 

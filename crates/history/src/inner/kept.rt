@@ -12,7 +12,7 @@ ghost use Rattle.guard.specs.Entry.{noEntry};
 ghost use Rattle.stream.specs.Stream.{commands};
 ghost use Rattle.history.specs.WorkedOut.{entryFrom};
 ghost use Rattle.history.specs.Lent.{historySize};
-ghost use Rattle.history.specs.Steps.{writtenBy, Measured};
+ghost use Rattle.history.specs.inner.Steps.{writtenBy, Measured};
 use crate::Span;
 use crate::Totals;
 use commands::Command;

@@ -4,7 +4,7 @@ ghost use mathlib.Core.List.{_∷_, _++_};
 ghost use Prim.Native.Nat.{_≤_, _<_};
 ghost use lib.ListN.{take, set, drop};
 ghost use Rattle.lock_queue.specs.Queue.{state, mostPlaces, noWaiting, standing, desks, firstPlace};
-ghost use Rattle.lock_queue.specs.Requests.{removed, joined, without, onto};
+ghost use Rattle.lock_queue.specs.Requests.{removed, joined, without, queueJoined};
 use crate::Places;
 use crate::Queue;
 use crate::Waiting;
@@ -71,9 +71,9 @@ pub fn without(queue: Queue, desk: u32) -> Queue
 }
 
 // The queue that an accepted entry joins: an upgrade's old entry has left it.
-pub fn onto(queue: Queue, mode: u8, desk: u32) -> Queue
+pub fn queue_joined(queue: Queue, mode: u8, desk: u32) -> Queue
     requires { ⌜ queue .count ≤ mostPlaces ⌝ }
-    ensures { λ r. ⌜ state r ≡ onto mode desk (state queue) ⌝ }
+    ensures { λ r. ⌜ state r ≡ queueJoined mode desk (state queue) ⌝ }
 {
     let stood = queue.places;
     if upgrading(mode, stood, queue.count, desk) {

@@ -3,7 +3,7 @@ ghost use mathlib.Core.Bool.{true, false};
 ghost use Prim.Native.Nat.{_+_, _≤_, _<_};
 ghost use lib.ListN.{length, getD};
 ghost use Rattle.redo_log.specs.Log.{shaped, joins, checksum, startAt, recordAt, lastBegun, opened, recordOk};
-ghost use Rattle.redo_log.specs.Scanned.{scanned};
+ghost use Rattle.redo_log.specs.inner.Scanned.{scanned};
 use slices::inner::fixed_width as le;
 
 pub const BEGIN: u8 = 1;

@@ -3,7 +3,7 @@ use mathlib.Core.Path.{refl, subst}
 use Rattle.texts.specs.Agree.{firstIll, secondIll}
 use borrow.Author.Tests.{not-true, not-false}
 use Rattle.lists.proofs.Tests.{never-both}
-use Rattle.texts.specs.Walk.{SectionsWalked}
+use Rattle.texts.specs.inner.Walk.{SectionsWalked}
 use Rattle.texts.proofs.Answers.{both-stand, same-answer, differ-answer}
 use borrow.Author.Needs.{needs}
 use Rattle.texts.proofs.compare.Statement.{statement}

@@ -1,7 +1,7 @@
 use Rattle.formats.specs.Format.{formatOf}
 use native.Mathlib.Omega.{arith}
 use Rattle.formats.proofs.Numbers.{numbers}
-use Rattle.image.specs.Write.{entryWith}
+use Rattle.image.specs.inner.Write.{entryWith}
 use borrow.Author.Needs.{needs}
 use Rattle.image.proofs.inner.write.store_entry.Statement.{statement}
 use Rattle.image.proofs.inner.write.store_entry.Tie as tie

@@ -4,7 +4,7 @@ use borrow.Author.Needs.{needs}
 use mathlib.Core.Path.{_≡_, refl}
 use lib.ListN.{length}
 use Rattle.lists.proofs.Tests.{to-T}
-use Rattle.store.specs.Carried.{judgedAt}
+use Rattle.store.specs.inner.Carried.{judgedAt}
 use Rattle.store.proofs.Step.{exits, refuses, accepts, payload-fits, lent-fits, raises}
 use Rattle.image.proofs.Decode.{entry-lies}
 use Rattle.store.proofs.Kept.{header-in}

@@ -7,7 +7,7 @@ use Rattle.commands.specs.Bytes.{fieldsOf, formed}
 use Rattle.commands.proofs.Parsing.{is-malformed, is-formed}
 use Rattle.commands.proofs.CommandBytes.{length-payload, language-within, formedness}
 use Rattle.image.specs.Image.{sound}
-use Rattle.model.proofs.Sound.{stays-sound}
+use Rattle.store_model.proofs.Sound.{stays-sound}
 use Rattle.store.proofs.Kept.{header-in}
 use Rattle.store.proofs.Step.{serves, fixed-in, behind-place, serve-malformed, serve-no-card, serve-found}
 use borrow.Author.Needs.{needs}

@@ -3,7 +3,7 @@ use mathlib.Core.Path.{sym, subst}
 use Prim.Native.Nat.{ℕ, _+_, _*_, _<_}
 use native.Mathlib.Omega.{arith}
 use borrow.Author.Needs.{needs}
-use Rattle.texts.specs.Read.{ReadsSection, ReadsStep, ReadsSteps}
+use Rattle.texts.specs.inner.Read.{ReadsSection, ReadsStep, ReadsSteps}
 use Rattle.texts.specs.declared.inner.read.Extent.{Extent}
 use Rattle.texts.specs.declared.inner.read.Extent.the-variants.{Past, Ill}
 use Rattle.texts.proofs.Reading.{section-short, section-deep, section-other, section-read-at, step-short, step-section, step-other, steps-none, steps-more, steps-ill}

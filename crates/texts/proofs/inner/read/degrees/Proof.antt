@@ -2,7 +2,7 @@
 use native.Mathlib.Omega.{arith}
 use borrow.Author.Needs.{needs}
 use mathlib.Core.Logic.{⊎-elim}
-use Rattle.drops.specs.Drop.{celsius, fahrenheit}
+use Rattle.text_drops.specs.Drop.{celsius, fahrenheit}
 use Rattle.texts.proofs.Reading.{drop-read, drop-cut, drop-unit}
 use Rattle.texts.proofs.inner.read.degrees.Statement.{statement}
 use Rattle.texts.proofs.inner.read.degrees.Tie as tie

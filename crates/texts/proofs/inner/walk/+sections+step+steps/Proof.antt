@@ -4,7 +4,7 @@ use Prim.Native.Nat.{ℕ, _+_, _*_, _<_}
 use native.Mathlib.Omega.{arith}
 use borrow.Author.Needs.{needs}
 use Rattle.texts.specs.Text.{Section}
-use Rattle.texts.specs.Walk.{TwoRuns, RunsWalked, StepsWalked}
+use Rattle.texts.specs.inner.Walk.{TwoRuns, RunsWalked, StepsWalked}
 use Rattle.texts.specs.declared.inner.walk.Walk.{Walk}
 use Rattle.texts.specs.declared.inner.walk.Walk.the-variants.{Same, Differ}
 use Rattle.texts.proofs.Walking.{places as same-places, opened-both, pair-fits, sections-open, sections-walked, pair-other, pair-words, words-fit, drops-fit, pair-drops, sections-here, pair-sections, steps-done, steps-fewer, steps-more, pair-first, steps-differ, steps-behind, steps-on}

@@ -2,7 +2,7 @@
 use mathlib.Core.Path.{ap, _∙_}
 use Prim.Native.Nat.{_+_}
 use lib.ListN.{getD}
-use Rattle.drops.specs.Drop.{dropOf, scaleOf}
+use Rattle.text_drops.specs.Drop.{dropOf, scaleOf}
 use borrow.Author.Needs.{needs}
 use Rattle.texts.proofs.inner.walk.drop_at.Statement.{statement}
 use Rattle.texts.proofs.inner.walk.drop_at.Tie as tie

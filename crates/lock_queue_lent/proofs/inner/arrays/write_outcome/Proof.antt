@@ -1,0 +1,17 @@
+-- Stored, and the fields written. Assumes nothing.
+use mathlib.Core.Path.{refl}
+use borrow.Author.Needs.{needs}
+use Rattle.lock_queue_lent.proofs.inner.arrays.write_outcome.Statement.{statement}
+use Rattle.lock_queue_lent.proofs.inner.arrays.write_outcome.Tie as tie
+
+store-requires : tie.Need-store-requires
+store-requires c κs = search needs
+
+write-answer-requires : tie.Need-write-answer-requires
+write-answer-requires c κs = search needs
+
+returns : tie.Need-returns
+returns c = (refl, (c .write-answer .ensures, c .before .before .before .store .ensures))
+
+pub write-outcome-spec : {M : Type 1} → statement M
+write-outcome-spec = tie.close (tie.spec store-requires write-answer-requires returns)
