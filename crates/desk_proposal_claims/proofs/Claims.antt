@@ -26,7 +26,24 @@ use Rattle.lock_queue_claims.specs.Traces.{queueAfter}
 use Rattle.desk_proposals.specs.declared.Known.{Known}
 use Rattle.desk_proposals.specs.Propose.{learnt, nextT, ownAbove, lastT, pairFor, proposalRows, proposed}
 use Rattle.desk_proposals.proofs.Propose.{made-rules, own-above, own-least, pair-exclusive, made-pair}
-use Rattle.desk_proposal_claims.specs.Claims.{OfDesk, Smallest, Spent, WellProposed, PassesPair, PassesLearnt, entered, quiet, retried, NotDenied, retryNumbers, RetryListed, EachProposal, Unmoved, proposalNumbers, ProposalListed}
+use Rattle.desk_proposal_claims.specs.Claims.{
+  OfDesk,
+  Smallest,
+  Spent,
+  WellProposed,
+  PassesPair,
+  PassesLearnt,
+  entered,
+  quiet,
+  retried,
+  NotDenied,
+  retryNumbers,
+  RetryListed,
+  EachProposal,
+  Unmoved,
+  proposalNumbers,
+  ProposalListed,
+}
 
 -- A number with this desk and start is the stamp of its T.
 own-stamp : (desk start m : ℕ) → OfDesk desk start m → m ≡ stamp (m / 4294967296) desk start
@@ -211,7 +228,9 @@ retry-listed lent q new between k mode r l d i vs vx =
     is-formed : waitingFormed asked ≡ true
     is-formed = well-proposed k mode d i vs vx (r .proposes) .rules
 
-    is : retried lent q new between k mode ≡ first (row (already (upgrading mode (desk asked) (standing now)) (desk asked) (desks (standing now))) 12 ∷ row (denied (now .largest) asked) 11 ∷ row (full (upgrading mode (desk asked) (standing now)) lent (now .count)) 13 ∷ [])
+    is : retried lent q new between k mode ≡ first
+        (row (already (upgrading mode (desk asked) (standing now)) (desk asked) (desks (standing now))) 12 ∷ row (denied (now .largest) asked) 11
+        ∷ row (full (upgrading mode (desk asked) (standing now)) lent (now .count)) 13 ∷ [])
     is = rw (is-good, is-formed)
 
     go : (a b c : Bool) → (first (row a 12 ∷ row b 11 ∷ row c 13 ∷ []) ≡ 11 → ⊥) → T (listed retryNumbers (first (row a 12 ∷ row b 11 ∷ row c 13 ∷ [])))

@@ -10,7 +10,7 @@ use Rattle.lists.specs.Table.{all, allFrom, listed}
 use Rattle.stamps.specs.Stamp.{stamp, deskOf, shared, exclusive, noPair}
 use Rattle.lock_queue.specs.Queue.{stands, firstPlace}
 use Rattle.lock_queue.specs.Good.{distinct, good}
-use Rattle.lock_queue.specs.Requests.{asks, joined, removed, without, upgrading, queueJoined, answered, number, after, answer}
+use Rattle.lock_queue.specs.Requests.{joined, removed, without, upgrading, queueJoined, answered, number, after, answer}
 use Rattle.lock_queue.specs.declared.Waiting.{Waiting}
 use Rattle.lock_queue_claims.specs.Traces.{queueAfter}
 use Rattle.desk_proposals.specs.declared.Known.{Known}

@@ -4,6 +4,7 @@ pub mod inner;
 ghost use mathlib.Core.Path.{_≡_};
 ghost use Rattle.desk_proposals.specs.Propose.{learnt, proposed};
 use numbers::ACCEPTED;
+use stamps::NO_PAIR;
 use stamps::Pair;
 use stamps::larger_of_each;
 
@@ -42,7 +43,7 @@ impl Known {
         if number != ACCEPTED {
             return Proposed {
                 number,
-                pair: Pair { s: 0, x: 0 },
+                pair: NO_PAIR,
                 known: self,
             };
         }

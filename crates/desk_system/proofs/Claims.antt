@@ -36,8 +36,37 @@ use Rattle.redo_recovery_model.proofs.Steps.{recovers}
 use Rattle.lock_queue.specs.declared.Waiting.{Waiting}
 use Rattle.desk_proposals.specs.Propose.{proposed}
 use Rattle.desk_proposal_claims.proofs.Claims.{well-proposed}
-use Rattle.desk_system.specs.System.{System, Made, Move, begin, propose, atQueue, lose, send, recover, convert, learn, opening, isMade, sendsMade, allMade, recoverySends, allowed, knows, nowKnows, withStore, withMade, sendSteps, convertStep, stepTo, systemAfter, byRules, Fits, AllFit}
-use Rattle.desk_system.specs.Claims.{ByRules, finally, PremiseKept, DesksIsolated, StoreOf, oneVersion, convertedOnce, OneStore, StampsOnce, DesksValid, RecoveryAllowed}
+use Rattle.desk_system.specs.System.{
+  System,
+  Made,
+  Move,
+  begin,
+  propose,
+  atQueue,
+  lose,
+  send,
+  recoverWith,
+  convert,
+  learn,
+  opening,
+  isMade,
+  sendsMade,
+  allMade,
+  recoverySends,
+  allowed,
+  knows,
+  nowKnows,
+  withStore,
+  withMade,
+  sendSteps,
+  convertStep,
+  stepTo,
+  systemAfter,
+  byRules,
+  Fits,
+  AllFit,
+}
+use Rattle.desk_system.specs.Claims.{ByRules, finally, PremiseKept, DesksIsolated, StoreOf, oneVersion, convertedOnce, StoreFollows, StampsOnce, DesksValid, RecoveryAllowed}
 use Rattle.desk_system.proofs.Backing.{among-none, Backed, backed-none}
 use Rattle.desk_system.proofs.Kept.{Once, Kept, kept-begin, kept-propose, kept-request, kept-lose, kept-send, kept-recover, kept-convert, kept-learn, recovery-bytes, sends-version, sends-made}
 use Rattle.desk_system.proofs.Store.{Trace, plain, across, Held, held-fresh, held-send, held-convert}
@@ -66,7 +95,7 @@ held-next v n c y (propose who card mode) f h = go (proposed (knows y who card) 
 held-next v n c y (atQueue card lent r) f h = h
 held-next v n c y (lose card places) f h = h
 held-next v n c y (send s) f h = held-send v n c (y .version) (y .image) (y .log) s f h
-held-next v n c y (recover pairs log) f h =
+held-next v n c y (recoverWith pairs log) f h =
     held-sends v n c y (recoverySends (y .version) pairs log (y .image))
     (recovery-bytes (y .version) (y .image) (h .cards) (h .image-is) (h .good) pairs log (f .0) (f .1)) h
 held-next v n c y (convert lent) f h = go (y .version) h
@@ -118,7 +147,7 @@ kept-next v n c y (propose who card mode) k f h = kept-propose v n c y k who car
 kept-next v n c y (atQueue card lent r) k f h = kept-request v n c y k card lent r h
 kept-next v n c y (lose card places) k f h = kept-lose v n c y k card places
 kept-next v n c y (send s) k f h = kept-send v n c y k s f h
-kept-next v n c y (recover pairs log) k f h = kept-recover v n c y k pairs log (f .0) (f .1) h
+kept-next v n c y (recoverWith pairs log) k f h = kept-recover v n c y k pairs log (f .0) (f .1) h
 kept-next v n c y (convert lent) k f h = kept-convert v n c y k lent
 kept-next v n c y (learn who card pair) k f h = kept-learn v n c y k who card pair h
 
@@ -150,7 +179,7 @@ made-next y (propose who card mode) m a = go (proposed (knows y who card) mode .
 made-next y (atQueue card lent r) m a = a
 made-next y (lose card places) m a = a
 made-next y (send s) m a = a
-made-next y (recover pairs log) m a = subst (Among m) (sym (sends-made y (recoverySends (y .version) pairs log (y .image)))) a
+made-next y (recoverWith pairs log) m a = subst (Among m) (sym (sends-made y (recoverySends (y .version) pairs log (y .image)))) a
 made-next y (convert lent) m a = go (y .version)
   where
     go : (g : Format) → Among m (convertStep g lent y .made)
@@ -206,10 +235,12 @@ premise-kept v n c places steps r k = premise-means k (commandsIn (y .log)) .1 o
         let from-a = among-mapped (λ (e : Event). e .read) (y .log) ma in
         let from-b = among-mapped (λ (e : Event). e .read) (y .log) mb in
         subst
-        (λ (d : Received). formedFor k d ≡ true → formedFor k b ≡ true → carries (d .numbers) ≡ true → under (update (d .numbers) .x) (b .numbers) ≡ true → update (b .numbers) .s < update (d .numbers) .s)
+        (λ (d : Received). formedFor k d ≡ true → formedFor k b ≡ true → carries (d .numbers) ≡ true → under (update (d .numbers) .x)
+        (b .numbers) ≡ true → update (b .numbers) .s < update (d .numbers) .s)
         (sym (from-a .is))
         (subst
-        (λ (d : Received). formedFor k (from-a .from .read) ≡ true → formedFor k d ≡ true → carries (commandOf (from-a .from)) ≡ true → under (update (commandOf (from-a .from)) .x) (d .numbers) ≡ true → update (d .numbers) .s < update (commandOf (from-a .from)) .s)
+        (λ (d : Received). formedFor k (from-a .from .read) ≡ true → formedFor k d ≡ true → carries (commandOf (from-a .from)) ≡ true → under
+        (update (commandOf (from-a .from)) .x) (d .numbers) ≡ true → update (d .numbers) .s < update (commandOf (from-a .from)) .s)
         (sym (from-b .is))
         (order (from-a .from) (from-b .from) (from-a .among) (from-b .among)))
 
@@ -232,8 +263,8 @@ held-finally : (v : Format) (n c : ℕ) (places : ℕ → List Waiting) (steps :
     → Held v n c (finally v n c places steps .version) (finally v n c places steps .image) (finally v n c places steps .log)
 held-finally v n c places steps shape f = held-run v n c (opening v n c places) steps f (held-fresh v n c shape)
 
-pub one-store : OneStore
-one-store v n c places steps shape f = store-of v n c (finally v n c places steps) (held-finally v n c places steps shape f .trace)
+pub store-follows : StoreFollows
+store-follows v n c places steps shape f = store-of v n c (finally v n c places steps) (held-finally v n c places steps shape f .trace)
 
 -- Demand 3's sentences hold of the log.
 claimed : (v : Format) (n c : ℕ) → T (shapeOk v n c) → (version : Format) (image : List ℕ) (log : List Event) → Trace v n c version image log → (sent : List Sent) × Claim n sent log
@@ -247,8 +278,11 @@ claimed v n c shape version image log (across sent more b m o e ok l i) =
     let same =
     l
     ∙ ap (λ (a : List Sent). traceFrom V2 (base a) more ++ traceFrom V1 (fresh V1 n c) a) first
-    ∙ ap (λ (a : List Sent). traceFrom V2 (base (reverse (reverse sent))) a ++ traceFrom V1 (fresh V1 n c) (reverse (reverse sent))) second in
-    (reverse sent ++ reverse more, subst (Claim n (reverse sent ++ reverse more)) (sym same) (demand3-across n c ok (reverse sent) (reverse more) (bytes-reverse sent [] b tt) (bytes-reverse more [] m tt) .claim))
+    ∙ ap (λ (a : List Sent). traceFrom V2 (base (reverse (reverse sent))) a ++ traceFrom V1 (fresh V1 n c) (reverse (reverse sent))) second in (
+      reverse sent ++ reverse more,
+      subst (Claim n (reverse sent ++ reverse more)) (sym same)
+          (demand3-across n c ok (reverse sent) (reverse more) (bytes-reverse sent [] b tt) (bytes-reverse more [] m tt) .claim),
+    )
 
 pub desks-isolated : DesksIsolated
 desks-isolated v n c places steps r k later b between a before split by-a by-b one =

@@ -37,14 +37,42 @@ use Rattle.image.proofs.Cards.{Bytes-encode}
 use Rattle.redo_recovery_model.proofs.Sending.{recovered-bytes}
 use Rattle.lock_queue.specs.Queue.{State, emptyQueue}
 use Rattle.lock_queue.specs.declared.Waiting.{Waiting}
-use Rattle.lock_queue.specs.Good.{waitingFormed as wellFormed}
+use Rattle.lock_queue.specs.Good.{waitingFormed}
 use Rattle.lock_queue.specs.Requests.{Request, asks, leaves, lapses, answered, number, after, answer, blankAnswer}
 use Rattle.lock_queue.proofs.Judged.{no-row}
 use Rattle.lock_queue.proofs.After.{refusal-leaves}
 use Rattle.desk_proposal_claims.proofs.Claims.{asked-largest, left-largest, lapsed-largest}
 use Rattle.desk_proposals.specs.Propose.{learnt, nextT, ownAbove, pairFor, proposed}
 use Rattle.desk_proposals.proofs.Propose.{made-rules, own-above, pair-shared, pair-exclusive}
-use Rattle.desk_system.specs.System.{System, Made, Told, begin, propose, atQueue, lose, recover, learn, samePair, inUse, isMade, asksMade, sendsMade, allMade, recoverySends, allowed, with, knows, nowKnows, withStore, withMade, queueStep, sendStep, sendSteps, convertStep, stepTo}
+use Rattle.desk_system.specs.System.{
+  System,
+  Made,
+  Told,
+  begin,
+  propose,
+  atQueue,
+  lose,
+  recoverWith,
+  learn,
+  samePair,
+  inUse,
+  isMade,
+  asksMade,
+  sendsMade,
+  allMade,
+  recoverySends,
+  allowed,
+  with,
+  knows,
+  nowKnows,
+  withStore,
+  withMade,
+  queueStep,
+  sendStep,
+  sendSteps,
+  convertStep,
+  stepTo,
+}
 use Rattle.desk_system.proofs.Backing.{among-cases, with-all, Backed, Stamped, backed-none, backed-larger, backed-more}
 use Rattle.desk_system.proofs.Store.{Held, held-send, held-convert}
 
@@ -428,18 +456,18 @@ module _ (v : Format) (n c : ℕ) (y : System) (k : Kept v n c y) where
   -- ---- a queue answers
 
   -- What a request on a queue of the system makes of its largest pair, and the pair of the answer.
-  module _ (lent card : ℕ) (r : Request) (fine : (new : Waiting) → r ≡ asks new → wellFormed new ≡ true → Backed (y .made) card (new .pair)) where
+  module _ (lent card : ℕ) (r : Request) (fine : (new : Waiting) → r ≡ asks new → waitingFormed new ≡ true → Backed (y .made) card (new .pair)) where
     after-backed : Backed (y .made) card (after lent (y .queues card) r .largest)
     after-backed = go r fine (number lent (y .queues card) r) refl
       where
-        go : (r : Request) → ((new : Waiting) → r ≡ asks new → wellFormed new ≡ true → Backed (y .made) card (new .pair))
+        go : (r : Request) → ((new : Waiting) → r ≡ asks new → waitingFormed new ≡ true → Backed (y .made) card (new .pair))
             → (n : ℕ) → number lent (y .queues card) r ≡ n
             → Backed (y .made) card (after lent (y .queues card) r .largest)
         go r f (suc n) e = rw (refusal-leaves lent (y .queues card) r n e) (k .queued card)
         go (asks new) f zero e =
             rw (asked-largest lent (y .queues card) new e)
             (backed-larger (y .queues card .largest) (new .pair) (k .queued card)
-            (f new refl (not-false (wellFormed new) (no-row lent (y .queues card) (asks new) e 1))))
+            (f new refl (not-false (waitingFormed new) (no-row lent (y .queues card) (asks new) e 1))))
         go (leaves d) f zero e = rw (left-largest lent (y .queues card) d e) (k .queued card)
         go (lapses l) f zero e = rw (lapsed-largest lent (y .queues card) l e) (k .queued card)
 
@@ -473,12 +501,12 @@ module _ (v : Format) (n c : ℕ) (y : System) (k : Kept v n c y) where
   unfolding stepTo
   kept-request card lent r h = kept-queue lent card r (fine r h)
     where
-      fine : (r : Request) → asksMade (y .made) card r ≡ true → (new : Waiting) → r ≡ asks new → wellFormed new ≡ true → Backed (y .made) card (new .pair)
+      fine : (r : Request) → asksMade (y .made) card r ≡ true → (new : Waiting) → r ≡ asks new → waitingFormed new ≡ true → Backed (y .made) card (new .pair)
       fine (asks old) h new e f =
           let same : old ≡ new = cc in
           subst (λ (w : Waiting). Backed (y .made) card (w .pair)) same
           (proposal-backed (is-made (y .made) card (old .mode) (old .pair)
-          (if-formed (wellFormed old) h (subst (λ (w : Waiting). wellFormed w ≡ true) (sym same) f))))
+          (if-formed (waitingFormed old) h (subst (λ (w : Waiting). waitingFormed w ≡ true) (sym same) f))))
       fine (leaves d) h new e f = let z : _≡_ {A = ℕ} 0 1 = cc in absurd (omega arith)
       fine (lapses l) h new e f = let z : _≡_ {A = ℕ} 0 1 = cc in absurd (omega arith)
 
@@ -649,8 +677,8 @@ pub recovery-bytes : (f : Format) (image : List ℕ) (cs : Cards) → image ≡ 
 recovery-bytes V1 image cs e g pairs log fp lb = recovered-bytes pairs log image (subst Bytes (sym e) (Bytes-encode V1 cs g)) fp lb
 recovery-bytes V2 image cs e g pairs log fp lb = tt
 
-pub kept-recover : (v : Format) (n c : ℕ) (y : System) → Kept v n c y → (pairs : Pairs) (log : List ℕ) → FitsPairs pairs → Bytes log → allowed y (recover pairs log) ≡ true
-    → Kept v n c (stepTo y (recover pairs log))
+pub kept-recover : (v : Format) (n c : ℕ) (y : System) → Kept v n c y → (pairs : Pairs) (log : List ℕ) → FitsPairs pairs → Bytes log → allowed y (recoverWith pairs log) ≡ true
+    → Kept v n c (stepTo y (recoverWith pairs log))
 unfolding stepTo
 kept-recover v n c y k pairs log fp lb h =
     kept-sends v n c y k (recoverySends (y .version) pairs log (y .image))

@@ -28,15 +28,25 @@ use Rattle.desk_system.specs.System.{sendSteps, stepTo, systemAfter, byR
 use Rattle.desk_system.specs.Trials.{Story, LongStory, RulesNeeded}
 
 pub story-holds : Story
-unfolding byRules systemAfter stepTo learnt nextT pairFor proposed answered number after answer upgrading queueJoined firstPlace good distinct stands joined removed without serve serveBy stepped sound headerSound cardSound translationSound tailZero decode cardAt entryAt readEntry encode bodies pad entryBytes header shapeOk fresh replied raise entrySound commandBytes formed payload fieldsOf wellFormed all allFrom le toLe part splice tabulate concatMap every zeros
+unfolding byRules systemAfter stepTo learnt nextT pairFor proposed answered number after answer upgrading queueJoined firstPlace good distinct stands
+    joined removed without serve serveBy stepped sound headerSound cardSound translationSound tailZero decode cardAt entryAt readEntry encode bodies
+    pad entryBytes header shapeOk fresh replied raise entrySound commandBytes formed payload fieldsOf wellFormed all allFrom le toLe part splice
+    tabulate concatMap every zeros
 story-holds = record { rules = refl; answers = refl; shows = refl; carried = refl; below = refl }
 
 pub long-story : LongStory
-unfolding byRules systemAfter stepTo sendSteps due recoverySent recoveryStep recovering recovered appendedAll stored puts lineBytes stores appended shaped lastBegun opened follows total startAt recordAt recordOk goodLog records converted makes learnt nextT pairFor proposed answered number after answer upgrading queueJoined firstPlace good distinct stands joined removed without serve serveBy stepped sound headerSound cardSound translationSound tailZero decode cardAt entryAt readEntry encode bodies pad entryBytes header shapeOk fresh replied raise entrySound commandBytes formed payload fieldsOf wellFormed all allFrom le toLe part splice tabulate concatMap every zeros ofBits ofInt wholeFloat half add sub mul div neg lt atMost
+unfolding byRules systemAfter stepTo sendSteps due recoverySent recoveryStep recovering recovered appendedAll stored puts lineBytes stores appended
+    shaped lastBegun opened follows total startAt recordAt recordOk goodLog records converted makes learnt nextT pairFor proposed answered number
+    after answer upgrading queueJoined firstPlace good distinct stands joined removed without serve serveBy stepped sound headerSound cardSound
+    translationSound tailZero decode cardAt entryAt readEntry encode bodies pad entryBytes header shapeOk fresh replied raise entrySound commandBytes
+    formed payload fieldsOf wellFormed all allFrom le toLe part splice tabulate concatMap every zeros ofBits ofInt wholeFloat half add sub mul div neg lt atMost
 long-story = record { rules = refl; version = refl; answers = refl; shows = refl; not-proposed = refl; not-exclusive = refl }
 
 pub rules-needed : RulesNeeded
-unfolding byRules systemAfter stepTo learnt nextT pairFor proposed answered number after answer upgrading queueJoined firstPlace good distinct stands joined removed without serve serveBy stepped sound headerSound cardSound translationSound tailZero decode cardAt entryAt readEntry encode bodies pad entryBytes header shapeOk fresh replied raise entrySound commandBytes formed payload fieldsOf wellFormed all allFrom le toLe part splice tabulate concatMap every zeros
+unfolding byRules systemAfter stepTo learnt nextT pairFor proposed answered number after answer upgrading queueJoined firstPlace good distinct stands
+    joined removed without serve serveBy stepped sound headerSound cardSound translationSound tailZero decode cardAt entryAt readEntry encode bodies
+    pad entryBytes header shapeOk fresh replied raise entrySound commandBytes formed payload fieldsOf wellFormed all allFrom le toLe part splice
+    tabulate concatMap every zeros
 rules-needed =
     record {
       start-again = record { before = refl; refused = refl; after = refl; broken = refl };

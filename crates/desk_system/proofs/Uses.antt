@@ -26,10 +26,10 @@ use Rattle.lock_queue.specs.Requests.{leaves}
 use Rattle.lock_queue.specs.declared.Waiting.{Waiting}
 use Rattle.desk_proposals.specs.Propose.{learnt, nextT, pairFor, proposed}
 use Rattle.store_model.specs.Cases.{text205, text401, long}
-use Rattle.desk_system.specs.System.{Move, begin, propose, atQueue, recover, isMade, allowed, stepTo, systemAfter, byRules, AllFit}
+use Rattle.desk_system.specs.System.{Move, begin, propose, atQueue, recoverWith, isMade, allowed, stepTo, systemAfter, byRules, AllFit}
 use Rattle.desk_system.specs.Claims.{ByRules, finally, StoreOf}
 use Rattle.desk_system.specs.Trials.{deskOne, deskThree, twoPlaces, longStory, committed, pairsFor, send2}
-use Rattle.desk_system.proofs.Claims.{premise-kept, one-store, desks-valid, recovery-allowed}
+use Rattle.desk_system.proofs.Claims.{premise-kept, store-follows, desks-valid, recovery-allowed}
 use Rattle.desk_system.proofs.Trials.{long-story}
 
 -- ---- what the uses rest on, by computation
@@ -60,7 +60,73 @@ fits : AllFit longStory
 unfolding commandBytes toLe
 fits = (
   tt,
-  (tt, (tt, (tt, ((pairs-one, log-bytes), ((pairs-one, log-bytes), ((pairs-none, bytes-by [] tt), ((pairs-none, log-bytes), (tt, (tt, (tt, (tt, (tt, (tt, (tt, (tt, (tt, (tt, (tt, (tt, ((pairs-one, log-bytes), (tt, (sent-bytes (send2 1 0 0 (stamp 0 2 0) 0 [] (long 3)) tt tt, (sent-bytes (send2 3 0 0 (stamp 0 1 0) 0 text205 []) tt tt, (sent-bytes (send2 4 3 0 (stamp 0 2 0) 2 text401 []) tt tt, tt)))))))))))))))))))))))),
+  (
+    tt,
+    (
+      tt,
+      (
+        tt,
+        (
+          (pairs-one, log-bytes),
+          (
+            (pairs-one, log-bytes),
+            (
+              (pairs-none, bytes-by [] tt),
+              (
+                (pairs-none, log-bytes),
+                (
+                  tt,
+                  (
+                    tt,
+                    (
+                      tt,
+                      (
+                        tt,
+                        (
+                          tt,
+                          (
+                            tt,
+                            (
+                              tt,
+                              (
+                                tt,
+                                (
+                                  tt,
+                                  (
+                                    tt,
+                                    (
+                                      tt,
+                                      (
+                                        tt,
+                                        (
+                                          (pairs-one, log-bytes),
+                                          (
+                                            tt,
+                                            (
+                                              sent-bytes (send2 1 0 0 (stamp 0 2 0) 0 [] (long 3)) tt tt,
+                                              (sent-bytes (send2 3 0 0 (stamp 0 1 0) 0 text205 []) tt tt, (sent-bytes (send2 4 3 0 (stamp 0 2 0) 2 text401 []) tt tt, tt)),
+                                            ),
+                                          ),
+                                        ),
+                                      ),
+                                    ),
+                                  ),
+                                ),
+                              ),
+                            ),
+                          ),
+                        ),
+                      ),
+                    ),
+                  ),
+                ),
+              ),
+            ),
+          ),
+        ),
+      ),
+    ),
+  ),
 )
 
 told : ByRules V1 1 16 twoPlaces longStory
@@ -72,7 +138,7 @@ long-premise : premise 0 (commandsIn (finally V1 1 16 twoPlaces longStory .log))
 long-premise = premise-kept V1 1 16 twoPlaces longStory told 0
 
 long-store : StoreOf V1 1 16 (finally V1 1 16 twoPlaces longStory)
-long-store = one-store V1 1 16 twoPlaces longStory shape fits
+long-store = store-follows V1 1 16 twoPlaces longStory shape fits
 
 -- Also of a desk that never started.
 long-valid : stampValid (finally V1 1 16 twoPlaces longStory .known deskThree 0 .s) ≡ true
@@ -102,7 +168,7 @@ proposes : ByRules V1 1 16 twoPlaces proposing
 unfolding byRules stepTo
 proposes = record { shape = shape; fits = (tt, (tt, tt)); rules = refl }
 
-recovers-allowed : allowed (finally V1 1 16 twoPlaces proposing) (recover (pairsFor 0 (stamp 0 1 0)) committed) ≡ true
+recovers-allowed : allowed (finally V1 1 16 twoPlaces proposing) (recoverWith (pairsFor 0 (stamp 0 1 0)) committed) ≡ true
 unfolding systemAfter stepTo proposed pairFor nextT learnt
 recovers-allowed =
     recovery-allowed V1 1 16 twoPlaces proposing proposes (pairsFor 0 (stamp 0 1 0)) committed pairs-one log-bytes refl given .allows

@@ -20,7 +20,7 @@ use Rattle.lock_queue.specs.declared.Waiting.{Waiting}
 use Rattle.desk_proposals.specs.Propose.{proposed}
 use Rattle.desk_proposal_claims.specs.Claims.{Fine}
 use Rattle.redo_recovery_model.specs.Recovery.{Pairs, FitsPairs, recoveryPair, recovered}
-use Rattle.desk_system.specs.System.{System, Move, Made, recover, opening, isMade, inUse, knows, allowed, stepTo, systemAfter, byRules, AllFit}
+use Rattle.desk_system.specs.System.{System, Move, Made, recoverWith, opening, isMade, inUse, knows, allowed, stepTo, systemAfter, byRules, AllFit}
 
 -- Steps by the rules from the opening, over a store of a version and of any N and C that can be made and queues over
 -- any places.
@@ -63,8 +63,8 @@ pub data StoreOf (v : Format) (n c : ℕ) (y : System) : Type 0 where
       → y .image ≡ imageAfter V2 (converted (imageBefore n c sent)) (reverse more)
       → StoreOf v n c y
 
-abbrev pub OneStore : Type 0
-OneStore =
+abbrev pub StoreFollows : Type 0
+StoreFollows =
     (v : Format) (n c : ℕ) (places : ℕ → List Waiting) (steps : List Move) → T (shapeOk v n c) → AllFit steps
     → StoreOf v n c (finally v n c places steps)
 
@@ -93,8 +93,8 @@ DesksValid =
 -- Rule 10.8: a recovery whose pairs were proposed exclusive, each for its card, is by the rules; cards without an x
 -- there have none. It leaves the store as a recovery does.
 pub record RecoversByRules (y : System) (pairs : Pairs) (log : List ℕ) : Type 0 where
-  pub allows : allowed y (recover pairs log) ≡ true
-  pub leaves : stepTo y (recover pairs log) .image ≡ recovered pairs log (y .image) .image
+  pub allows : allowed y (recoverWith pairs log) ≡ true
+  pub leaves : stepTo y (recoverWith pairs log) .image ≡ recovered pairs log (y .image) .image
 
 abbrev pub RecoveryAllowed : Type 0
 RecoveryAllowed =

@@ -23,7 +23,7 @@ use Rattle.store_model.specs.Claims.{SentBytes}
 use Rattle.redo_recovery_model.specs.Recovery.{Pairs, FitsPairs, recovered}
 use Rattle.lock_queue.specs.Queue.{State, emptyQueue}
 use Rattle.lock_queue.specs.declared.Waiting.{Waiting}
-use Rattle.lock_queue.specs.Good.{waitingFormed as wellFormed}
+use Rattle.lock_queue.specs.Good.{waitingFormed}
 use Rattle.lock_queue.specs.Requests.{Request, asks, leaves, lapses, after, answer}
 use Rattle.desk_proposals.specs.declared.Known.{Known}
 use Rattle.desk_proposals.specs.Propose.{learnt, proposed}
@@ -85,7 +85,7 @@ pub data Move : Type 0 where
   -- lent bytes, with a reply buffer, reach the store
   send : (s : Sent) → Move
   -- a recovery from a log, with a pair for each card
-  recover : (pairs : Pairs) (log : List ℕ) → Move
+  recoverWith : (pairs : Pairs) (log : List ℕ) → Move
   -- a conversion of the store, into so many lent bytes
   convert : (lent : ℕ) → Move
   -- a desk learns a pair of a card
@@ -110,7 +110,7 @@ wasTold told card pair = any (λ t. eqb (t .card) card && samePair (t .pair) pai
 -- Rule 10.8: an ask carries a pair that was proposed for the card, in the mode in which it was proposed; a malformed
 -- one may carry anything. Who leaves carries no pair.
 abbrev pub asksMade : List Made → ℕ → Request → Bool
-asksMade made card (asks new) = not (wellFormed new) || isMade made card (new .mode) (new .pair)
+asksMade made card (asks new) = not (waitingFormed new) || isMade made card (new .mode) (new .pair)
 asksMade made card (leaves desk) = true
 asksMade made card (lapses expiry) = true
 
@@ -136,7 +136,7 @@ allowed y (atQueue card lent r) = asksMade (y .made) card r
 allowed y (lose card places) = true
 allowed y (send s) = sendsMade (y .version) (y .made) s
 -- rule 10.8: recovery's writes are commands like others
-allowed y (recover pairs log) = allMade (y .version) (y .made) (recoverySends (y .version) pairs log (y .image))
+allowed y (recoverWith pairs log) = allMade (y .version) (y .made) (recoverySends (y .version) pairs log (y .image))
 allowed y (convert lent) = true
 -- rule 10.1: what a desk learns of a card was in an answer for that card, s and x together
 allowed y (learn who card pair) = inUse y who && wasTold (y .told) card pair
@@ -224,7 +224,7 @@ stepTo y (atQueue card lent r) = queueStep lent y card r
 stepTo y (lose card places) = withQueue card (emptyQueue places) y
 stepTo y (send s) = sendStep y s
 -- rule 11.18
-stepTo y (recover pairs log) = sendSteps y (recoverySends (y .version) pairs log (y .image))
+stepTo y (recoverWith pairs log) = sendSteps y (recoverySends (y .version) pairs log (y .image))
 stepTo y (convert lent) = convertStep (y .version) lent y
 -- rule 10.2
 stepTo y (learn who card pair) = nowKnows who card (learnt (knows y who card) pair .pair) y
@@ -243,7 +243,7 @@ byRules y (s ∷ steps) = allowed y s && byRules (stepTo y s) steps
 -- What is sent is bytes, and stamps that a recovery is given fit in 64 bits.
 abbrev pub Fits : Move → Type 0
 Fits (send s) = SentBytes s
-Fits (recover pairs log) = FitsPairs pairs × Bytes log
+Fits (recoverWith pairs log) = FitsPairs pairs × Bytes log
 Fits (begin who) = Unit {0}
 Fits (propose who card mode) = Unit {0}
 Fits (atQueue card lent r) = Unit {0}

@@ -30,7 +30,7 @@ use Rattle.desk_system.specs.System.{
   atQueue,
   lose,
   send,
-  recover,
+  recoverWith,
   convert,
   learn,
   opening,
@@ -218,11 +218,11 @@ longStory =
     -- desk 1 asks exclusive under (0, 0.1.0) and recovers under it, twice
     ∷ propose deskOne 0 exclusive
     ∷ atQueue 0 2 (asks (waits exclusive 0 (stamp 0 1 0)))
-    ∷ recover (pairsFor 0 (stamp 0 1 0)) committed
-    ∷ recover (pairsFor 0 (stamp 0 1 0)) committed
+    ∷ recoverWith (pairsFor 0 (stamp 0 1 0)) committed
+    ∷ recoverWith (pairsFor 0 (stamp 0 1 0)) committed
     -- no log at all, and no pair: nothing is sent, or what is malformed
-    ∷ recover (pairsFor 0 0) []
-    ∷ recover (pairsFor 0 0) committed
+    ∷ recoverWith (pairsFor 0 0) []
+    ∷ recoverWith (pairsFor 0 0) committed
     -- a desk that never started leaves; desk 1 lapses: out of range, not yet, over
     ∷ atQueue 0 2 (leaves deskThree)
     ∷ atQueue 0 2 (lapses (expiry 1 0 0))
@@ -239,7 +239,7 @@ longStory =
     ∷ convert 144
     ∷ convert 144
     -- a recovery leaves version 2 alone; desk 1's command comes late; desk 2 reads and writes in language 3
-    ∷ recover (pairsFor 0 (stamp 0 1 0)) committed
+    ∷ recoverWith (pairsFor 0 (stamp 0 1 0)) committed
     ∷ propose deskTwo 0 exclusive
     ∷ send (send2 1 0 0 (stamp 0 2 0) 0 [] (long 3))
     ∷ send (send2 3 0 0 (stamp 0 1 0) 0 text205 [])
@@ -271,9 +271,9 @@ pub record LongStory : Type 0 where
   pub shows :
       map (λ (e : Event). take (e .answer .length) (e .reply)) (reverse (systemAfter singleCard longStory .log)) ≡ [] ∷ [] ∷ [] ∷ text205 ∷ [] ∷ [] ∷ []
   -- a recovery under a pair that nobody proposed is not by the rules, nor under one that was proposed shared
-  pub not-proposed : allowed (systemAfter singleCard (begin deskOne ∷ [])) (recover (pairsFor 0 (stamp 0 1 0)) committed) ≡ false
+  pub not-proposed : allowed (systemAfter singleCard (begin deskOne ∷ [])) (recoverWith (pairsFor 0 (stamp 0 1 0)) committed) ≡ false
   pub not-exclusive :
-      allowed (systemAfter singleCard (begin deskOne ∷ propose deskOne 0 shared ∷ [])) (recover (pairsFor (stamp 0 1 0) (stamp 0 1 0)) committed) ≡ false
+      allowed (systemAfter singleCard (begin deskOne ∷ propose deskOne 0 shared ∷ [])) (recoverWith (pairsFor (stamp 0 1 0) (stamp 0 1 0)) committed) ≡ false
 
 -- ---- one rule broken
 

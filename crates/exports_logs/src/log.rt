@@ -3,7 +3,7 @@ ghost use mathlib.Core.Path.{_≡_};
 ghost use Rattle.redo_log.specs.Log.{logNumber};
 ghost use Rattle.redo_log.specs.Append.{appendNumber, appended};
 ghost use Rattle.redo_recovery_model.specs.Recovery.{recovered};
-ghost use Rattle.redo_recovery.specs.Step.{pairsOf};
+ghost use Rattle.redo_recovery.specs.Recover.{pairsOf};
 
 // Whether the lent bytes are a good log: 0, or 23.
 #[no_mangle]

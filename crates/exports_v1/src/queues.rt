@@ -25,12 +25,8 @@ pub extern "C" fn lupaniele_ask(
     asked_x: u64,
     fields: &mut [u64; 4],
 ) -> u8
-    ensures number { λ r. ⌜ r ≡ arrayTurn places (queueOf (now (modes .entry)) (now (s .entry)) (now (x .entry)) (now (kept .entry))) (asks (waiting mode «asked_s» «asked_x»)) .number ⌝ }
-    ensures fields { λ _. ⌜ now (fields .exit) ≡ arrayTurn places (queueOf (now (modes .entry)) (now (s .entry)) (now (x .entry)) (now (kept .entry))) (asks (waiting mode «asked_s» «asked_x»)) .fields ⌝ }
-    ensures modes { λ _. ⌜ now (modes .exit) ≡ arrayTurn places (queueOf (now (modes .entry)) (now (s .entry)) (now (x .entry)) (now (kept .entry))) (asks (waiting mode «asked_s» «asked_x»)) .modes ⌝ }
-    ensures s { λ _. ⌜ now (s .exit) ≡ arrayTurn places (queueOf (now (modes .entry)) (now (s .entry)) (now (x .entry)) (now (kept .entry))) (asks (waiting mode «asked_s» «asked_x»)) .s ⌝ }
-    ensures x { λ _. ⌜ now (x .exit) ≡ arrayTurn places (queueOf (now (modes .entry)) (now (s .entry)) (now (x .entry)) (now (kept .entry))) (asks (waiting mode «asked_s» «asked_x»)) .x ⌝ }
-    ensures kept { λ _. ⌜ now (kept .exit) ≡ arrayTurn places (queueOf (now (modes .entry)) (now (s .entry)) (now (x .entry)) (now (kept .entry))) (asks (waiting mode «asked_s» «asked_x»)) .kept ⌝ }
+    ensures { λ r. ⌜ arrayTurn places (queueOf (now (modes .entry)) (now (s .entry)) (now (x .entry)) (now (kept .entry))) (asks (waiting mode «asked_s» «asked_x»))
+        ≡ record { number = r; fields = now (fields .exit); modes = now (modes .exit); s = now (s .exit); x = now (x .exit); kept = now (kept .exit) } ⌝ }
 {
     let queue = load(modes, s, x, kept);
     let new = Waiting {
@@ -55,12 +51,8 @@ pub extern "C" fn lupaniele_leave(
     desk: u32,
     fields: &mut [u64; 4],
 ) -> u8
-    ensures number { λ r. ⌜ r ≡ arrayTurn places (queueOf (now (modes .entry)) (now (s .entry)) (now (x .entry)) (now (kept .entry))) (leaves desk) .number ⌝ }
-    ensures fields { λ _. ⌜ now (fields .exit) ≡ arrayTurn places (queueOf (now (modes .entry)) (now (s .entry)) (now (x .entry)) (now (kept .entry))) (leaves desk) .fields ⌝ }
-    ensures modes { λ _. ⌜ now (modes .exit) ≡ arrayTurn places (queueOf (now (modes .entry)) (now (s .entry)) (now (x .entry)) (now (kept .entry))) (leaves desk) .modes ⌝ }
-    ensures s { λ _. ⌜ now (s .exit) ≡ arrayTurn places (queueOf (now (modes .entry)) (now (s .entry)) (now (x .entry)) (now (kept .entry))) (leaves desk) .s ⌝ }
-    ensures x { λ _. ⌜ now (x .exit) ≡ arrayTurn places (queueOf (now (modes .entry)) (now (s .entry)) (now (x .entry)) (now (kept .entry))) (leaves desk) .x ⌝ }
-    ensures kept { λ _. ⌜ now (kept .exit) ≡ arrayTurn places (queueOf (now (modes .entry)) (now (s .entry)) (now (x .entry)) (now (kept .entry))) (leaves desk) .kept ⌝ }
+    ensures { λ r. ⌜ arrayTurn places (queueOf (now (modes .entry)) (now (s .entry)) (now (x .entry)) (now (kept .entry))) (leaves desk)
+        ≡ record { number = r; fields = now (fields .exit); modes = now (modes .exit); s = now (s .exit); x = now (x .exit); kept = now (kept .exit) } ⌝ }
 {
     let queue = load(modes, s, x, kept);
     let outcome = lock_queue::leave(queue, places as usize, desk);
@@ -82,12 +74,8 @@ pub extern "C" fn lupaniele_lapse(
     time: f64,
     fields: &mut [u64; 4],
 ) -> u8
-    ensures number { λ r. ⌜ r ≡ arrayTurn places (queueOf (now (modes .entry)) (now (s .entry)) (now (x .entry)) (now (kept .entry))) (lapses (expiryOf desk period drift begin time)) .number ⌝ }
-    ensures fields { λ _. ⌜ now (fields .exit) ≡ arrayTurn places (queueOf (now (modes .entry)) (now (s .entry)) (now (x .entry)) (now (kept .entry))) (lapses (expiryOf desk period drift begin time)) .fields ⌝ }
-    ensures modes { λ _. ⌜ now (modes .exit) ≡ arrayTurn places (queueOf (now (modes .entry)) (now (s .entry)) (now (x .entry)) (now (kept .entry))) (lapses (expiryOf desk period drift begin time)) .modes ⌝ }
-    ensures s { λ _. ⌜ now (s .exit) ≡ arrayTurn places (queueOf (now (modes .entry)) (now (s .entry)) (now (x .entry)) (now (kept .entry))) (lapses (expiryOf desk period drift begin time)) .s ⌝ }
-    ensures x { λ _. ⌜ now (x .exit) ≡ arrayTurn places (queueOf (now (modes .entry)) (now (s .entry)) (now (x .entry)) (now (kept .entry))) (lapses (expiryOf desk period drift begin time)) .x ⌝ }
-    ensures kept { λ _. ⌜ now (kept .exit) ≡ arrayTurn places (queueOf (now (modes .entry)) (now (s .entry)) (now (x .entry)) (now (kept .entry))) (lapses (expiryOf desk period drift begin time)) .kept ⌝ }
+    ensures { λ r. ⌜ arrayTurn places (queueOf (now (modes .entry)) (now (s .entry)) (now (x .entry)) (now (kept .entry))) (lapses (expiryOf desk period drift begin time))
+        ≡ record { number = r; fields = now (fields .exit); modes = now (modes .exit); s = now (s .exit); x = now (x .exit); kept = now (kept .exit) } ⌝ }
 {
     let queue = load(modes, s, x, kept);
     let expiry = LeaseExpiry {

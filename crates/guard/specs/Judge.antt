@@ -1,6 +1,6 @@
 -- How an entry judges a command: the table's rows and the raised entry (rules 4.1 to 4.6 and 4.9).
 -- Assumes nothing.
-use Prim.Native.Nat.{ℕ, suc, _+_}
+use Prim.Native.Nat.{ℕ, _+_}
 use mathlib.Core.List.{List, [], _∷_}
 use mathlib.Core.Bool.{Bool, cond, not, _&&_, _||_}
 use lib.Dec.{ltb, eqb}
@@ -11,8 +11,6 @@ use Rattle.commands.specs.declared.Command.{Command}
 use Rattle.guard.specs.declared.Entry.{Entry}
 use Rattle.guard.specs.declared.Judged.{Judged}
 use Rattle.numbers.specs.Numbers.{MALFORMED, STALE, MARK-DIFFERS, PAYLOAD-LONG, EDITION-WRONG, EDITIONS-SPENT, REPLY-SHORT, TOO-FAR}
-
--- ---- The numbers of the table (rule 5.1), each by its name. 0 is accepted, 1 (`MALFORMED`) stands with the rules of stamps.
 
 -- ---- The rows.
 

@@ -12,11 +12,9 @@ use numbers::MALFORMED;
 use numbers::NO_CARD;
 use numbers::UNSOUND;
 use stamps::Mark;
+use stamps::NO_MARK;
+use stamps::NO_PAIR;
 use stamps::Pair;
-
-// ---- The numbers of the table. Number 1 stands with the rules of stamps.
-
-// ---- The guard of one card: an entry that judges a command.
 
 // Whether a translation is behind: it was made from no edition, or from another than the one that stands.
 pub fn behind(edition: u16, from: u16) -> bool
@@ -35,6 +33,16 @@ pub struct Entry {
     pub original: u16,
     pub translation: u16,
 }
+
+// The entry of a card for which nothing was accepted.
+pub const NO_ENTRY: Entry = Entry {
+    pair: NO_PAIR,
+    mark: NO_MARK,
+    edition: 0,
+    from: 0,
+    original: 0,
+    translation: 0,
+};
 
 // The number that an entry gives, and the entry as it now is.
 pub struct Judged {
@@ -90,11 +98,8 @@ pub fn refusal(number: u8) -> Answer
 {
     Answer {
         number,
-        pair: Pair { s: 0, x: 0 },
-        mark: Mark {
-            desk: 0,
-            transaction: 0,
-        },
+        pair: NO_PAIR,
+        mark: NO_MARK,
         edition: 0,
         from: 0,
         length: 0,

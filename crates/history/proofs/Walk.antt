@@ -25,7 +25,7 @@ use Rattle.stream.proofs.Commands.{Walked, walked-none, walked-more, walked-don
 use Rattle.stream.proofs.Walks as walk
 use Rattle.history.specs.WorkedOut.{concerns, entryFrom, highest, timesWritten}
 use Rattle.history.proofs.Raised.{entry-here, entry-other}
-use Rattle.history.specs.declared.Span.{Span}
+use Rattle.history.specs.declared.inner.kept.Span.{Span}
 use Rattle.history.specs.Lent.{historySize}
 use Rattle.history.specs.inner.Steps.{writtenBy, Measured}
 

@@ -5,7 +5,6 @@ ghost use mathlib.Core.Path.{_≡_};
 ghost use Rattle.history.specs.Lent.{historyServe};
 use commands::Parsed;
 use guard::Answer;
-use guard::Judged;
 use numbers::MALFORMED;
 use numbers::NO_CARD;
 
@@ -21,25 +20,6 @@ pub const SIZE: usize = 43168;
 pub struct HistoryAnswer {
     pub answer: Answer,
     pub used: usize,
-}
-
-// Of some bytes: how many commands they hold, how many payload bytes these have in all, and the byte where they end.
-pub struct Totals {
-    pub count: usize,
-    pub payloads: usize,
-    pub end: usize,
-}
-
-// A part of some bytes.
-pub struct Span {
-    pub start: usize,
-    pub end: usize,
-}
-
-// What an entry says of a command, and the byte where the kept commands end.
-pub struct Weighed {
-    pub judged: Judged,
-    pub end: usize,
 }
 
 // One request for `cards` cards with this room, on the commands kept in the first `used` of the lent bytes. It gives the number, the seven

@@ -47,7 +47,8 @@ unfolding concatMap payload
 kept-limits = record { many = refl; too-many = refl; heavy = refl; too-heavy = refl }
 
 pub worked-bytes : WorkedBytes
-unfolding historyServe keptIn bytesBy usedBy deduced deducedBy entryFrom textFrom highest timesWritten replied raise commands commandsWithin endOf endWithin whole extent commandBytes formed payload fieldsOf wellFormed all allFrom le toLe part splice concatMap zeros
+unfolding historyServe keptIn bytesBy usedBy deduced deducedBy entryFrom textFrom highest timesWritten replied raise commands commandsWithin endOf
+    endWithin whole extent commandBytes formed payload fieldsOf wellFormed all allFrom le toLe part splice concatMap zeros
 worked-bytes = record { three = refl; read = refl; text = refl; used = refl; late = refl; late-used = refl; opened = refl }
 
 -- ---- one command again and again
@@ -249,7 +250,8 @@ apart-2 : Apart V2 (onCard 1 (readsIn 3)) (writesIn 1 3)
 apart-2 p q z = let never : _≡_ {A = ℕ} 1 0 = sym reads-card ∙ z ∙ writes-card in absurd (omega (arith, never))
 
 accepted-2 : run V2 (fresh V2 2 16) (reverse inLanguage3) ≡ gotLanguage3
-unfolding run serve serveBy stepped sound headerSound cardSound translationSound tailZero decode cardAt entryAt readEntry encode bodies pad entryBytes header shapeOk fresh replied raise entrySound commandBytes formed payload fieldsOf wellFormed all allFrom le toLe part splice tabulate concatMap every zeros
+unfolding run serve serveBy stepped sound headerSound cardSound translationSound tailZero decode cardAt entryAt readEntry encode bodies pad entryBytes
+    header shapeOk fresh replied raise entrySound commandBytes formed payload fieldsOf wellFormed all allFrom le toLe part splice tabulate concatMap every zeros
 accepted-2 = refl
 
 pub apart-cases : ApartCases

@@ -145,7 +145,8 @@ module _ (n c : ℕ) (kept : List (List ℕ)) (cs : Cards) (shows : Shows n c ke
       raised =
           ap (λ (t : ℕ). view t after) (sym (names-one (s .command)))
           ∙ seen-named (cardOf V1 cs (fieldsOf V1 (s .command))) (fieldsOf V1 (s .command)) (payload V1 (s .command)) has (length-payload V1 (s .command) (known .wellFormed))
-          ∙ ap (λ (e : Entry). raise e (fieldsOf V1 (s .command))) (ap (λ (t : ℕ). view t (cardOf V1 cs (fieldsOf V1 (s .command)))) (names-one (s .command)) ∙ shows .entries place (rw (shows .count) at there))
+          ∙ ap (λ (e : Entry). raise e (fieldsOf V1 (s .command)))
+          (ap (λ (t : ℕ). view t (cardOf V1 cs (fieldsOf V1 (s .command)))) (names-one (s .command)) ∙ shows .entries place (rw (shows .count) at there))
           ∙ sym (entry-here kept (s .command) place (eq-eqb place place refl))
 
       entries : (k : ℕ) → k < n → view 0 (getD (set (cs .cards) place after) k (noCard V1)) ≡ entryFrom (s .command ∷ kept) k

@@ -24,7 +24,30 @@ use Rattle.formats.specs.Format.{Format, V1, V2, version, translations, entrySi
 use Rattle.commands.specs.Bytes.{pairBytes}
 use Rattle.image.specs.Layout.{sides, shapeOk, sizeOf, entryPlace, entryEnd, bodyPlace}
 use Rattle.image.specs.Bytes.{magic, headerNumbers, header, entryMark, entryCounts, entryBytes, pad, countOf, roomOf, readEntry, entryAt}
-use Rattle.image.specs.Image.{Card, Cards, translationOf, view, sideText, withCard, noCard, noTranslation, cardEntry, bodies, encode, bodyAt, translationAt, cardAt, decode, tailZero, translationSound, cardSound, headerSound, sound, GoodCard, GoodCards}
+use Rattle.image.specs.Image.{
+  Card,
+  Cards,
+  translationOf,
+  view,
+  sideText,
+  withCard,
+  noCard,
+  noTranslation,
+  cardEntry,
+  bodies,
+  encode,
+  bodyAt,
+  translationAt,
+  cardAt,
+  decode,
+  tailZero,
+  translationSound,
+  cardSound,
+  headerSound,
+  sound,
+  GoodCard,
+  GoodCards,
+}
 use Rattle.image.proofs.Bytes.{lengths}
 use Rattle.image.proofs.Shape.{shape, some-translation}
 use Rattle.image.proofs.Encode.{part-whole, length-entryBytes, length-encode, part-header, countOf-encode, roomOf-encode, part-entry, part-body}

@@ -22,7 +22,28 @@ use Rattle.guard.specs.declared.Entry.{Entry}
 use Rattle.formats.specs.Format.{Format, version, translations, entrySize, fromsAt, originalAt, lengthsAt}
 use Rattle.image.specs.Layout.{sides, shapeOk, sizeOf, mostBytes, headerSize, entryPlace, entryEnd, bodyPlace}
 use Rattle.image.specs.Bytes.{magic, header, pad, countOf, roomOf, readEntry, entryAt}
-use Rattle.image.specs.Image.{Translation, view, translationOf, noTranslation, noCard, sideText, cardEntry, bodies, encode, bodyAt, translationAt, cardAt, decode, tailZero, translationSound, cardSound, headerSound, sound, GoodCard, GoodCards}
+use Rattle.image.specs.Image.{
+  Translation,
+  view,
+  translationOf,
+  noTranslation,
+  noCard,
+  sideText,
+  cardEntry,
+  bodies,
+  encode,
+  bodyAt,
+  translationAt,
+  cardAt,
+  decode,
+  tailZero,
+  translationSound,
+  cardSound,
+  headerSound,
+  sound,
+  GoodCard,
+  GoodCards,
+}
 use Rattle.image.proofs.Shape.{Shape, shape, some-translation, entry-within, body-within}
 use Rattle.image.proofs.Encode.{part-whole}
 use Rattle.image.proofs.Entry.{again, entryBytes-read, entryBytes-ext, pad-read}
@@ -190,7 +211,8 @@ Bytes-translations f image k t b = go (cases (ltb t (translations f)))
         (Bytes-part (bodyPlace f (countOf image) (roomOf image) k (suc t)) (entryAt f image k t .translation) image b)
     go (inr h) =
         subst (λ (u : Translation). Bytes (u .text))
-        (sym (List·getD-eq-default (tabulate (translationAt f image k) (translations f)) noTranslation (omega (arith, length-tabulate (translationAt f image k) (translations f), ltb-false t (translations f) h))))
+        (sym (List·getD-eq-default (tabulate (translationAt f image k) (translations f)) noTranslation
+        (omega (arith, length-tabulate (translationAt f image k) (translations f), ltb-false t (translations f) h))))
         Bytes-nil
 
 module _ (f : Format) (image : List ℕ) (b : Bytes image) (holds : T (sound f image)) where

@@ -12,7 +12,8 @@ use Rattle.image.specs.Image.{bodies, encode, cardAt, decode, tailZero, transla
 use Rattle.image_claims.specs.Layouts.{LayoutCases}
 
 pub layout-cases : LayoutCases
-unfolding fieldsOf payload formed commandBytes wellFormed sound headerSound cardSound translationSound tailZero decode cardAt entryAt readEntry encode bodies pad entryBytes header shapeOk entrySound all allFrom le toLe part concatMap tabulate every zeros
+unfolding fieldsOf payload formed commandBytes wellFormed sound headerSound cardSound translationSound tailZero decode cardAt entryAt readEntry encode
+    bodies pad entryBytes header shapeOk entrySound all allFrom le toLe part concatMap tabulate every zeros
 layout-cases =
     record {
       parts = refl;

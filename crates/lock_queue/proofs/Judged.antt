@@ -16,7 +16,27 @@ use Rattle.lock_queue.proofs.Checks.{Good, good-out, good-count}
 use Rattle.lock_queue.specs.Queue.{State, mostPlaces, standing, desk, desks, firstPlace, stands}
 use Rattle.lock_queue.specs.Good.{good}
 use Rattle.lock_queue.specs.declared.Waiting.{Waiting}
-use Rattle.lock_queue.specs.Requests.{joined, without, upgrading, queueJoined, asking, leaving, lapsing, answered, blankAnswer, Request, asks, leaves, lapses, queueRows, sender, applied, number, after, answer}
+use Rattle.lock_queue.specs.Requests.{
+  joined,
+  without,
+  upgrading,
+  queueJoined,
+  asking,
+  leaving,
+  lapsing,
+  answered,
+  blankAnswer,
+  Request,
+  asks,
+  leaves,
+  lapses,
+  queueRows,
+  sender,
+  applied,
+  number,
+  after,
+  answer,
+}
 use Rattle.lock_queue.specs.declared.LockAnswer.{LockAnswer}
 use Rattle.lock_queue.specs.declared.LeaseExpiry.{LeaseExpiry}
 use Rattle.lock_queue.proofs.Upgrades.{up-stands, queueJoined-up, queueJoined-plain}

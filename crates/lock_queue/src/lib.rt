@@ -7,6 +7,7 @@ ghost use mathlib.Core.Path.{_≡_};
 ghost use lib.ListN.{replicate};
 ghost use Rattle.lock_queue.specs.Queue.{state, emptyQueue, mostPlaces, noWaiting};
 ghost use Rattle.lock_queue.specs.Requests.{asks, leaves, lapses, Turns};
+use stamps::NO_PAIR;
 use stamps::Pair;
 
 // ---- The lock queue of one card as it stands: who stands in it, who holds the lock, and how many entries are looked at.
@@ -19,6 +20,12 @@ pub struct Waiting {
     pub mode: u8,
     pub pair: Pair,
 }
+
+// A place that holds nothing.
+pub const NO_WAITING: Waiting = Waiting {
+    mode: 0,
+    pair: NO_PAIR,
+};
 
 // The places of a queue by value. How many of them are lent is told apart.
 pub struct Places {
@@ -66,13 +73,10 @@ pub fn empty() -> Queue
 {
     Queue {
         places: Places {
-            at: [Waiting {
-                mode: 0,
-                pair: Pair { s: 0, x: 0 },
-            }; 32],
+            at: [NO_WAITING; 32],
         },
         count: 0,
-        largest: Pair { s: 0, x: 0 },
+        largest: NO_PAIR,
     }
 }
 

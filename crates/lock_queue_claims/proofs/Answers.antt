@@ -6,7 +6,20 @@ use Rattle.floats.specs.Numbers.{wholeFloat, half}
 use Rattle.lock_queue.specs.Queue.{stands, firstPlace, looked, noExclusive, holdsAt, holds}
 use Rattle.lock_queue.specs.Good.{distinct, good}
 use Rattle.lock_queue.specs.Requests.{joined, removed, without, upgrading, queueJoined, answered, number, after, answer}
-use Rattle.lock_queue_claims.specs.Answers.{stages, TableUpgrade, TableOrder, TablePairs, TakesPlace, LeavesMiddle, WhoHolds, QueuesJudged, TableMalformed, TableLapses, LapsedLeaves, QueueAnswers}
+use Rattle.lock_queue_claims.specs.Answers.{
+  stages,
+  TableUpgrade,
+  TableOrder,
+  TablePairs,
+  TakesPlace,
+  LeavesMiddle,
+  WhoHolds,
+  QueuesJudged,
+  TableMalformed,
+  TableLapses,
+  LapsedLeaves,
+  QueueAnswers,
+}
 
 tabulate-upgrade : TableUpgrade
 unfolding stages number after answer answered holds holdsAt noExclusive looked upgrading queueJoined firstPlace good all allFrom distinct stands joined without removed

@@ -14,7 +14,29 @@ use Rattle.lists.proofs.Tests.{cases, T-and-left, to-T, from-T, and-left, and-r
 use Rattle.stamps.proofs.Stamp.{larger-old, session-rules}
 use Rattle.lists.proofs.Table.{given, unapplied, first-all}
 use Rattle.stamps.specs.Stamp.{stampValid, deskNumber, deskStart, own, shared, exclusive}
-use Rattle.lock_queue_claims.specs.Claims.{EachNumber, Acceptance, RefusalLeaves, BlankAnswers, LookedWithin, StaysGood, JoinsEnd, GapClosed, FreedZeroed, OthersKept, LargestGrows, AskerHolds, LeaverHoldsNothing, HoldersShared, RoomAfterLeaving, NoDeskZero, BeyondLent, askNumbers, leaveNumbers, lapseNumbers, QueueListed}
+use Rattle.lock_queue_claims.specs.Claims.{
+  EachNumber,
+  Acceptance,
+  RefusalLeaves,
+  BlankAnswers,
+  LookedWithin,
+  StaysGood,
+  JoinsEnd,
+  GapClosed,
+  FreedZeroed,
+  OthersKept,
+  LargestGrows,
+  AskerHolds,
+  LeaverHoldsNothing,
+  HoldersShared,
+  RoomAfterLeaving,
+  NoDeskZero,
+  BeyondLent,
+  askNumbers,
+  leaveNumbers,
+  lapseNumbers,
+  QueueListed,
+}
 use Rattle.lock_queue.specs.Queue.{State, noWaiting, standing, desk, desks, stands, firstPlace, looked, noExclusive, holdsAt, holds}
 use Rattle.lock_queue.specs.Good.{waitingFormed, good}
 use Rattle.lock_queue.specs.Requests.{joined, removed, without, modeOf, upgrading, Request, asks, leaves, lapses, queueRows, sender, applied, blankAnswer, answered, number, after, answer}

@@ -53,7 +53,9 @@ finite-sub : (f : Format) (s : Bool) (m : ℕ) (e : ℤ) (t : Bool) (n : ℕ) (d
 unfolding lt sub sum
 finite-sub f false m e false n d h a = go (ltb (m * up e * down d) (n * up d * down e)) h a
   where
-    go : (b : Bool) → T b → T (above (cond b (round f true (n * up d * down e - m * up e * down d) (down e * down d)) (round f (false && ltb (n * up d * down e) (m * up e * down d)) (m * up e * down d - n * up d * down e) (down e * down d)))) → ⊥
+    go : (b : Bool) → T b → T
+        (above (cond b (round f true (n * up d * down e - m * up e * down d) (down e * down d))
+        (round f (false && ltb (n * up d * down e) (m * up e * down d)) (m * up e * down d - n * up d * down e) (down e * down d)))) → ⊥
     go true t a = round-negative f (n * up d * down e - m * up e * down d) (down e * down d) a
     go false t a = t
 finite-sub f false m e true n d h a = h
@@ -64,7 +66,9 @@ finite-sub f true m e true n d h a =
     both : (x y : ℕ) → x < y → y < x → ⊥
     both x y h k = omega arith
 
-    go : (b c : Bool) → (T b → m * up e * down d < n * up d * down e) → (T c → n * up d * down e < m * up e * down d) → T c → T (above (cond b (round f false (n * up d * down e - m * up e * down d) (down e * down d)) (round f c (m * up e * down d - n * up d * down e) (down e * down d)))) → ⊥
+    go : (b c : Bool) → (T b → m * up e * down d < n * up d * down e) → (T c → n * up d * down e < m * up e * down d) → T c → T
+        (above (cond b (round f false (n * up d * down e - m * up e * down d) (down e * down d))
+        (round f c (m * up e * down d - n * up d * down e) (down e * down d)))) → ⊥
     go true c k l t a = both (m * up e * down d) (n * up d * down e) (k tt) (l t)
     go false true k l t a = round-negative f (m * up e * down d - n * up d * down e) (down e * down d) a
     go false false k l t a = t
@@ -149,7 +153,8 @@ longer (fin true n k) f h = go (ltb (1 * down k) (n * up k * 1)) (ltb→lt (1 * 
     zeros : 0 * 1 * down k ≡ n * up k * 1
     zeros = eqb→eq (0 * 1 * down k) (n * up k * 1) (and-l (eqb (0 * 1 * down k) (n * up k * 1)) (eqb (0 * 1 * down k) 0) h)
 
-    go : (b : Bool) → (T b → 1 * down k < n * up k * 1) → T (le one (cond b (round binary64 true (n * up k * 1 - 1 * down k) (1 * down k)) (round binary64 false (1 * down k - n * up k * 1) (1 * down k))))
+    go : (b : Bool) → (T b → 1 * down k < n * up k * 1) → T
+        (le one (cond b (round binary64 true (n * up k * 1 - 1 * down k) (1 * down k)) (round binary64 false (1 * down k - n * up k * 1) (1 * down k))))
     go true k′ = absurd (omega (arith, k′ tt, zeros))
     go false k′ =
         subst (λ (x : Float). T (le x (round binary64 false (1 * down k - n * up k * 1) (1 * down k)))) one-rounded
@@ -229,7 +234,8 @@ none-fine r no-one all = go no-one
     first = and-l (validTerm (r .lease) && validTime (r .begin)) (validTime (r .now)) all
 
     terms : T (lt nil (r .lease .period)) × T (le (r .lease .period) (wholeFloat 86400)) × T (le nil (r .lease .drift)) × T (le (r .lease .drift) half)
-    terms = four (lt nil (r .lease .period)) (le (r .lease .period) (wholeFloat 86400)) (le nil (r .lease .drift)) (le (r .lease .drift) half) (and-l (validTerm (r .lease)) (validTime (r .begin)) first)
+    terms = four (lt nil (r .lease .period)) (le (r .lease .period) (wholeFloat 86400)) (le nil (r .lease .drift)) (le (r .lease .drift) half)
+        (and-l (validTerm (r .lease)) (validTime (r .begin)) first)
 
     go : (r .lease .period ≡ nan) ⊎ (r .lease .drift ≡ nan) ⊎ (r .begin ≡ nan) ⊎ (r .now ≡ nan) → ⊥
     go (inl e) = none-below (r .lease .period) e (terms .0)

@@ -61,10 +61,12 @@ module _ {M : Type 1} (𝓤 : URA M) (H : Heap 𝓤) (A : Atoms 𝓤) (W : Given
   within-said i r = exE 𝓤 _ (λ l. snd∗ 𝓤 (sem 𝓤 H A (lasts within.ended tt (i, (n, tt)) l)) (fact 𝓤 (r ≡ (ltb i n && ltb i mostPlaces))))
 
   module _ {K : Type 0} {Γ : List (Item 𝓤)} {C : Calls 𝓤 H} {Λ : Loops 𝓤 H} {E : Env 𝓤 H} {q : Kit.Post 𝓤 H} {d : Place} {xs : List Operand} {rest : Body} where
-    pub tests : K → (i : ℕ) → i < 2 ^ 64 → FmC 𝓤 H (W .laws) C → Triple 𝓤 (C #within) (Within 𝓤 H A mem run) → Opds K W (raw (Within 𝓤 H A mem run .pre (to-within i)) ∷ Γ) E xs (vint w64 i ∷ vint w64 n ∷ [])
+    pub tests : K → (i : ℕ) → i < 2 ^ 64 → FmC 𝓤 H (W .laws) C → Triple 𝓤 (C #within) (Within 𝓤 H A mem run) → Opds K W
+        (raw (Within 𝓤 H A mem run .pre (to-within i)) ∷ Γ) E xs (vint w64 i ∷ vint w64 n ∷ [])
         → ((r : Bool) → r ≡ (ltb i n && ltb i mostPlaces) → Seq K W Γ (lands C Λ E d (vbool r) rest q)) → Seq K W Γ (runs C Λ E (seq (call #within xs d) rest) q)
     tests t i fits fm known os k =
         use0 W (raw (Within 𝓤 H A mem run .pre (to-within i))) (goes-within i fits) $ calls-at t fm (Within 𝓤 H A mem run) known (to-within i) os (λ u.
-        use1 W (later (some (λ (r : Bool). (‵ ftrue ⊛ ‵ (bool .own r (u ∷ []))) ⊛ raw (ensured 𝓤 H A within.ended (within.clauses 𝓤 H A mem run) tt (i, (n, tt)) tt r)))) (id⊢ 𝓤 _) $ await t tt $ pick t (λ r.
+        use1 W (later (some (λ (r : Bool). (‵ ftrue ⊛ ‵ (bool .own r (u ∷ []))) ⊛ raw
+        (ensured 𝓤 H A within.ended (within.clauses 𝓤 H A mem run) tt (i, (n, tt)) tt r)))) (id⊢ 𝓤 _) $ await t tt $ pick t (λ r.
         split t $ move t (1 ∷ []) $ use1 W (raw (fact 𝓤 (r ≡ (ltb i n && ltb i mostPlaces)))) (within-said i r) $ heard t (r ≡ (ltb i n && ltb i mostPlaces)) (λ e. split t $ drop t $
         peeks t bool (Is bool) (shows 𝓤 H A bool) r (u ∷ []) (λ is. drop t $ subst (λ (v : Val). Seq K W Γ (lands C Λ E d v rest q)) (sym (ap only (bool-tells r _ is))) (k r e)))))

@@ -56,13 +56,18 @@ pub record ArrayTurn : Type 0 where
   pub x : List ℕ
   pub kept : List ℕ
 
-abbrev pub arrayTurn : ℕ → State → Request → ArrayTurn
-arrayTurn lent q r =
+-- By an answer and the queue as it then is.
+abbrev pub arraysOf : LockAnswer → State → ArrayTurn
+arraysOf a q =
     record {
-      number = answer lent q r .number;
-      fields = answerOf (answer lent q r);
-      modes = modesOf (after lent q r .places);
-      s = sharedOf (after lent q r .places);
-      x = exclusiveOf (after lent q r .places);
-      kept = keptOf (after lent q r);
+      number = a .number;
+      fields = answerOf a;
+      modes = modesOf (q .places);
+      s = sharedOf (q .places);
+      x = exclusiveOf (q .places);
+      kept = keptOf q;
     }
+
+-- By the request.
+abbrev pub arrayTurn : ℕ → State → Request → ArrayTurn
+arrayTurn lent q r = arraysOf (answer lent q r) (after lent q r)

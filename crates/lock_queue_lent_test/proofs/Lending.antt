@@ -61,11 +61,13 @@ module _ {M : Type 1} (𝓤 : URA M) (H : Heap 𝓤) (A : Atoms 𝓤) (W : Given
   abbrev pub Back : ℕ → List Waiting → Item 𝓤
   Back b zs = later (given (Is Entries zs (avals zs)) (‵ (fat fullShare entries b 0 (aval zs))))
 
-  pub comes : (b n : ℕ) (zs : List Waiting) → length zs ≡ mostPlaces → (κ : Lft) (γ : GName) → ent 𝓤 (sep 𝓤 (A .dead κ) (sep 𝓤 (A .lent κ (Held T.the-row n b 0 γ)) (sem 𝓤 H A (finally T.the-row γ zs)))) (mean 𝓤 H A (Back b zs))
+  pub comes : (b n : ℕ) (zs : List Waiting) → length zs ≡ mostPlaces → (κ : Lft) (γ : GName) → ent 𝓤
+      (sep 𝓤 (A .dead κ) (sep 𝓤 (A .lent κ (Held T.the-row n b 0 γ)) (sem 𝓤 H A (finally T.the-row γ zs)))) (mean 𝓤 H A (Back b zs))
   unfolding partOf
   comes b n zs l κ γ =
       qed W (‵ (fdead κ) ∷ ‵ (flent κ (Held T.the-row n b 0 γ)) ∷ ‵ (finally T.the-row γ zs) ∷ []) ∵ updating ! $
-      use3 W (later (‵ (Arr (mem T.the-row) n .lies zs b 0))) (slice-back 𝓤 H A W T.the-row κ γ zs n b 0) $ await ! tt $ fsplit ! $ drop ! $ use1 W (‵ (row T.the-row fullShare zs b 0)) (whole-out 𝓤 H A W T.the-row zs b 0) $
+      use3 W (later (‵ (Arr (mem T.the-row) n .lies zs b 0))) (slice-back 𝓤 H A W T.the-row κ γ zs n b 0) $ await ! tt $ fsplit ! $ drop ! $ use1 W
+      (‵ (row T.the-row fullShare zs b 0)) (whole-out 𝓤 H A W T.the-row zs b 0) $
       feqI ! ℕ (length zs) mostPlaces l $ fjoin ! $ use1 W (‵ (partAt Entries fullShare zs b 0)) (array-whole 𝓤 H A W T.the-row fullShare mostPlaces zs b 0) $
       fpick ! (λ vs. fsplit ! $ move ! (1 ∷ []) $ peeks ! Entries (Is Entries) (shows 𝓤 H A Entries) zs vs (λ is. drop ! $
       rewrite ! 0 (λ (us : List Val). ‵ (cellAt fullShare (Entries .mir) us b 0)) (told vs is) refl $

@@ -29,7 +29,9 @@ unfolding outputWithin
 one-less = refl
 
 pub lines-cases : LinesCases
-unfolding goodFront commands commandsWithin whole extent runs numbersOf serve serveBy stepped sound headerSound cardSound translationSound tailZero decode cardAt entryAt readEntry encode bodies pad entryBytes header shapeOk fresh replied raise entrySound commandBytes formed payload fieldsOf wellFormed all allFrom le toLe part splice tabulate concatMap every zeros
+unfolding goodFront commands commandsWithin whole extent runs numbersOf serve serveBy stepped sound headerSound cardSound translationSound tailZero
+    decode cardAt entryAt readEntry encode bodies pad entryBytes header shapeOk fresh replied raise entrySound commandBytes formed payload fieldsOf
+    wellFormed all allFrom le toLe part splice tabulate concatMap every zeros
 lines-cases =
     record {
       enough = enough;

@@ -51,7 +51,8 @@ start-sound : sound V1 (caseP .start) ≡ true
 unfolding sound headerSound cardSound translationSound tailZero entryAt readEntry fresh header shapeOk entrySound all allFrom le toLe part every zeros
 start-sound = refl
 
-alone : outputOf (caseP .start ++ []) ≡ firstLine (countOf (caseP .start)) ++ (linesFrom 1 (runs V1 (caseP .start) (replicate (roomOf (caseP .start)) 0) (commands V1 []) .answers) ++ lastLine (leftOver []))
+alone : outputOf (caseP .start ++ []) ≡ firstLine (countOf (caseP .start)) ++
+    (linesFrom 1 (runs V1 (caseP .start) (replicate (roomOf (caseP .start)) 0) (commands V1 []) .answers) ++ lastLine (leftOver []))
 unfolding fresh header toLe
 alone = claims .prints (caseP .start) [] start-sound (omega arith)
 

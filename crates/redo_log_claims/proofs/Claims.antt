@@ -14,7 +14,8 @@ use Rattle.lists.specs.Table.{listed}
 use Rattle.lists.proofs.Tests.{cases, and-left}
 use Rattle.lists.proofs.Table.{given, unapplied, first-all}
 use Rattle.redo_log.specs.Log.{LogRecord, bodiesFrom, mostRecords, mostLog, recordCount, goodLog, logNumber, records}
-use Rattle.redo_log.specs.Append.{Store, stored, stores, accepts, lacks, appendRows, appendNumber, appended, Admitted}
+use Rattle.redo_log.specs.Append.{Store, stored, stores, accepts, lacks, appendRows, appendNumber, appended}
+use Rattle.redo_log.specs.inner.Admitted.{Admitted}
 use Rattle.redo_log.proofs.Stores.{take-append, stored-append, length-stores, written, long-written, stores-written}
 use Rattle.redo_log.proofs.Steps.{admitted, left-23, left-24, left-26, left-0}
 use Rattle.redo_log_claims.specs.Claims.{Appending, Appends, checkNumbers, appendNumbers, LogListed, needed, appendedAll, allStores, admittedOf, wholly, cutAfter, AppendRun, AppendRuns}
@@ -43,7 +44,16 @@ module _ (k : ℕ) (log : List ℕ) (r : LogRecord) where
       let same = same-written log r room k in
       let count = count-before log r room k h in
       let long = long-written log r room k in (
-        rw (count, long, ← checks-same log (written k log r) same, room .checks, le-leb bodiesFrom (length log) (room .from), le-leb (length log) mostLog (room .most), le-leb (recordCount log) mostRecords (omega (arith, room .below))),
+        rw (
+          count,
+          long,
+          ← checks-same log (written k log r) same,
+          room .checks,
+          le-leb bodiesFrom (length log) (room .from),
+          le-leb
+              (length log) mostLog (room .most),
+          le-leb (recordCount log) mostRecords (omega (arith, room .below)),
+        ),
         rw count (sym (records-same log (written k log r) same)),
       )
 
@@ -160,7 +170,8 @@ module _ (k : ℕ) (log : List ℕ) (r : LogRecord) (rs : List LogRecord) (g : g
         ∙ ap (λ (m : ℕ). stored (take (k - m) (allStores next rs)) (stored (take k (stores log r)) log)) (length-stores log r)
 
     -- Cut within this append.
-    more-cut : k < needed r → stored (allStores next rs) next ≡ appendedAll next rs → (goodLog (stored (take k (stores log r)) log) ≡ true) × (records (stored (take k (stores log r)) log) ≡ records log)
+    more-cut : k < needed r → stored (allStores next rs) next ≡ appendedAll next rs → (goodLog (stored (take k (stores log r)) log) ≡ true) ×
+        (records (stored (take k (stores log r)) log) ≡ records log)
         → length (stored (take k (stores log r)) log) ≡ length log
         → (Bytes log → Bytes (r .body) → Bytes (stored (take k (stores log r)) log))
         → AppendRun k log (r ∷ rs)
@@ -177,7 +188,8 @@ module _ (k : ℕ) (log : List ℕ) (r : LogRecord) (rs : List LogRecord) (g : g
         }
 
     -- Cut behind it.
-    more-whole : needed r ≤ k → records next ≡ records log ++ r ∷ [] → length next ≡ length log → (Bytes log → Bytes (r .body) → Bytes next) → AppendRun (k - needed r) next rs → AppendRun k log (r ∷ rs)
+    more-whole : needed r ≤ k → records next ≡ records log ++ r ∷ [] → length next ≡ length log →
+        (Bytes log → Bytes (r .body) → Bytes next) → AppendRun (k - needed r) next rs → AppendRun k log (r ∷ rs)
     unfolding wholly
     more-whole h rn ln b t =
         let here : stored (take k (stores log r)) log ≡ next = ap (λ (ss : List Store). stored ss log) (take-all k (stores log r) (rw length-stores h)) ∙ sym next-is in

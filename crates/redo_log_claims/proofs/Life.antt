@@ -18,7 +18,8 @@ use Rattle.lists.proofs.Bytes.{Bytes-nil, Bytes-cons, Bytes-splice}
 use Rattle.lists.proofs.Parts.{splice-nil, length-splice, splice-before, getD-splice-before, getD-splice-after, splice-set}
 use Rattle.lists.proofs.Tests.{cases, never-both, and-left, and-right, or-cases, or-left, or-right}
 use Rattle.redo_log.specs.Log.{LogRecord, bodiesFrom, mostLog, recordCount, linePlace, placeAt, lengthAt, sumAt, recordAt, startAt, lastBegun, opened, total, checksum, recordOk, goodLog, records}
-use Rattle.redo_log.specs.Append.{Store, stored, puts, lineBytes, stores, accepts, lacks, appendNumber, appended, Admitted}
+use Rattle.redo_log.specs.Append.{Store, stored, puts, lineBytes, stores, accepts, lacks, appendNumber, appended}
+use Rattle.redo_log.specs.inner.Admitted.{Admitted}
 use Rattle.redo_log.proofs.Records.{sizes, start-next, ok-inside, good-record, body-long}
 use Rattle.redo_log.proofs.Stores.{length-line, withBody, withLine, stores-written}
 use Rattle.redo_log.proofs.Steps.{admitted, left-23, left-24, left-26, left-0}
@@ -206,7 +207,8 @@ module _ (log : List ℕ) (r : LogRecord) (a : accepts log r ≡ true) (f : lack
         body = λ j o. ap (λ (l : List ℕ). getD l j 0) at-first ∙ getD-outside from j (r .body) log (omega (arith, room-of .fits)) o;
         line = λ j o.
             ap (λ (l : List ℕ). getD l j 0) at-second
-            ∙ getD-outside (linePlace (recordCount log)) j bytes first (omega (arith, long-first, room-of .below, room-of .from)) (subst (λ (m : ℕ). Outside (linePlace (recordCount log)) m j) (sym (length-line from r)) o)
+            ∙ getD-outside (linePlace (recordCount log)) j bytes first (omega (arith, long-first, room-of .below, room-of .from))
+            (subst (λ (m : ℕ). Outside (linePlace (recordCount log)) m j) (sym (length-line from r)) o)
             ∙ ap (λ (l : List ℕ). getD l j 0) (sym at-first);
         count = λ j o.
             ap (λ (l : List ℕ). getD l j 0) at-third

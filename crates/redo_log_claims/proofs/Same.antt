@@ -74,7 +74,16 @@ module _ {n : ℕ} (a b : List ℕ) (s : Same n a b) where
   pub ok-same : (i : ℕ) → i < n → recordOk a i ≡ recordOk b i
   unfolding recordOk
   ok-same i h =
-      rw (start-same (suc i) h, s .long, line-same i 1 4 h (omega arith), start-same i (omega arith), line-same i 7 4 h (omega arith), record-same i h, last-same i (omega arith), opened-same i (omega arith))
+      rw (
+        start-same (suc i) h,
+        s .long,
+        line-same i 1 4 h (omega arith),
+        start-same i (omega arith),
+        line-same i 7 4 h (omega arith),
+        record-same i h,
+        last-same i (omega arith),
+        opened-same i (omega arith),
+      )
 
   pub checks-same : every (recordOk a) n ≡ every (recordOk b) n
   checks-same = every-ext (recordOk a) (recordOk b) n ok-same

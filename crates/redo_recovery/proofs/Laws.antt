@@ -9,8 +9,8 @@ use borrow.Author.Tests.{eq-eqb, ne-eqb, le-ltb}
 use lib.ListN.{length, List·getD-eq-default}
 use lib.Dec.{leb, eqb, lit<}
 use Rattle.formats.specs.Format.{V1, translations, entrySize, fixed}
-use Rattle.lists.specs.Parts.{Bytes, part, tabulate, zeros}
-use Rattle.lists.specs.Le.{le, field}
+use Rattle.lists.specs.Parts.{Bytes, tabulate, zeros}
+use Rattle.lists.specs.Le.{field}
 use Rattle.lists.proofs.Tests.{to-T, or-left, or-right}
 use Rattle.lists.proofs.Bytes.{Bytes-nil}
 use Rattle.commands.specs.Command.{wellFormed, FitsCommand}
@@ -27,8 +27,8 @@ use Rattle.store_model.specs.Serve.{serve}
 use Rattle.store_model.proofs.Sound.{stays-sound}
 use Rattle.store.specs.inner.Carried.{carried}
 use Rattle.store.proofs.Step.{refusal, serve-malformed, serve-no-card, serve-found}
-use Rattle.redo_log.specs.Log.{LogRecord, goodLog, recordCount, startAt, lastBegun, kindAt, recordAt, records}
-use Rattle.redo_log.proofs.Records.{here, record-kind, last-ext, update-length, synced-length, card-read, commit-read, synced-read}
+use Rattle.redo_log.specs.Log.{LogRecord, goodLog, recordCount, lastBegun, recordAt, records}
+use Rattle.redo_log.proofs.Records.{last-ext}
 use Rattle.redo_log.proofs.ReadBack.{record-of}
 use Rattle.redo_recovery_model.specs.Recovery.{recordIn, transactionIn, commitsTo, syncsFrom, due, entryFor}
 use Rattle.lists.specs.Search.{any}
@@ -65,36 +65,33 @@ module _ (p : LogRecord → Bool) (log : List ℕ) where
   unfolding records
   sought-all i e h = rw e at h
 
--- ---- a record of a good log
+-- ---- a record, by its kind
+
+pub not-commit : (r : LogRecord) (t : ℕ) → (r .kind ≡ 3 → ⊥) → commitsTo t r ≡ false
+not-commit r t n = rw (ne-eqb (r .kind) 3 n)
+
+pub commit-is : (r : LogRecord) (t : ℕ) → r .kind ≡ 3 → commitsTo t r ≡ eqb (field 0 4 (r .body)) t
+commit-is r t e = rw e
+
+pub not-synced : (r : LogRecord) (card t : ℕ) → (r .kind ≡ 4 → ⊥) → syncsFrom card t r ≡ false
+not-synced r card t n = rw (ne-eqb (r .kind) 4 n)
+
+pub synced-is : (r : LogRecord) (card t : ℕ) → r .kind ≡ 4 → syncsFrom card t r ≡ (eqb (field 0 2 (r .body)) card && leb t (field 2 4 (r .body)))
+synced-is r card t e = rw e
 
 module _ (log : List ℕ) (j : ℕ) (g : goodLog log ≡ true) (h : j < recordCount log) where
-  pub not-commit : (t : ℕ) → (kindAt log j ≡ 3 → ⊥) → commitsTo t (recordAt log j) ≡ false
-  not-commit t n = rw (record-kind log j, ne-eqb (kindAt log j) 3 n)
-
-  pub commit-is : (t : ℕ) → kindAt log j ≡ 3 → commitsTo t (recordAt log j) ≡ eqb (le (part (startAt log j) 4 log)) t
-  commit-is t e = rw (commit-read log j (here log j g h) e, record-kind log j, eq-eqb (kindAt log j) 3 e)
-
-  pub not-synced : (card t : ℕ) → (kindAt log j ≡ 4 → ⊥) → syncsFrom card t (recordAt log j) ≡ false
-  not-synced card t n = rw (record-kind log j, ne-eqb (kindAt log j) 4 n)
-
-  pub synced-is : (card t : ℕ) → kindAt log j ≡ 4
-      → syncsFrom card t (recordAt log j) ≡ (eqb (le (part (startAt log j) 2 log)) card && leb t (le (part (startAt log j + 2) 4 log)))
-  synced-is card t e =
-      rw (synced-read log j (here log j g h) e, card-read log j (here log j g h) (omega (arith, synced-length log j (here log j g h) e)), record-kind log j, eq-eqb (kindAt log j) 4 e)
-
-  pub not-due : (kindAt log j ≡ 2 → ⊥) → due (records log) j ≡ false
+  pub not-due : (recordAt log j .kind ≡ 2 → ⊥) → due (records log) j ≡ false
   unfolding due
-  not-due n = rw (record-of log j h, record-kind log j, ne-eqb (kindAt log j) 2 n)
+  not-due n = rw (record-of log j h, ne-eqb (recordAt log j .kind) 2 n)
 
   -- The transaction of record j, as the list of records has it and as the log has it.
   pub last-is : transactionIn (records log) j ≡ lastBegun (recordAt log) j
   last-is = last-ext (recordIn (records log)) (recordAt log) j (λ i k. record-of log i (omega arith))
 
-  pub due-is : kindAt log j ≡ 2 → due (records log) j
-      ≡ (any (commitsTo (lastBegun (recordAt log) j)) (records log) && not (any (syncsFrom (le (part (startAt log j) 2 log)) (lastBegun (recordAt log) j)) (records log)))
+  pub due-is : recordAt log j .kind ≡ 2 → due (records log) j
+      ≡ (any (commitsTo (lastBegun (recordAt log) j)) (records log) && not (any (syncsFrom (field 0 2 (recordAt log j .body)) (lastBegun (recordAt log) j)) (records log)))
   unfolding due
-  due-is e =
-      rw (last-is, record-of log j h, card-read log j (here log j g h) (omega (arith, update-length log j (here log j g h) e)), record-kind log j, eq-eqb (kindAt log j) 2 e)
+  due-is e = rw (last-is, record-of log j h, eq-eqb (recordAt log j .kind) 2 e)
 
 -- ---- entries
 
@@ -114,7 +111,8 @@ module _ (image : List ℕ) (c : Command) (text : List ℕ) (e : sound V1 image 
   unfolding formed
   serve-bad w =
       serve-malformed V1 image (commandBytes V1 c text) [] e
-      (rw (ap wellFormed (fields-command c text V1 f known) ∙ w) (and-false (eqb (length (commandBytes V1 c text)) (fixed V1 + field 50 2 (commandBytes V1 c text)) && zeros (blanks V1 (commandBytes V1 c text)))))
+      (rw (ap wellFormed (fields-command c text V1 f known) ∙ w)
+      (and-false (eqb (length (commandBytes V1 c text)) (fixed V1 + field 50 2 (commandBytes V1 c text)) && zeros (blanks V1 (commandBytes V1 c text)))))
 
   module _ (w : wellFormed c ≡ true) where
     pub serve-none : cardsOf image ≤ c .card → serve V1 image (commandBytes V1 c text) [] ≡ refusal (refused 2) image []

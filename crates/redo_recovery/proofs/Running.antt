@@ -13,7 +13,8 @@ use Rattle.redo_log.specs.Log.{LogRecord, goodLog, recordCount, lastBegun, reco
 use Rattle.redo_log.proofs.ReadBack.{length-records}
 use Rattle.redo_recovery_model.specs.Recovery.{Pairs, Recovery, recordIn, recoverySent, recoveryStep, recovering, recovered}
 use Rattle.redo_recovery_model.proofs.Steps.{R, Idle, Sends, next}
-use Rattle.redo_recovery.specs.Step.{writeOutcome, stepNumber, stepImage, recoveryAnswer}
+use Rattle.redo_recovery.specs.inner.Step.{writeOutcome, stepNumber, stepImage}
+use Rattle.redo_recovery.specs.Recover.{recoveryAnswer}
 use Rattle.redo_recovery.specs.declared.Recovered.{Recovered}
 
 pub answers-bad : (pairs : Pairs) (log image : List ℕ) → goodLog log ≡ false
@@ -48,7 +49,9 @@ module _ (pairs : Pairs) (log image : List ℕ) where
           record {
             number = ap (λ (r : Recovery). r .number) (s .now) ∙ sym (ap (λ (b : Bool). cond b (writeOutcome pairs (R pairs rs image i .image) (recordIn rs i) .answer .number) 0) d);
             image' = ap (λ (r : Recovery). r .image) (s .now) ∙ sym (ap (λ (b : Bool). cond b (writeOutcome pairs (R pairs rs image i .image) (recordIn rs i) .image) (R pairs rs image i .image)) d);
-            line = λ n. ap (λ (r : Recovery). r .line) (s .now) ∙ settled-old {n = writeOutcome pairs (R pairs rs image i .image) (recordIn rs i) .answer .number} 0 i (λ q. n (ap (λ (b : Bool). cond b (writeOutcome pairs (R pairs rs image i .image) (recordIn rs i) .answer .number) 0) d ∙ q));
+            line = λ n. ap (λ (r : Recovery). r .line) (s .now)
+                ∙ settled-old {n = writeOutcome pairs (R pairs rs image i .image) (recordIn rs i) .answer .number} 0 i
+                (λ q. n (ap (λ (b : Bool). cond b (writeOutcome pairs (R pairs rs image i .image) (recordIn rs i) .answer .number) 0) d ∙ q));
           }
 
   -- A refusal ends it.

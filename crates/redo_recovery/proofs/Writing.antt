@@ -1,5 +1,5 @@
 -- The write of an update, and one record of the log, in the terms of the code. Assumes nothing.
-use Prim.Native.Nat.{ℕ, _+_, _-_, _≤_, _<_}
+use Prim.Native.Nat.{ℕ, _-_, _≤_, _<_}
 use native.Mathlib.Omega.{arith}
 use mathlib.Core.Path.{_≡_, sym, ap, _∙_, subst}
 use mathlib.Core.List.{List, []}
@@ -20,18 +20,20 @@ use Rattle.image.specs.Image.{sound}
 use Rattle.store_model.specs.Serve.{Outcome, serve}
 use Rattle.lists.specs.Search.{any}
 use Rattle.store.proofs.Step.{serve-unsound}
-use Rattle.redo_log.specs.Log.{LogRecord, goodLog, recordCount, startAt, lengthAt, kindAt, recordText, recordAt, records}
-use Rattle.redo_log.proofs.Records.{here, body-at, body-long, short-record, update-length}
+use Rattle.redo_log.specs.Log.{LogRecord, goodLog, recordCount, recordText, recordAt, records}
+use Rattle.redo_log.proofs.Records.{update-body}
 use Rattle.redo_log.proofs.ReadBack.{record-of}
 use Rattle.redo_recovery_model.specs.Recovery.{Pairs, recordIn, transactionIn, commitsTo, due, writeBy, writeOf, entryFor, recoverySent}
 use Rattle.redo_recovery_model.proofs.Sending.{fits-write}
-use Rattle.redo_recovery.specs.Step.{pairsOf, writeOutcome, stepNumber, stepImage}
+use Rattle.redo_recovery.specs.inner.Step.{writeOutcome, stepNumber, stepImage}
+use Rattle.redo_recovery.specs.Recover.{pairsOf}
 
 abbrev pub updated : List ℕ → LogRecord
 updated body = record { kind = 2; body = body }
 
 module _ (image ss xs body : List ℕ) (ok : Bool) (o : ok ≡ sound V1 image) where
-  pub write-unsound : ok ≡ false → (9 ≡ writeOutcome (pairsOf ss xs) image (updated body) .answer .number) × ((image ≡ writeOutcome (pairsOf ss xs) image (updated body) .image) × (ok ≡ sound V1 image))
+  pub write-unsound : ok ≡ false → (9 ≡ writeOutcome (pairsOf ss xs) image (updated body) .answer .number) ×
+      ((image ≡ writeOutcome (pairsOf ss xs) image (updated body) .image) × (ok ≡ sound V1 image))
   write-unsound f =
       let u = serve-unsound V1 image (recoverySent (pairsOf ss xs) image (updated body) .command) [] (sym o ∙ f) in
       (ap (λ (v : Outcome). v .answer .number) (sym u), (ap (λ (v : Outcome). v .image) (sym u), o))
@@ -57,7 +59,8 @@ module _ (image ss xs body : List ℕ) (ok : Bool) (o : ok ≡ sound V1 image) w
 
     pub write-serves : serve V1 image (commandBytes V1 w (take (length body - 3) (drop 3 body))) [] ≡ writeOutcome (pairsOf ss xs) image (updated body)
     unfolding recoverySent
-    write-serves = ap (λ (c : Command). serve V1 image (commandBytes V1 c (take (length body - 3) (drop 3 body))) []) write-is ∙ ap (λ (t : List ℕ). serve V1 image (commandBytes V1 (writeOf (pairsOf ss xs) image (updated body)) t) []) write-bytes
+    write-serves = ap (λ (c : Command). serve V1 image (commandBytes V1 c (take (length body - 3) (drop 3 body))) []) write-is ∙ ap
+        (λ (t : List ℕ). serve V1 image (commandBytes V1 (writeOf (pairsOf ss xs) image (updated body)) t) []) write-bytes
 
 -- ---- record i
 
@@ -68,25 +71,18 @@ due-kind rs i d =
     (and-left (eqb (recordIn rs i .kind) 2) _ (and-left (eqb (recordIn rs i .kind) 2 && any (commitsTo (transactionIn rs i)) rs) _ d))
 
 module _ (log : List ℕ) (i : ℕ) (g : goodLog log ≡ true) (h : i < recordCount log) where
-  kind-is : due (records log) i ≡ true → kindAt log i ≡ 2
-  unfolding recordAt
-  kind-is d = sym (ap (λ (r : LogRecord). r .kind) (record-of log i h)) ∙ due-kind (records log) i d
+  pub body-least : due (records log) i ≡ true → 3 ≤ length (recordAt log i .body)
+  body-least d = update-body log i g h (sym (ap (λ (r : LogRecord). r .kind) (record-of log i h)) ∙ due-kind (records log) i d)
 
-  module _ (at size : ℕ) (ea : at ≡ startAt log i) (es : size ≡ lengthAt log i) where
-    pub body-short : length (take (at + size - at) (drop at log)) < 65536
-    body-short = rw (body-at log i at size ea es) (short-record log g i h)
-
-    pub body-least : due (records log) i ≡ true → 3 ≤ length (take (at + size - at) (drop at log))
-    body-least d = rw (body-at log i at size ea es, body-long log i (here log i g h)) (update-length log i (here log i g h) (kind-is d))
-
-    -- What the step leaves where it is due.
-    pub wrote-same : (pairs : Pairs) (image : List ℕ) → writeOutcome pairs image (updated (take (at + size - at) (drop at log))) ≡ writeOutcome pairs image (recordIn (records log) i)
-    unfolding recoverySent
-    wrote-same pairs image = ap (λ (b : List ℕ). writeOutcome pairs image (updated b)) (body-at log i at size ea es) ∙ ap (λ (r : LogRecord). writeOutcome pairs image r) (sym (record-of log i h))
+  -- What the step leaves where it is due.
+  pub wrote-same : (pairs : Pairs) (image : List ℕ) → writeOutcome pairs image (updated (recordAt log i .body)) ≡ writeOutcome pairs image (recordIn (records log) i)
+  unfolding recoverySent
+  wrote-same pairs image = ap (λ (r : LogRecord). writeOutcome pairs image r) (sym (record-of log i h))
 
   module _ (pairs : Pairs) (image : List ℕ) where
     pub step-due : due (records log) i ≡ true
-        → (writeOutcome pairs image (recordIn (records log) i) .answer .number ≡ stepNumber pairs (records log) image i) × (writeOutcome pairs image (recordIn (records log) i) .image ≡ stepImage pairs (records log) image i)
+        → (writeOutcome pairs image (recordIn (records log) i) .answer .number ≡ stepNumber pairs (records log) image i) ×
+        (writeOutcome pairs image (recordIn (records log) i) .image ≡ stepImage pairs (records log) image i)
     step-due d = (rw d, rw d)
 
     pub step-idle : due (records log) i ≡ false → (0 ≡ stepNumber pairs (records log) image i) × (image ≡ stepImage pairs (records log) image i)

@@ -8,34 +8,31 @@ ghost use Rattle.formats.specs.Format.{V1, translations};
 ghost use Rattle.image.specs.Image.{sound};
 ghost use Rattle.commands.specs.Bytes.{commandBytes};
 ghost use Rattle.commands.specs.Command.{FitsCommand};
-ghost use Rattle.redo_log.specs.Log.{goodLog, recordCount, startAt, lengthAt, lastBegun, recordAt, records};
+ghost use Rattle.redo_log.specs.Log.{goodLog, recordCount, lastBegun, recordAt, records};
 ghost use Rattle.store_model.specs.Serve.{serve};
 ghost use Rattle.lists.specs.Search.{any};
 ghost use Rattle.redo_recovery_model.specs.Recovery.{commitsTo, syncsFrom, due, entryFor, writeBy};
-ghost use Rattle.redo_recovery.specs.Step.{pairsOf, writeOutcome, stepNumber, stepImage};
+ghost use Rattle.redo_recovery.specs.inner.Step.{writeOutcome, stepNumber, stepImage};
+ghost use Rattle.redo_recovery.specs.Recover.{pairsOf};
 use commands::Command;
 use guard::Entry;
+use redo_log::inner::reading::COMMIT;
+use redo_log::inner::reading::SYNCED;
+use redo_log::inner::reading::UPDATE;
+use redo_log::inner::records;
 use slices::inner::fixed_width as le;
-use stamps::Mark;
+use stamps::NO_PAIR;
 use stamps::Pair;
-
-// Where body j of a good log begins.
-fn place_of(log: &[u8], j: usize) -> usize
-    requires { ⌜ (goodLog (now log) ≡ true) × (j < recordCount (now log)) ⌝ }
-    ensures { λ r. ⌜ (r ≡ startAt (now (log .entry)) j) × (r + lengthAt (now (log .entry)) j ≤ length (now (log .entry))) ⌝ }
-{
-    le::read_u32(log, 1 + 11 * j + 1) as usize
-}
 
 // Whether record j commits transaction t.
 fn is_commit(log: &[u8], t: u32, j: usize) -> bool
     requires { ⌜ (goodLog (now log) ≡ true) × (j < recordCount (now log)) ⌝ }
     ensures { λ r. ⌜ r ≡ commitsTo t (recordAt (now (log .entry)) j) ⌝ }
 {
-    if log[1 + 11 * j] != 3 {
+    if records::kind_at(log, j) != COMMIT {
         return false;
     }
-    le::read_u32(log, place_of(log, j)) == t
+    le::read_u32(records::body_at(log, j), 0) == t
 }
 
 // Whether record j says that a card is synced as of transaction t or a higher one.
@@ -43,11 +40,11 @@ fn is_synced(log: &[u8], card: u16, t: u32, j: usize) -> bool
     requires { ⌜ (goodLog (now log) ≡ true) × (j < recordCount (now log)) ⌝ }
     ensures { λ r. ⌜ r ≡ syncsFrom card t (recordAt (now (log .entry)) j) ⌝ }
 {
-    if log[1 + 11 * j] != 4 {
+    if records::kind_at(log, j) != SYNCED {
         return false;
     }
-    let at = place_of(log, j);
-    (le::read_u16(log, at) == card) & (t <= le::read_u32(log, at + 2))
+    let body = records::body_at(log, j);
+    (le::read_u16(body, 0) == card) & (t <= le::read_u32(body, 2))
 }
 
 // Whether some record commits transaction t.
@@ -55,7 +52,7 @@ fn committed(log: &[u8], t: u32) -> bool
     requires { ⌜ goodLog (now log) ≡ true ⌝ }
     ensures { λ r. ⌜ r ≡ any (commitsTo t) (records (now (log .entry))) ⌝ }
 {
-    let count = log[0] as usize;
+    let count = records::count(log);
     let mut j: usize = 0;
     while j < count {
         if is_commit(log, t, j) {
@@ -71,7 +68,7 @@ fn synced(log: &[u8], card: u16, t: u32) -> bool
     requires { ⌜ goodLog (now log) ≡ true ⌝ }
     ensures { λ r. ⌜ r ≡ any (syncsFrom card t) (records (now (log .entry))) ⌝ }
 {
-    let count = log[0] as usize;
+    let count = records::count(log);
     let mut j: usize = 0;
     while j < count {
         if is_synced(log, card, t, j) {
@@ -87,10 +84,10 @@ pub fn is_due(log: &[u8], i: usize, last: u32) -> bool
     requires { ⌜ (goodLog (now log) ≡ true) × (i < recordCount (now log)) × (last ≡ lastBegun (recordAt (now log)) i) ⌝ }
     ensures { λ r. ⌜ r ≡ due (records (now (log .entry))) i ⌝ }
 {
-    if log[1 + 11 * i] != 2 {
+    if records::kind_at(log, i) != UPDATE {
         return false;
     }
-    let card = le::read_u16(log, place_of(log, i));
+    let card = le::read_u16(records::body_at(log, i), 0);
     committed(log, last) & !synced(log, card, last)
 }
 
@@ -111,17 +108,7 @@ fn entry_for(image: &[u8], k: u16) -> Entry
     ensures { λ r. ⌜ r ≡ entryFor (now (image .entry)) k ⌝ }
 {
     if image::inner::read::count(image) <= k {
-        return Entry {
-            pair: Pair { s: 0, x: 0 },
-            mark: Mark {
-                desk: 0,
-                transaction: 0,
-            },
-            edition: 0,
-            from: 0,
-            original: 0,
-            translation: 0,
-        };
+        return guard::NO_ENTRY;
     }
     image::inner::read::entry_at(formats::V1, image, k, 0)
 }
@@ -153,14 +140,13 @@ fn write_of(pair: Pair, e: Entry, body: &[u8]) -> Command
 {
     let mark = e.mark;
     let size = body.len() - 3;
-    let none = Pair { s: 0, x: 0 };
     Command {
         act: act_of(body[2]),
         mode: stamps::EXCLUSIVE,
         language: 0,
         card: le::read_u16(body, 0),
         pair: pair,
-        opened: none,
+        opened: NO_PAIR,
         expected: mark,
         next: mark,
         edition: edition_of(body[2], e.edition),
@@ -223,15 +209,5 @@ pub fn step<'a>(
     if !is_due(log, i, last) {
         return 0;
     }
-    let at = place_of(log, i);
-    let end = at + (le::read_u16(log, 1 + 11 * i + 5) as usize);
-    apply(image, ok, &log[at..end], s, x)
-}
-
-// The last transaction begun after record i.
-pub fn last_at(log: &[u8], i: usize, last: u32) -> u32
-    requires { ⌜ (goodLog (now log) ≡ true) × (i < recordCount (now log)) × (last ≡ lastBegun (recordAt (now log)) i) ⌝ }
-    ensures { λ r. ⌜ r ≡ lastBegun (recordAt (now (log .entry))) (i + 1) ⌝ }
-{
-    redo_log::inner::reading::last_after(log, i, place_of(log, i), last)
+    apply(image, ok, records::body_at(log, i), s, x)
 }

@@ -3,7 +3,7 @@ pub mod inner;
 
 ghost use mathlib.Core.Path.{_≡_};
 ghost use Rattle.redo_recovery_model.specs.Recovery.{recovered};
-ghost use Rattle.redo_recovery.specs.Step.{pairsOf, recoveryAnswer};
+ghost use Rattle.redo_recovery.specs.Recover.{pairsOf, recoveryAnswer};
 
 // A number, and the line of the record whose write was refused; line 0 where none was.
 pub struct Recovered {
@@ -23,7 +23,7 @@ pub fn recover<'a>(log: &[u8], image: &mut [u8], s: &'a [u64], x: &'a [u64]) -> 
         };
     }
     let ok = image::sound(formats::V1, image);
-    let count = log[0] as usize;
+    let count = redo_log::inner::records::count(log);
     let mut last: u32 = 0;
     let mut i: usize = 0;
     while i < count {
@@ -34,7 +34,7 @@ pub fn recover<'a>(log: &[u8], image: &mut [u8], s: &'a [u64], x: &'a [u64]) -> 
                 line: i as u8,
             };
         }
-        last = inner::last_at(log, i, last);
+        last = redo_log::inner::records::last_at(log, i, last);
         i += 1;
     }
     Recovered { number: 0, line: 0 }

@@ -66,7 +66,10 @@ unfolding recovered goodLog
 bad-log = refl
 
 pub recovery-cases : RecoveryCases
-unfolding imageAfter due recoverySent recoveryStep recovering recovered allStores stored puts lineBytes stores appended shaped lastBegun opened follows total startAt recordAt recordOk goodLog records serve serveBy stepped sound headerSound cardSound translationSound tailZero decode cardAt entryAt readEntry encode bodies pad entryBytes header shapeOk fresh replied raise entrySound commandBytes formed payload fieldsOf wellFormed all allFrom le toLe part splice tabulate concatMap every zeros
+unfolding imageAfter due recoverySent recoveryStep recovering recovered allStores stored puts lineBytes stores appended shaped lastBegun opened
+    follows total startAt recordAt recordOk goodLog records serve serveBy stepped sound headerSound cardSound translationSound tailZero decode cardAt
+    entryAt readEntry encode bodies pad entryBytes header shapeOk fresh replied raise entrySound commandBytes formed payload fieldsOf wellFormed all
+    allFrom le toLe part splice tabulate concatMap every zeros
 recovery-cases =
     let runs : cutRuns (allStores (emptyLog 64) twoTransactions) ≡ (0, ([], 0)) ∷ (0, (text205, 0)) ∷ (0, (text205, 0)) ∷ (0, (text401, 0)) ∷ [] = refl in
     let later = tail-eq-of-cons-eq (tail-eq-of-cons-eq runs) in

@@ -17,7 +17,9 @@ use Rattle.redo_recovery_model.specs.Recovery.{due, recoverySent, recove
 use Rattle.redo_recovery_model.specs.Edges.{RecoveryEdges}
 
 pub recovery-edges : RecoveryEdges
-unfolding due recoverySent recoveryStep recovering lastBegun serve serveBy stepped sound headerSound cardSound translationSound tailZero decode cardAt entryAt readEntry encode bodies pad entryBytes header shapeOk fresh replied raise entrySound commandBytes formed payload fieldsOf wellFormed all allFrom le toLe part splice tabulate concatMap every zeros
+unfolding due recoverySent recoveryStep recovering lastBegun serve serveBy stepped sound headerSound cardSound translationSound tailZero decode cardAt
+    entryAt readEntry encode bodies pad entryBytes header shapeOk fresh replied raise entrySound commandBytes formed payload fieldsOf wellFormed all
+    allFrom le toLe part splice tabulate concatMap every zeros
 recovery-edges =
     record {
       own-pair = refl;

@@ -211,8 +211,11 @@ module _ (pairs : Pairs) (rs : List LogRecord) (cs : Cards) (gc : GoodCards V1 c
             ∙ sym (rw (idle .why (before-zero i z)))
         go (inr s) =
             ap (λ (m : Cards). text l (getD (m .cards) k (noCard V1))) (cards-next i h s)
-            ∙ text-after (at i) (S pairs rs (encode V1 cs) i) (writeOf pairs (R pairs rs (encode V1 cs) i .image) (r i h)) (recordText (r i h)) (fields-here i h) (payload-here i h) (number-here i h s ∙ z) l k
-            ∙ ap (λ (m : List ℕ). cond (eqb (recordCard (r i h)) k) m old) (step-text (getD (at i .cards) k (noCard V1)) (recoveryPair pairs (recordCard (r i h))) (entryFor (R pairs rs (encode V1 cs) i .image) (recordCard (r i h))) (r i h) l (counted (at i) (cards-good i (upto i h)) k))
+            ∙ text-after (at i) (S pairs rs (encode V1 cs) i) (writeOf pairs (R pairs rs (encode V1 cs) i .image) (r i h)) (recordText (r i h))
+            (fields-here i h) (payload-here i h) (number-here i h s ∙ z) l k
+            ∙ ap (λ (m : List ℕ). cond (eqb (recordCard (r i h)) k) m old)
+            (step-text (getD (at i .cards) k (noCard V1)) (recoveryPair pairs (recordCard (r i h)))
+            (entryFor (R pairs rs (encode V1 cs) i .image) (recordCard (r i h))) (r i h) l (counted (at i) (cards-good i (upto i h)) k))
             ∙ mixed (eqb (recordCard (r i h)) k) (sideIs l (recordSide (r i h)))
             ∙ sym (ap (λ (d : Bool). cond (d && (eqb (recordCard (r i h)) k && sideIs l (recordSide (r i h)))) (recordText (r i h)) old) (s .is-due))
 

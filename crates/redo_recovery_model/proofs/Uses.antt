@@ -93,11 +93,17 @@ mixed = demand3-mixed 2 16 shape (oneRecovery pairs1 [] ∷ []) ((fits1, bytes-b
 -- ---- a second run under other pairs (rule 11.21)
 
 once : NoneRefused blankImage (recovered pairs1 after blankImage)
-unfolding traceFrom imageAfter due recoverySent recoveryStep recovering recovered appendedAll stored puts lineBytes stores appended shaped lastBegun opened follows total startAt recordAt recordOk goodLog records serve serveBy stepped sound headerSound cardSound translationSound tailZero decode cardAt entryAt readEntry encode bodies pad entryBytes header shapeOk fresh replied raise entrySound commandBytes formed payload fieldsOf wellFormed all allFrom le toLe part splice tabulate concatMap every zeros
+unfolding traceFrom imageAfter due recoverySent recoveryStep recovering recovered appendedAll stored puts lineBytes stores appended shaped lastBegun
+    opened follows total startAt recordAt recordOk goodLog records serve serveBy stepped sound headerSound cardSound translationSound tailZero decode
+    cardAt entryAt readEntry encode bodies pad entryBytes header shapeOk fresh replied raise entrySound commandBytes formed payload fieldsOf
+    wellFormed all allFrom le toLe part splice tabulate concatMap every zeros
 once = (refl, tt)
 
 again : NoneRefused (recovered pairs1 after blankImage .image) (recovered pairs2 after (recovered pairs1 after blankImage .image))
-unfolding traceFrom imageAfter due recoverySent recoveryStep recovering recovered appendedAll stored puts lineBytes stores appended shaped lastBegun opened follows total startAt recordAt recordOk goodLog records serve serveBy stepped sound headerSound cardSound translationSound tailZero decode cardAt entryAt readEntry encode bodies pad entryBytes header shapeOk fresh replied raise entrySound commandBytes formed payload fieldsOf wellFormed all allFrom le toLe part splice tabulate concatMap every zeros
+unfolding traceFrom imageAfter due recoverySent recoveryStep recovering recovered appendedAll stored puts lineBytes stores appended shaped lastBegun
+    opened follows total startAt recordAt recordOk goodLog records serve serveBy stepped sound headerSound cardSound translationSound tailZero decode
+    cardAt entryAt readEntry encode bodies pad entryBytes header shapeOk fresh replied raise entrySound commandBytes formed payload fieldsOf
+    wellFormed all allFrom le toLe part splice tabulate concatMap every zeros
 again = (refl, tt)
 
 same-text : textIn (recovered pairs2 after (recovered pairs1 after blankImage .image) .image) original 0 ≡ textIn (recovered pairs1 after blankImage .image) original 0
@@ -127,8 +133,12 @@ cut15-recovers : recovered pairs1 (appended 15 before (beginOf 1)) blankImage �
 cut15-recovers = cut-recovers 15 before (beginOf 1) cut15 pairs1 blankImage
 
 cut49 : recovered pairs1 (cutAfter 49 before three) blankImage .number ≡ 0
-unfolding due recoverySent recoveryStep recovering recovered allStores appendedAll stored puts lineBytes stores appended shaped lastBegun opened follows total startAt recordAt recordOk goodLog records serve serveBy stepped sound headerSound cardSound translationSound tailZero decode cardAt entryAt readEntry encode bodies pad entryBytes header shapeOk fresh replied raise entrySound commandBytes formed payload fieldsOf wellFormed all allFrom le toLe part splice tabulate concatMap every zeros
+unfolding due recoverySent recoveryStep recovering recovered allStores appendedAll stored puts lineBytes stores appended shaped lastBegun opened
+    follows total startAt recordAt recordOk goodLog records serve serveBy stepped sound headerSound cardSound translationSound tailZero decode cardAt
+    entryAt readEntry encode bodies pad entryBytes header shapeOk fresh replied raise entrySound commandBytes formed payload fieldsOf wellFormed all
+    allFrom le toLe part splice tabulate concatMap every zeros
 cut49 = refl
 
-cut49-text : textIn (recovered pairs1 (cutAfter 49 before three) blankImage .image) original 0 ≡ textOf (records before ++ wholly 49 (admittedOf before three)) original 0 (textIn blankImage original 0)
+cut49-text : textIn (recovered pairs1 (cutAfter 49 before three) blankImage .image) original 0 ≡ textOf
+    (records before ++ wholly 49 (admittedOf before three)) original 0 (textIn blankImage original 0)
 cut49-text = cut-anywhere 49 before three before-good pairs1 blankImage fits1 before-bytes three-bytes blank-bytes cut49 original 0

@@ -10,11 +10,20 @@ pub struct Pair {
     pub x: u64,
 }
 
+// The pair of two stamps that are none.
+pub const NO_PAIR: Pair = Pair { s: 0, x: 0 };
+
 // A commit mark (Minuet: a commit session identifier). Both zero means none.
 pub struct Mark {
     pub desk: u16,
     pub transaction: u32,
 }
+
+// The mark of a card that bears none.
+pub const NO_MARK: Mark = Mark {
+    desk: 0,
+    transaction: 0,
+};
 
 // The modes.
 pub const SHARED: u8 = 1;

@@ -140,7 +140,8 @@ module _ (f : Format) where
         ∙ ap
         (λ (card : Card). first (judgeRows (view (fieldsOf f command .language) card) (fieldsOf f command) (roomOf image) (length reply)))
         (card-decode f image (fieldsOf f command .card) g))
-        ∙ by-judged (cardAt f image (fieldsOf f command .card)) (card-decode f image (fieldsOf f command .card) g) refl (sym (view-at f image (to-T e) (fieldsOf f command .card) g (fieldsOf f command .language) (language-within f command u)))
+        ∙ by-judged (cardAt f image (fieldsOf f command .card)) (card-decode f image (fieldsOf f command .card) g) refl
+        (sym (view-at f image (to-T e) (fieldsOf f command .card) g (fieldsOf f command .language) (language-within f command u)))
 
     -- The same for a command and a payload that were found in the lent bytes.
     pub serve-found : {c : Command} {text : List ℕ} →

@@ -19,7 +19,8 @@ use Rattle.store_model.specs.Cases.{run, RunTraced, Trials, BytesOf2}
 use Rattle.store_model.specs.Words.{Sent, eventOf, imageAfter, traceFrom}
 
 pub trials-hold : Trials
-unfolding run serve serveBy stepped sound headerSound cardSound translationSound tailZero decode cardAt entryAt readEntry encode bodies pad entryBytes header shapeOk fresh replied raise entrySound commandBytes formed payload fieldsOf wellFormed all allFrom le toLe part splice tabulate concatMap every zeros
+unfolding run serve serveBy stepped sound headerSound cardSound translationSound tailZero decode cardAt entryAt readEntry encode bodies pad entryBytes
+    header shapeOk fresh replied raise entrySound commandBytes formed payload fieldsOf wellFormed all allFrom le toLe part splice tabulate concatMap every zeros
 trials-hold = refl
 
 pub bytes-of-2 : BytesOf2

@@ -19,7 +19,28 @@ use Rattle.guard.specs.Replies.{replied}
 use Rattle.formats.specs.Format.{V1, V2}
 use Rattle.image.specs.Layout.{shapeOk, sizeOf, mostCards, leastRoom, mostRoom, roomStep, mostBytes}
 use Rattle.image.specs.Bytes.{header, entryBytes, pad, readEntry, entryAt}
-use Rattle.image.specs.Image.{Translation, Card, Cards, translationOf, noTranslation, noCard, text, bodies, encode, cardAt, decode, tailZero, translationSound, cardSound, headerSound, sound, fresh, freshCards, makes, GoodCards}
+use Rattle.image.specs.Image.{
+  Translation,
+  Card,
+  Cards,
+  translationOf,
+  noTranslation,
+  noCard,
+  text,
+  bodies,
+  encode,
+  cardAt,
+  decode,
+  tailZero,
+  translationSound,
+  cardSound,
+  headerSound,
+  sound,
+  fresh,
+  freshCards,
+  makes,
+  GoodCards,
+}
 use Rattle.image.specs.Convert.{widened, widenedCards, converted, convertNumber}
 use Rattle.image.proofs.Shape.{shape}
 use Rattle.image.proofs.Making.{made}
@@ -167,5 +188,7 @@ demand3-across n c ok sent more b m =
 -- ---- the story, by computation
 
 pub story-across : StoryAcross
-unfolding converted imageBefore imageAfter run serve serveBy stepped sound headerSound cardSound translationSound tailZero decode cardAt entryAt readEntry encode bodies pad entryBytes header shapeOk fresh replied raise entrySound commandBytes formed payload fieldsOf wellFormed all allFrom le toLe part splice tabulate concatMap every zeros
+unfolding converted imageBefore imageAfter run serve serveBy stepped sound headerSound cardSound translationSound tailZero decode cardAt entryAt
+    readEntry encode bodies pad entryBytes header shapeOk fresh replied raise entrySound commandBytes formed payload fieldsOf wellFormed all allFrom
+    le toLe part splice tabulate concatMap every zeros
 story-across = refl

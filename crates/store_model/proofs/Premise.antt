@@ -24,7 +24,9 @@ abbrev event : Sent → Event
 event s = record { sent = s; read = received V1 s; answer = got 0 stamp1 stamp1 0 0 0 0 0 [] .answer; reply = [] }
 
 intruded : Intruded (traceOf V1 1 16 sentD)
-unfolding traceOf traceFrom imageAfter serve serveBy stepped sound headerSound cardSound translationSound tailZero decode cardAt entryAt readEntry encode bodies pad entryBytes header shapeOk fresh replied raise entrySound commandBytes formed payload fieldsOf wellFormed all allFrom le toLe part splice tabulate concatMap every zeros
+unfolding traceOf traceFrom imageAfter serve serveBy stepped sound headerSound cardSound translationSound tailZero decode cardAt entryAt readEntry
+    encode bodies pad entryBytes header shapeOk fresh replied raise entrySound commandBytes formed payload fieldsOf wellFormed all allFrom le toLe
+    part splice tabulate concatMap every zeros
 intruded =
     record {
       a = event (verify exclusive stamp1 stamp1);
@@ -38,7 +40,9 @@ intruded =
     }
 
 hidden : Intruded (traceOf V1 1 16 sentHidden)
-unfolding traceOf traceFrom imageAfter serve serveBy stepped sound headerSound cardSound translationSound tailZero decode cardAt entryAt readEntry encode bodies pad entryBytes header shapeOk fresh replied raise entrySound commandBytes formed payload fieldsOf wellFormed all allFrom le toLe part splice tabulate concatMap every zeros
+unfolding traceOf traceFrom imageAfter serve serveBy stepped sound headerSound cardSound translationSound tailZero decode cardAt entryAt readEntry
+    encode bodies pad entryBytes header shapeOk fresh replied raise entrySound commandBytes formed payload fieldsOf wellFormed all allFrom le toLe
+    part splice tabulate concatMap every zeros
 hidden =
     record {
       a = event (verify exclusive stamp1 stamp1);

@@ -112,7 +112,8 @@ module _ (l : List ℕ) (at : ℕ) where
         let here : drop at l ≡ stepBytes (words w) ++ drop (at + length (stepBytes (words w))) l = stands .here in
         (cc, omega (arith, long-enough (stepBytes (words w)) (drop (at + length (stepBytes (words w))) l) (stands .here) (omega arith)))
 
-    pub drop-here : (u : Scale) (t : ℕ) → StepThere l at n (temperature u t) → (getD l (at + 1) 0 ≡ unitByte u) × (field (at + 2) 2 l ≡ t) × (at + 4 ≤ length l) × (length (stepBytes (temperature u t)) ≡ 4)
+    pub drop-here : (u : Scale) (t : ℕ) → StepThere l at n (temperature u t) → (getD l (at + 1) 0 ≡ unitByte u) × (field (at + 2) 2 l ≡ t) ×
+        (at + 4 ≤ length l) × (length (stepBytes (temperature u t)) ≡ 4)
     unfolding stepBytes StepWithin part
     drop-here u t stands =
         let next = at + length (stepBytes (temperature u t)) in

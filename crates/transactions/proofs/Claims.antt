@@ -23,7 +23,31 @@ use Rattle.redo_log.specs.Log.{LogRecord, bodiesFrom, mostLog, commitKind, reco
 use Rattle.redo_log.specs.Append.{appendNumber}
 use Rattle.redo_recovery_model.specs.Claims.{textIn, rewritten, textOf}
 use Rattle.redo_recovery_model.proofs.Texts.{recovered-texts}
-use Rattle.transactions.specs.System.{OneDesk, Order, noOrder, Step, other, order, arrive, append, crash, recover, renew, oneDeskOpening, commandIn, markIn, writtenOut, withUpdates, lawful, outcome, meantAfter, meantLogged, afterStep, afterSteps, lawfulAll}
+use Rattle.transactions.specs.System.{
+  OneDesk,
+  Order,
+  noOrder,
+  Step,
+  other,
+  order,
+  arrive,
+  append,
+  crash,
+  recover,
+  renew,
+  oneDeskOpening,
+  commandIn,
+  markIn,
+  writtenOut,
+  withUpdates,
+  lawful,
+  outcome,
+  meantAfter,
+  meantLogged,
+  afterStep,
+  afterSteps,
+  lawfulAll,
+}
 use Rattle.transactions.specs.Claims.{StepBytes, AllSteps, FreshClean, ZerosBlank, Moment, Refines, RecoversMeant, CommitsAtOnce, MeantOnlyThen, ShowsAll, ReadsMeant, OrdersOnce, NeverHalf}
 use Rattle.transactions.proofs.Records.{Ordered, ordered-none}
 use Rattle.transactions.proofs.Due.{rewritten-none}
@@ -32,7 +56,7 @@ use Rattle.transactions.proofs.Kept.{bears, cardFor, relies, Safe, Kept
 use Rattle.transactions.proofs.Requests.{no-writes, outcome-is, number-now, image-now, good-now, kept-other, kept-crash}
 use Rattle.transactions.proofs.Orders.{out-clear, kept-order}
 use Rattle.transactions.proofs.Arrivals.{all-stale, kept-arrive}
-use Rattle.transactions.proofs.Traced.{kept-append}
+use Rattle.transactions.proofs.Logged.{kept-append}
 use Rattle.transactions.proofs.Rewriting.{kept-recover}
 use Rattle.transactions.proofs.Renewing.{kept-renew}
 

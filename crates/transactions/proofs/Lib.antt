@@ -5,7 +5,7 @@ pub mod Kept
 pub mod Requests
 pub mod Orders
 pub mod Arrivals
-pub mod Traced
+pub mod Logged
 pub mod Rewriting
 pub mod Renewing
 pub mod Claims

@@ -24,7 +24,27 @@ use Rattle.store_model.proofs.Machine.{numberOn}
 use Rattle.store_model.proofs.Simulation.{good-more, same-image}
 use Rattle.redo_log.specs.Log.{LogRecord, records}
 use Rattle.redo_recovery_model.specs.Claims.{rewritten}
-use Rattle.transactions.specs.System.{OneDesk, Order, Shown, Holding, unknown, held, free, other, crash, commandIn, expects, leaves, prepares, lawful, outcome, meantAfter, heardOf, noting, afterStep}
+use Rattle.transactions.specs.System.{
+  OneDesk,
+  Order,
+  Shown,
+  Holding,
+  unknown,
+  held,
+  free,
+  other,
+  crash,
+  commandIn,
+  expects,
+  leaves,
+  prepares,
+  lawful,
+  outcome,
+  meantAfter,
+  heardOf,
+  noting,
+  afterStep,
+}
 use Rattle.transactions.proofs.Serving.{at, then, Taken, taken, kept, number-is, shown-x, shown-mark}
 use Rattle.transactions.proofs.Kept.{bears, Clear, Onward, Stands, cardFor, Fine, preparing, releasing, writing, Safe, Told, Knows, Kept, all-moved, stands-as}
 

@@ -93,7 +93,8 @@ module _ (cs : Cards) (s : Sent) (gc : GoodCards V1 cs) where
         record {
           wellFormed = known .wellFormed;
           fits = eqb-true (c .expected .desk) (stored .mark .desk) (and-left (eqb (c .expected .desk) (stored .mark .desk)) _ (known .judged .mark));
-          fresh = ltb-false (verifier c .x) (stored .pair .x) (or-fails (ltb (verifier c .x) (stored .pair .x)) (eqb (c .mode) exclusive && ltb (verifier c .s) (stored .pair .s)) (known .judged .fresh) .0);
+          fresh = ltb-false (verifier c .x) (stored .pair .x)
+              (or-fails (ltb (verifier c .x) (stored .pair .x)) (eqb (c .mode) exclusive && ltb (verifier c .s) (stored .pair .s)) (known .judged .fresh) .0);
           others = elsewhere;
           mark = ap (λ (k : Card). k .mark) stepped-here ∙ now-mark;
           x = ap (λ (k : Card). k .pair .x) stepped-here ∙ now-x;

@@ -21,5 +21,8 @@ use Rattle.transactions_editions.specs.Editions.{currentWith, currentBy,
 use Rattle.transactions_editions.specs.Cases.{DropsChanged}
 
 pub drops-changed : DropsChanged
-unfolding currentWith currentBy currentAlong lawfulAll afterSteps afterStep withUpdates rewritten due stored puts lineBytes stores appended shaped lastBegun opened follows total startAt recordAt recordOk goodLog records serve serveBy stepped sound headerSound cardSound translationSound tailZero decode cardAt entryAt readEntry encode bodies pad entryBytes header shapeOk fresh replied raise entrySound commandBytes formed payload fieldsOf wellFormed all allFrom le toLe part splice tabulate concatMap every zeros
+unfolding currentWith currentBy currentAlong lawfulAll afterSteps afterStep withUpdates rewritten due stored puts lineBytes stores appended shaped
+    lastBegun opened follows total startAt recordAt recordOk goodLog records serve serveBy stepped sound headerSound cardSound translationSound
+    tailZero decode cardAt entryAt readEntry encode bodies pad entryBytes header shapeOk fresh replied raise entrySound commandBytes formed payload
+    fieldsOf wellFormed all allFrom le toLe part splice tabulate concatMap every zeros
 drops-changed = record { rules = refl; reads = refl; current = refl; rules-alone = refl; reads-alone = refl; behind = refl }

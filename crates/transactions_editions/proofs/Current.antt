@@ -76,10 +76,13 @@ module _ (cs : Cards) (s : Sent) (gc : GoodCards V1 cs) (z : numberOn V1 cs s �
   edition-now = refl
 
   cur-now : cur now ≡ cond (isWrite c) (writesTranslation c) (cur stored)
-  cur-now = ap (λ (n : ℕ). not (behind n (translationOf 0 now .from))) edition-now ∙ ap (λ (n : ℕ). not (behind (cond (writes original c) (stored .edition + 1) (stored .edition)) n)) from-now ∙ go (cases (writes original c)) (cases (writesTranslation c))
+  cur-now = ap (λ (n : ℕ). not (behind n (translationOf 0 now .from))) edition-now ∙ ap
+      (λ (n : ℕ). not (behind (cond (writes original c) (stored .edition + 1) (stored .edition)) n)) from-now ∙ go (cases (writes original c))
+      (cases (writesTranslation c))
     where
       go : (writes original c ≡ true) ⊎ (writes original c ≡ false) → (writesTranslation c ≡ true) ⊎ (writesTranslation c ≡ false)
-          → not (behind (cond (writes original c) (stored .edition + 1) (stored .edition)) (cond (writesTranslation c) (c .edition) (translationOf 0 stored .from))) ≡ cond (isWrite c) (writesTranslation c) (cur stored)
+          → not (behind (cond (writes original c) (stored .edition + 1) (stored .edition))
+          (cond (writesTranslation c) (c .edition) (translationOf 0 stored .from))) ≡ cond (isWrite c) (writesTranslation c) (cur stored)
       go (inl p) (inl q) = absurd (omega (arith, eqb-true (c .act) 3 p, eqb-true (c .act) 4 q))
       go (inl p) (inr q) =
           let newer : eqb (translationOf 0 stored .from) (stored .edition + 1) ≡ false = ne-eqb (translationOf 0 stored .from) (stored .edition + 1) (λ w. omega (arith, source)) in

@@ -89,7 +89,8 @@ module _ (pairs : Pairs) (rs : List LogRecord) (cs : Cards) (gc : GoodCards V1 c
 
 -- ---- the step
 
-module _ (d : ℕ) (y : OneDesk) (k : Kept d y) (c : ℕ → Bool) (w : Turned d (records (y .log)) (y .orders) (y .shown) c (k .cs)) (pairs : Pairs) (lines : ℕ) (fp : FitsPairs pairs) (h : lawful d y (recover pairs lines) ≡ true) where
+module _ (d : ℕ) (y : OneDesk) (k : Kept d y) (c : ℕ → Bool) (w : Turned d (records (y .log)) (y .orders) (y .shown) c (k .cs)) (pairs : Pairs)
+    (lines : ℕ) (fp : FitsPairs pairs) (h : lawful d y (recover pairs lines) ≡ true) where
   abbrev lrs : List LogRecord
   lrs = records (y .log)
 
@@ -151,7 +152,8 @@ module _ (d : ℕ) (y : OneDesk) (k : Kept d y) (c : ℕ → Bool) (w : Turned d
     tells-lines (suc i) = go (due lrs i) (tells-lines i)
       where
         go : (b : Bool) → AllTell (shownBy pairs lrs lines i (y .shown))
-            → AllTell (cond b (record { card = recordCard (recordIn lrs i); x = recoveryPair pairs (recordCard (recordIn lrs i)) .x; reach = lines } ∷ shownBy pairs lrs lines i (y .shown)) (shownBy pairs lrs lines i (y .shown)))
+            → AllTell (cond b (record { card = recordCard (recordIn lrs i); x = recoveryPair pairs (recordCard (recordIn lrs i)) .x; reach = lines }
+            ∷ shownBy pairs lrs lines i (y .shown)) (shownBy pairs lrs lines i (y .shown)))
         go true rest = (tells-line (recordCard (recordIn lrs i)) (recoveryPair pairs (recordCard (recordIn lrs i)) .x), rest)
         go false rest = rest
 

@@ -23,9 +23,15 @@ use Rattle.transactions_progress.specs.Holders.{afterActing, afterActing
 use Rattle.transactions_progress.specs.Cases.{FinishCases, HandoverCases}
 
 pub finish-cases : FinishCases
-unfolding originalsDue appendedAll recovered recovering recoveryStep recoverySent due stored puts lineBytes stores appended shaped lastBegun opened follows total startAt recordAt recordOk goodLog records serve serveBy stepped sound headerSound cardSound translationSound tailZero decode cardAt entryAt readEntry encode bodies pad entryBytes header shapeOk fresh replied raise entrySound commandBytes formed payload fieldsOf wellFormed all allFrom le toLe part splice tabulate concatMap every zeros
+unfolding originalsDue appendedAll recovered recovering recoveryStep recoverySent due stored puts lineBytes stores appended shaped lastBegun opened
+    follows total startAt recordAt recordOk goodLog records serve serveBy stepped sound headerSound cardSound translationSound tailZero decode cardAt
+    entryAt readEntry encode bodies pad entryBytes header shapeOk fresh replied raise entrySound commandBytes formed payload fieldsOf wellFormed all
+    allFrom le toLe part splice tabulate concatMap every zeros
 finish-cases = record { room = refl; cards = refl; sides = refl; editions = refl; pairs = refl }
 
 pub handover-cases : HandoverCases
-unfolding lawfulActings afterActings afterActing afterStep withUpdates rewritten due stored puts lineBytes stores appended shaped lastBegun opened follows total startAt recordAt recordOk goodLog records serve serveBy stepped sound headerSound cardSound translationSound tailZero decode cardAt entryAt readEntry encode bodies pad entryBytes header shapeOk fresh replied raise entrySound commandBytes formed payload fieldsOf wellFormed all allFrom le toLe part splice tabulate concatMap every zeros
+unfolding lawfulActings afterActings afterActing afterStep withUpdates rewritten due stored puts lineBytes stores appended shaped lastBegun opened
+    follows total startAt recordAt recordOk goodLog records serve serveBy stepped sound headerSound cardSound translationSound tailZero decode cardAt
+    entryAt readEntry encode bodies pad entryBytes header shapeOk fresh replied raise entrySound commandBytes formed payload fieldsOf wellFormed all
+    allFrom le toLe part splice tabulate concatMap every zeros
 handover-cases = record { rules = refl; minded = refl; former = refl; new = refl }

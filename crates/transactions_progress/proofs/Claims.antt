@@ -329,7 +329,13 @@ one-step-finishes d y pairs m fp h can may j l =
         go : (n : ℕ) → n < length (records (y .log)) → (dueFor (records (y .log)) i n ≡ true) ⊎ (dueFor (records (y .log)) i n ≡ false) → (ltb n 0 || not (dueFor (records (y .log)) i n)) ≡ true
         go n q (inr f) = or-right (ltb n 0) (ap not f)
         go n q (inl f) =
-            let here : recordCard (recordIn (records (y .log)) n) ≡ i = eqb-true (recordCard (recordIn (records (y .log)) n)) i (and-right (due (records (y .log)) n) (eqb (recordCard (recordIn (records (y .log)) n)) i) f) in
-            let one = every-out (rewritable d (y .image) (records (y .log)) pairs) (length (records (y .log))) (and-right (leb (length (records (y .log))) (length (records (y .log)))) (every (rewritable d (y .image) (records (y .log)) pairs) (length (records (y .log)))) h) n q in
-            let bearing = and-left (eqb (markIn (y .image) (recordCard (recordIn (records (y .log)) n)) .desk) d) (ltb (storedX (y .image) (recordCard (recordIn (records (y .log)) n))) (recoveryPair pairs (recordCard (recordIn (records (y .log)) n)) .x)) (if-due (due (records (y .log)) n) (and-left (due (records (y .log)) n) (eqb (recordCard (recordIn (records (y .log)) n)) i) f) one) in
+            let here : recordCard (recordIn (records (y .log)) n) ≡ i = eqb-true (recordCard (recordIn (records (y .log)) n)) i
+            (and-right (due (records (y .log)) n) (eqb (recordCard (recordIn (records (y .log)) n)) i) f) in
+            let one = every-out (rewritable d (y .image) (records (y .log)) pairs) (length (records (y .log)))
+            (and-right (leb (length (records (y .log))) (length (records (y .log))))
+            (every (rewritable d (y .image) (records (y .log)) pairs) (length (records (y .log)))) h) n q in
+            let bearing = and-left (eqb (markIn (y .image) (recordCard (recordIn (records (y .log)) n)) .desk) d)
+            (ltb (storedX (y .image) (recordCard (recordIn (records (y .log)) n)))
+            (recoveryPair pairs (recordCard (recordIn (records (y .log)) n)) .x))
+            (if-due (due (records (y .log)) n) (and-left (due (records (y .log)) n) (eqb (recordCard (recordIn (records (y .log)) n)) i) f) one) in
             absurd (never-both (subst (λ (m : ℕ). eqb (markIn (y .image) m .desk) d ≡ true) here bearing) e)

@@ -51,7 +51,11 @@ unfolding shapeOk all allFrom
 shape-one = tt
 
 pub dealt-by-both : Dealt
-unfolding movesIn stepsIn sendsAlong byRules systemAfter stepTo learnt nextT pairFor proposed lawfulDeskSteps afterDeskSteps afterDeskStep afterStep withUpdates shownBy rewritten due recovering recoveryStep recoverySent stored puts lineBytes stores appended shaped lastBegun opened follows total startAt recordAt recordOk goodLog records serve serveBy stepped sound headerSound cardSound translationSound tailZero decode cardAt entryAt readEntry encode bodies pad entryBytes header shapeOk fresh replied raise entrySound commandBytes formed payload fieldsOf wellFormed all allFrom le toLe part splice tabulate concatMap every zeros
+unfolding movesIn stepsIn sendsAlong byRules systemAfter stepTo learnt nextT pairFor proposed lawfulDeskSteps afterDeskSteps afterDeskStep afterStep
+    withUpdates shownBy rewritten due recovering recoveryStep recoverySent stored puts lineBytes stores appended shaped lastBegun opened follows total
+    startAt recordAt recordOk goodLog records serve serveBy stepped sound headerSound cardSound translationSound tailZero decode cardAt entryAt
+    readEntry encode bodies pad entryBytes header shapeOk fresh replied raise entrySound commandBytes formed payload fieldsOf wellFormed all allFrom
+    le toLe part splice tabulate concatMap every zeros
 dealt-by-both =
     record {
       rules =

@@ -30,12 +30,50 @@ use Rattle.redo_recovery_model.proofs.Sending.{fits-log, all-bytes, after-appen
 use Rattle.desk_proposals.specs.declared.Known.{Known}
 use Rattle.desk_proposals.specs.Propose.{learnt, proposed}
 use Rattle.desk_proposal_claims.proofs.Claims.{passes-learnt}
-use Rattle.desk_system.specs.System.{System, Made, Move, begin, propose, atQueue, lose, send, recover as recoverBy, convert, learn, opening, samePair, isMade, sendsMade, withMade, knows, nowKnows, stepTo, systemAfter, Fits, AllFit}
+use Rattle.desk_system.specs.System.{
+  System,
+  Made,
+  Move,
+  begin,
+  propose,
+  atQueue,
+  lose,
+  send,
+  recoverWith,
+  convert,
+  learn,
+  opening,
+  samePair,
+  isMade,
+  sendsMade,
+  withMade,
+  knows,
+  nowKnows,
+  stepTo,
+  systemAfter,
+  Fits,
+  AllFit,
+}
 use Rattle.desk_system.specs.Claims.{ByRules}
 use Rattle.desk_system.proofs.Claims.{made-run, premise-kept}
 use Rattle.transactions.specs.Claims.{StepBytes}
 use Rattle.transactions.specs.System.{Order, Step, rewritable, other, order, arrive, append, crash, recover, renew, noOrder, commandIn, lawful, afterStep}
-use Rattle.transactions.specs.Desks.{Desks, DeskStep, outside, own, ownStep, seenBy, desksOpening, lawfulDeskStep, afterDeskStep, afterDeskSteps, lawfulDeskSteps, DeskStepBytes, AllDeskSteps, DesksMoment}
+use Rattle.transactions.specs.Desks.{
+  Desks,
+  DeskStep,
+  outside,
+  own,
+  ownStep,
+  seenBy,
+  desksOpening,
+  lawfulDeskStep,
+  afterDeskStep,
+  afterDeskSteps,
+  lawfulDeskSteps,
+  DeskStepBytes,
+  AllDeskSteps,
+  DesksMoment,
+}
 use Rattle.transactions.proofs.Serving.{at}
 use Rattle.transactions.proofs.Kept.{cardFor, Safe, all-at}
 use Rattle.transactions.proofs.Claims.{fresh-clean}
@@ -54,7 +92,7 @@ fit-each (s ∷ l) b = (b .0, fit-each l (b .1))
 
 fit-none : (m : Move) → sendsNone m ≡ true → Fits m
 fit-none (send s) e = absurd (never-both refl (sym e))
-fit-none (recoverBy pairs log) e = absurd (never-both refl (sym e))
+fit-none (recoverWith pairs log) e = absurd (never-both refl (sym e))
 fit-none (convert lent) e = absurd (never-both refl (sym e))
 fit-none (begin who) e = tt
 fit-none (propose who card mode) e = tt
@@ -94,7 +132,7 @@ has-each (s ∷ l) image y h =
 has-none : (image : List ℕ) (y : System) (m : Move) → sendsNone m ≡ true → Has image y → Has image (stepTo y m)
 unfolding stepTo
 has-none image y (send s) e h = absurd (never-both refl (sym e))
-has-none image y (recoverBy pairs log) e h = absurd (never-both refl (sym e))
+has-none image y (recoverWith pairs log) e h = absurd (never-both refl (sym e))
 has-none image y (convert lent) e h = absurd (never-both refl (sym e))
 has-none image y (begin who) e h = record { version = h .version; bytes = h .bytes }
 has-none image y (propose who card mode) e h = go (proposed (knows y who card) mode .number)
@@ -125,7 +163,8 @@ module _ (ruled : ℕ → Bool) (z : Desks) (j : Joint ruled z) where
 
   order-bytes : (d i : ℕ) → ruled d ≡ true → lawful d (seenBy d z) (arrive i) ≡ true → SentBytes (getD (z .part d .orders) i noOrder .sent)
   order-bytes d i r h =
-      all-at (λ (o : Order). Safe d (traceOf d) (cardFor o) (at (decode V1 (z .image)) (cardFor o)) o) (z .part d .orders) i noOrder (ltb-true i (length (z .part d .orders)) h) (j .side d r .sent) .bytes
+      all-at (λ (o : Order). Safe d (traceOf d) (cardFor o) (at (decode V1 (z .image)) (cardFor o)) o) (z .part d .orders) i noOrder
+      (ltb-true i (length (z .part d .orders)) h) (j .side d r .sent) .bytes
 
   fit-own : (d : ℕ) (m : Step) → ruled d ≡ true → StepBytes m → lawful d (seenBy d z) m ≡ true → AllFit (movesOf z (own d m))
   fit-own d (other s) r b h = tt
@@ -232,7 +271,12 @@ module _ (y : System) (who card : ℕ) (pair : Pair) (s : Sent) (p : Proposes y 
 
   made-now : Among new (stepTo knew (propose who card exclusive) .made)
   unfolding stepTo
-  made-now = subst (λ (k : Known). Among new (settled (proposed k exclusive .number) (withMade (record { card = card; mode = exclusive; pair = proposed k exclusive .pair }) (nowKnows who card (proposed k exclusive .known .pair) knew)) knew .made)) (sym knows-now) (subst (λ (n : ℕ). Among new (settled n (withMade new (nowKnows who card (proposed known exclusive .known .pair) knew)) knew .made)) (sym (p .number)) (among-here new (knew .made)))
+  made-now = subst (λ (k : Known). Among new
+      (settled (proposed k exclusive .number)
+      (withMade (record { card = card; mode = exclusive; pair = proposed k exclusive .pair })
+      (nowKnows who card (proposed k exclusive .known .pair) knew)) knew .made)) (sym knows-now)
+      (subst (λ (n : ℕ). Among new (settled n (withMade new (nowKnows who card (proposed known exclusive .known .pair) knew)) knew .made))
+      (sym (p .number)) (among-here new (knew .made)))
 
   is-made-by : (made : List Made) → Among new made → isMade made (commandIn s .card) (commandIn s .mode) (update (commandIn s)) ≡ true
   is-made-by made a =

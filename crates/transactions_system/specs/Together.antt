@@ -18,7 +18,7 @@ use Rattle.lock_queue.specs.declared.Waiting.{Waiting}
 use Rattle.redo_log.specs.Log.{records}
 use Rattle.redo_recovery_model.specs.Recovery.{recovering}
 use Rattle.desk_proposals.specs.Propose.{learnt, proposed}
-use Rattle.desk_system.specs.System.{System, Move, begin, propose, atQueue, lose, send, recover as recoverBy, convert, learn, opening, allowed, knows, systemAfter, byRules}
+use Rattle.desk_system.specs.System.{System, Move, begin, propose, atQueue, lose, send, recoverWith, convert, learn, opening, allowed, knows, systemAfter, byRules}
 use Rattle.desk_system.specs.Claims.{ByRules, finally}
 use Rattle.transactions.specs.System.{Shown, other, order, arrive, append, crash, recover, renew, noOrder, commandIn, opensAbove}
 use Rattle.transactions.specs.Claims.{Blank}
@@ -61,7 +61,7 @@ stepsIn (along m ∷ deals) = m ∷ stepsIn deals
 
 abbrev pub sendsNone : Move → Bool
 sendsNone (send s) = false
-sendsNone (recoverBy pairs log) = false
+sendsNone (recoverWith pairs log) = false
 sendsNone (convert lent) = false
 sendsNone (begin who) = true
 sendsNone (propose who card mode) = true

@@ -16,8 +16,7 @@ use crate::HistoryAnswer;
 use crate::MOST_KEPT;
 use crate::MOST_PAYLOAD;
 use crate::SIZE;
-use crate::Totals;
-use crate::Weighed;
+use crate::inner::kept::Totals;
 use crate::inner::kept::entry_of;
 use crate::inner::kept::text_of;
 use crate::inner::kept::totals_of;
@@ -27,6 +26,12 @@ use commands::WRITE_TRANSLATION;
 use guard::Judged;
 use numbers::ACCEPTED;
 use numbers::HISTORY_FULL;
+
+// What an entry says of a command, and the byte where the kept commands end.
+pub struct Weighed {
+    pub judged: Judged,
+    pub end: usize,
+}
 
 // Row 22: one more command with so many payload bytes would pass either limit.
 fn full(x: Totals, length: u16) -> bool

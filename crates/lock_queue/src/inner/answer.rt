@@ -8,7 +8,7 @@ use crate::Queue;
 use crate::inner::state::holds;
 use crate::inner::state::looked;
 use numbers::BAD_QUEUE;
-use stamps::Pair;
+use stamps::NO_PAIR;
 
 // The answer with this number, for the queue at entry and the queue as it now is.
 pub fn answered(number: u8, desk: u32, entry: Queue, exit: Queue) -> LockAnswer
@@ -19,7 +19,7 @@ pub fn answered(number: u8, desk: u32, entry: Queue, exit: Queue) -> LockAnswer
         return LockAnswer {
             number,
             holds: false,
-            largest: Pair { s: 0, x: 0 },
+            largest: NO_PAIR,
             looked: 0,
         };
     }

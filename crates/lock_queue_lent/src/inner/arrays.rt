@@ -1,9 +1,10 @@
 // The lock queue of one card as arrays of numbers: loaded, and an outcome stored back.
 ghost use mathlib.Core.Path.{_≡_};
 ghost use Rattle.lock_queue.specs.Queue.{state};
-ghost use Rattle.lock_queue_lent.specs.Arrays.{placesOf, modesOf, sharedOf, exclusiveOf, queueOf, keptOf, answerOf};
+ghost use Rattle.lock_queue_lent.specs.Arrays.{placesOf, modesOf, sharedOf, exclusiveOf, queueOf, keptOf, answerOf, arraysOf};
 use lock_queue::LockAnswer;
 use lock_queue::LockOutcome;
+use lock_queue::NO_WAITING;
 use lock_queue::Places;
 use lock_queue::Queue;
 use lock_queue::Waiting;
@@ -13,11 +14,9 @@ use stamps::Pair;
 pub fn places_of(modes: &[u8; 32], s: &[u64; 32], x: &[u64; 32]) -> Places
     ensures { λ r. ⌜ r .at ≡ placesOf (now (modes .entry)) (now (s .entry)) (now (x .entry)) ⌝ }
 {
-    let none = Waiting {
-        mode: 0,
-        pair: Pair { s: 0, x: 0 },
+    let mut places = Places {
+        at: [NO_WAITING; 32],
     };
-    let mut places = Places { at: [none; 32] };
     let mut i = 0;
     while i < 32 {
         places.at[i] = Waiting {
@@ -111,12 +110,8 @@ pub fn write_outcome(
     fields: &mut [u64; 4],
     outcome: LockOutcome,
 ) -> u8
-    ensures number { λ r. ⌜ r ≡ outcome .answer .number ⌝ }
-    ensures fields { λ _. ⌜ now (fields .exit) ≡ answerOf (outcome .answer) ⌝ }
-    ensures modes { λ _. ⌜ now (modes .exit) ≡ modesOf (state (outcome .queue) .places) ⌝ }
-    ensures s { λ _. ⌜ now (s .exit) ≡ sharedOf (state (outcome .queue) .places) ⌝ }
-    ensures x { λ _. ⌜ now (x .exit) ≡ exclusiveOf (state (outcome .queue) .places) ⌝ }
-    ensures kept { λ _. ⌜ now (kept .exit) ≡ keptOf (state (outcome .queue)) ⌝ }
+    ensures { λ r. ⌜ arraysOf (outcome .answer) (state (outcome .queue))
+        ≡ record { number = r; fields = now (fields .exit); modes = now (modes .exit); s = now (s .exit); x = now (x .exit); kept = now (kept .exit) } ⌝ }
 {
     store(modes, s, x, kept, outcome.queue);
     let given = outcome.answer;

@@ -9,10 +9,10 @@ use crate::Kept;
 use crate::LentOutcome;
 use lock_queue::LockOutcome;
 use lock_queue::MOST_PLACES;
+use lock_queue::NO_WAITING;
 use lock_queue::Places;
 use lock_queue::Waiting;
 use lock_queue::inner::effects::put;
-use stamps::Pair;
 
 // Whether place i is lent, and one of the 32.
 pub fn within(i: usize, lent: usize) -> bool
@@ -26,10 +26,7 @@ fn empty() -> Places
     ensures { λ r. ⌜ r .at ≡ replicate mostPlaces noWaiting ⌝ }
 {
     Places {
-        at: [Waiting {
-            mode: 0,
-            pair: Pair { s: 0, x: 0 },
-        }; 32],
+        at: [NO_WAITING; 32],
     }
 }
 

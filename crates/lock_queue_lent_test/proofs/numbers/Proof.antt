@@ -56,7 +56,8 @@ add-result c = search needs
 
 returns : tie.Need-returns
 returns c =
-    came (c .before .before .leave-then-ask .result) _ _ _ _ (c .before .before .before .crowd .ensures) (c .before .before .before .before .guest .ensures) (c .before .before .leave-then-ask .ensures)
+    came (c .before .before .leave-then-ask .result) _ _ _ _ (c .before .before .before .crowd .ensures)
+    (c .before .before .before .before .guest .ensures) (c .before .before .leave-then-ask .ensures)
 
 pub numbers-spec : {M : Type 1} → statement M
 numbers-spec =

@@ -11,13 +11,19 @@ count-requires : tie.Need-count-requires
 count-requires c κs = header-in V1 _ (c .before .pre)
 
 returns : tie.Need-returns
-returns c = entry-none (c .before .before .before .args .image .now) (c .before .before .before .args .k) (omega (arith, c .before .count .ensures))
+returns c =
+    let at3 = c .before .before .before in
+    entry-none (at3 .args .image .now) (at3 .args .k) (omega (arith, c .before .count .ensures))
 
 entry-at-requires : tie.Need-entry-at-requires
-entry-at-requires c κs = (entry-inside (c .before .before .before .args .image .now) (c .before .before .before .args .k) (c .before .before .before .pre) (omega (arith, c .before .count .ensures)), lit< tt)
+entry-at-requires c κs =
+    let at3 = c .before .before .before in
+    (entry-inside (at3 .args .image .now) (at3 .args .k) (at3 .pre) (omega (arith, c .before .count .ensures)), lit< tt)
 
 returns-2 : tie.Need-returns-2
-returns-2 c = c .entry-at .ensures ∙ entry-some (c .before .before .before .before .args .image .now) (c .before .before .before .before .args .k) (c .before .before .before .before .pre) (omega (arith, c .before .before .count .ensures))
+returns-2 c =
+    let at4 = c .before .before .before .before in
+    c .entry-at .ensures ∙ entry-some (at4 .args .image .now) (at4 .args .k) (at4 .pre) (omega (arith, c .before .before .count .ensures))
 
 pub entry-for-spec : {M : Type 1} → statement M
 entry-for-spec = tie.close (tie.spec count-requires returns entry-at-requires returns-2)

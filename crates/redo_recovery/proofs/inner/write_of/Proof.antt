@@ -1,3 +1,4 @@
+-- The numbers of the command, read within the body. Assumes nothing.
 use lib.ListN.{length-drop}
 use borrow.Author.Needs.{needs}
 use Rattle.redo_recovery.proofs.inner.write_of.Statement.{statement}

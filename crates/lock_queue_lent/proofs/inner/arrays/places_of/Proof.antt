@@ -48,8 +48,11 @@ loop-less c = omega arith
 loop-again : tie.Need-loop-again Inv-loop μ-loop
 unfolding placesOf
 loop-again c =
-    let turn = c .before .before .before .before in
-    (omega arith, filling-more noWaiting _ (turn .loop .inv .1) (rw length-tabulate (c .before .before .before .loop-test .taken)) (getD-tabulate _ 32 _ noWaiting (c .before .before .before .loop-test .taken)))
+    let turn = c .before .before .before .before in (
+      omega arith,
+      filling-more noWaiting _ (turn .loop .inv .1) (rw length-tabulate (c .before .before .before .loop-test .taken))
+          (getD-tabulate _ 32 _ noWaiting (c .before .before .before .loop-test .taken)),
+    )
 
 returns : tie.Need-returns Inv-loop μ-loop
 unfolding placesOf

@@ -16,7 +16,9 @@ cast-t4 : tie.Need-cast-t4
 cast-t4 c = search needs
 
 returns : tie.Need-returns
-returns c = ap (λ (n : ℕ). n ∷ c .before .before .before .args .a .largest .s ∷ c .before .before .before .args .a .largest .x ∷ c .before .before .before .args .a .looked ∷ []) (as-number (c .before .before .before .args .a .holds))
+returns c =
+    let at3 = c .before .before .before in
+    ap (λ (n : ℕ). n ∷ at3 .args .a .largest .s ∷ at3 .args .a .largest .x ∷ at3 .args .a .looked ∷ []) (as-number (at3 .args .a .holds))
 
 pub write-answer-spec : {M : Type 1} → statement M
 write-answer-spec = tie.close (tie.spec cast-t4 returns)

@@ -36,7 +36,12 @@ loop-less c = omega arith
 
 loop-again : tie.Need-loop-again Inv-loop μ-loop
 loop-again c =
-    let h : c .before .before .before .before .before .before .loop .i < length (c .before .before .before .before .before .before .before .before .before .args .numbers .now) = omega (arith, c .before .before .before .before .before .loop-test .taken, c .before .before .before .before .before .before .before .before .before .pre .1) in
+    let h : c .before .before .before .before .before .before .loop .i < length
+    (c .before .before .before .before .before .before .before .before .before .args .numbers .now) = omega (
+      arith,
+      c .before .before .before .before .before .loop-test .taken,
+      c .before .before .before .before .before .before .before .before .before .pre .1,
+    ) in
     let p = c .before .before .put-spaced .ensures in (
       putting-more _ _ (c .before .before .before .before .before .before .loop .inv .0) (numbers-left _ h) p (omega arith),
       omega arith,

@@ -1,9 +1,9 @@
 use native.Mathlib.Omega.{arith}
 use mathlib.Core.Path.{_∙_}
 use Rattle.redo_log.proofs.Records.{sizes, place-is, inside}
 use borrow.Author.Needs.{needs}
-use Rattle.redo_recovery.proofs.inner.place_of.Statement.{statement}
-use Rattle.redo_recovery.proofs.inner.place_of.Tie as tie
+use Rattle.redo_log.proofs.inner.records.place_at.Statement.{statement}
+use Rattle.redo_log.proofs.inner.records.place_at.Tie as tie
 
 mul-read-u32 : tie.Need-mul-read-u32
 mul-read-u32 c = omega (arith, sizes (c .before .args .log .now) (c .before .pre .0))
@@ -21,9 +21,18 @@ cast-result : tie.Need-cast-result
 cast-result c = search needs
 
 returns : tie.Need-returns
-returns c = let place = c .read-u32 .ensures ∙ place-is (c .before .before .args .log .now) (c .before .before .args .j) (c .before .before .pre .0) (c .before .before .pre .1) in (place, omega (arith, place, inside (c .before .before .args .log .now) (c .before .before .args .j) (c .before .before .pre .0) (c .before .before .pre .1)))
+returns c = let place = c .read-u32 .ensures ∙ place-is (c .before .before .args .log .now) (c .before .before .args .i) (c .before .before .pre .0)
+    (c .before .before .pre .1) in (
+      place,
+      omega (
+        arith,
+        place,
+        inside (c .before .before .args .log .now) (c .before .before .args .i) (c .before .before .pre .0)
+            (c .before .before .pre .1),
+      ),
+    )
 
-pub place-of-spec : {M : Type 1} → statement M
-place-of-spec =
+pub place-at-spec : {M : Type 1} → statement M
+place-at-spec =
     tie.close
     (tie.spec mul-read-u32 add-read-u32 add-read-u32-2 read-u32-requires cast-result returns)

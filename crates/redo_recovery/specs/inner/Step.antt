@@ -1,4 +1,4 @@
--- One record of a recovery, in the terms of the code. Recovery as a whole is `recovered`: nobody needs this file to know what is promised.
+-- One record of a recovery, in the terms of the code. Recovery as a whole is `recovered`.
 -- Assumes nothing.
 use Prim.Native.Nat.{ℕ}
 use mathlib.Core.List.{List, []}
@@ -6,12 +6,7 @@ use mathlib.Core.Bool.{cond}
 use Rattle.formats.specs.Format.{V1}
 use Rattle.redo_log.specs.Log.{LogRecord}
 use Rattle.store_model.specs.Serve.{Outcome, serve}
-use Rattle.redo_recovery_model.specs.Recovery.{Pairs, recordIn, due, recoverySent, recovered}
-use Rattle.redo_recovery.specs.declared.Recovered.{Recovered}
-
--- The pairs in two lent slices, by card.
-abbrev pub pairsOf : List ℕ → List ℕ → Pairs
-pairsOf s x = record { s = s; x = x }
+use Rattle.redo_recovery_model.specs.Recovery.{Pairs, recordIn, due, recoverySent}
 
 -- What the write of an update leaves.
 abbrev pub writeOutcome : Pairs → List ℕ → LogRecord → Outcome
@@ -23,7 +18,3 @@ stepNumber pairs rs image i = cond (due rs i) (writeOutcome pairs image (recordI
 
 abbrev pub stepImage : Pairs → List LogRecord → List ℕ → ℕ → List ℕ
 stepImage pairs rs image i = cond (due rs i) (writeOutcome pairs image (recordIn rs i) .image) image
-
--- What recovery answers.
-abbrev pub recoveryAnswer : Pairs → List ℕ → List ℕ → Recovered
-recoveryAnswer pairs log image = record { number = recovered pairs log image .number; line = recovered pairs log image .line }
