@@ -26,7 +26,9 @@ pub by-parts : (c : Command) → wellFormed c ≡ (all (actChecks c) && (all (pa
 unfolding wellFormed
 by-parts c =
     all-append (actChecks c) (pairChecks c ++ (markWhole (c .expected) ∷ markWhole (c .next) ∷ []))
-    ∙ ap (λ (b : Bool). all (actChecks c) && b) (all-append (pairChecks c) (markWhole (c .expected) ∷ markWhole (c .next) ∷ []) ∙ ap (λ (b : Bool). all (pairChecks c) && b) (two-hold (markWhole (c .expected)) (markWhole (c .next))))
+    ∙ ap (λ (b : Bool). all (actChecks c) && b)
+    (all-append (pairChecks c) (markWhole (c .expected) ∷ markWhole (c .next) ∷ []) ∙ ap (λ (b : Bool). all (pairChecks c) && b)
+    (two-hold (markWhole (c .expected)) (markWhole (c .next))))
 
 -- Test by test.
 module _ (c : Command) where

@@ -7,7 +7,7 @@ use lib.ListN.{length, drop, getD, replicate}
 use lib.Dec.{eqb}
 use Rattle.lists.specs.Parts.{part, zeros}
 use Rattle.lists.specs.Le.{toLe, field}
-use Rattle.stamps.specs.Stamp.{noPair, noMark, MALFORMED}
+use Rattle.stamps.specs.Stamp.{noPair, noMark}
 use Rattle.stamps.specs.declared.Mark.{Mark}
 use Rattle.stamps.specs.declared.Pair.{Pair}
 use Rattle.formats.specs.Format.{Format, V1, V2, fixed, updateAt, blankAt}
@@ -15,6 +15,7 @@ use Rattle.commands.specs.declared.Command.{Command}
 use Rattle.commands.specs.Command.{wellFormed}
 use Rattle.commands.specs.declared.Parsed.{Parsed}
 use Rattle.commands.specs.declared.Parsed.the-variants.{Malformed, Formed}
+use Rattle.numbers.specs.Numbers.{MALFORMED}
 
 -- A commit mark at an offset (rule 3.1): the expected one at 36, the next one at 42.
 abbrev pub markAt : ℕ → List ℕ → Mark

@@ -1,48 +1,16 @@
 -- How an entry judges a command: the table's rows and the raised entry (rules 4.1 to 4.6 and 4.9).
 -- Assumes nothing.
-use Prim.Native.Nat.{ℕ, suc, _+_}
+use Prim.Native.Nat.{ℕ, _+_}
 use mathlib.Core.List.{List, [], _∷_}
 use mathlib.Core.Bool.{Bool, cond, not, _&&_, _||_}
 use lib.Dec.{ltb, eqb}
-use Rattle.stamps.specs.Stamp.{MALFORMED, stale, tooFar, largerOfEach, markFits}
+use Rattle.stamps.specs.Stamp.{stale, tooFar, largerOfEach, markFits}
 use Rattle.commands.specs.Command.{original, readsTranslation, writesTranslation, reads, writes, verifier, update, wellFormed}
 use Rattle.lists.specs.Table.{Row, row, first, settled}
 use Rattle.commands.specs.declared.Command.{Command}
 use Rattle.guard.specs.declared.Entry.{Entry}
 use Rattle.guard.specs.declared.Judged.{Judged}
-
--- ---- The numbers of the table (rule 5.1), each by its name. 0 is accepted, 1 (`MALFORMED`) stands with the rules of stamps.
-
--- 2: no such card.
-abbrev pub NO-CARD : ℕ
-NO-CARD = 2
-
-abbrev pub STALE : ℕ
-STALE = 3
-
-abbrev pub MARK-DIFFERS : ℕ
-MARK-DIFFERS = 4
-
-abbrev pub PAYLOAD-LONG : ℕ
-PAYLOAD-LONG = 5
-
--- 6: the translation is behind, or the named edition is not the stored one.
-abbrev pub EDITION-WRONG : ℕ
-EDITION-WRONG = 6
-
-abbrev pub EDITIONS-SPENT : ℕ
-EDITIONS-SPENT = 7
-
-abbrev pub REPLY-SHORT : ℕ
-REPLY-SHORT = 8
-
--- 9: the image is not sound.
-abbrev pub UNSOUND : ℕ
-UNSOUND = 9
-
--- 17: a stamp from too far ahead.
-abbrev pub TOO-FAR : ℕ
-TOO-FAR = 17
+use Rattle.numbers.specs.Numbers.{MALFORMED, STALE, MARK-DIFFERS, PAYLOAD-LONG, EDITION-WRONG, EDITIONS-SPENT, REPLY-SHORT, TOO-FAR}
 
 -- ---- The rows.
 

@@ -5,10 +5,10 @@ use mathlib.Core.Bool.{Bool, cond, _||_}
 use lib.Dec.{eqb}
 use Rattle.lists.specs.Table.{settled}
 use mathlib.Core.List.{List, [], _∷_}
-use Rattle.stamps.specs.Stamp.{noPair, noMark, MALFORMED}
+use Rattle.stamps.specs.Stamp.{noPair, noMark}
 use Rattle.commands.specs.Command.{original, readsTranslation, reads}
 use Rattle.commands.specs.declared.Command.{Command}
-use Rattle.guard.specs.Judge.{NO-CARD, UNSOUND}
+use Rattle.numbers.specs.Numbers.{MALFORMED, NO-CARD, UNSOUND}
 use Rattle.guard.specs.declared.Entry.{Entry}
 use Rattle.guard.specs.declared.Answer.{Answer}
 

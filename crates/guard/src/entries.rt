@@ -3,7 +3,7 @@ ghost use Rattle.guard.specs.Judge.{judged};
 use crate::Entry;
 use crate::Judged;
 use commands::Command;
-use stamps::MALFORMED;
+use numbers::MALFORMED;
 
 impl Entry {
     // An entry takes a command and gives back the entry that then stands, with the number, for the room C and the length of the lent reply buffer.

@@ -7,33 +7,14 @@ ghost use Rattle.guard.specs.Judge.{behind};
 ghost use Rattle.guard.specs.Replies.{blankReply, readLength, replied, refused};
 ghost use Rattle.lists.specs.Table.{settled};
 use commands::Command;
-use stamps::MALFORMED;
+use numbers::ACCEPTED;
+use numbers::MALFORMED;
+use numbers::NO_CARD;
+use numbers::UNSOUND;
 use stamps::Mark;
+use stamps::NO_MARK;
+use stamps::NO_PAIR;
 use stamps::Pair;
-
-// ---- The numbers of the table. Number 1 stands with the rules of stamps.
-
-pub const ACCEPTED: u8 = 0;
-
-pub const NO_CARD: u8 = 2;
-
-pub const STALE: u8 = 3;
-
-pub const MARK_DIFFERS: u8 = 4;
-
-pub const PAYLOAD_LONG: u8 = 5;
-
-pub const EDITION_WRONG: u8 = 6;
-
-pub const EDITIONS_SPENT: u8 = 7;
-
-pub const REPLY_SHORT: u8 = 8;
-
-pub const UNSOUND: u8 = 9;
-
-pub const TOO_FAR: u8 = 17;
-
-// ---- The guard of one card: an entry that judges a command.
 
 // Whether a translation is behind: it was made from no edition, or from another than the one that stands.
 pub fn behind(edition: u16, from: u16) -> bool
@@ -52,6 +33,16 @@ pub struct Entry {
     pub original: u16,
     pub translation: u16,
 }
+
+// The entry of a card for which nothing was accepted.
+pub const NO_ENTRY: Entry = Entry {
+    pair: NO_PAIR,
+    mark: NO_MARK,
+    edition: 0,
+    from: 0,
+    original: 0,
+    translation: 0,
+};
 
 // The number that an entry gives, and the entry as it now is.
 pub struct Judged {
@@ -107,11 +98,8 @@ pub fn refusal(number: u8) -> Answer
 {
     Answer {
         number,
-        pair: Pair { s: 0, x: 0 },
-        mark: Mark {
-            desk: 0,
-            transaction: 0,
-        },
+        pair: NO_PAIR,
+        mark: NO_MARK,
         edition: 0,
         from: 0,
         length: 0,

@@ -9,7 +9,7 @@ use lib.Dec.{ltb}
 use lib.ListN.{length, take, length-append, length-drop, length-reverse}
 use lib.Seq.{length-take-le}
 use Rattle.formats.specs.Format.{V1, fixed}
-use Rattle.lists.specs.Parts.{spread}
+use Rattle.lists.specs.Parts.{concatMap}
 use Rattle.lists.specs.Search.{last}
 use Rattle.lists.proofs.Tests.{or-fails}
 use Rattle.commands.specs.Bytes.{fieldsOf, payload, formed}
@@ -20,7 +20,7 @@ use Rattle.stream.proofs.Commands.{along, commands-whole, commands-cut, end-who
 use Rattle.stream.proofs.Walks as walk
 use Rattle.history.specs.Engine.{mostKept, mostPayload, overLimits}
 use Rattle.history.specs.Lent.{historySize}
-use Rattle.history.specs.Steps.{Measured, overWith}
+use Rattle.history.specs.inner.Steps.{Measured, overWith}
 
 -- A whole command in front: its payload is what its extent leaves.
 payload-first : (s : List ℕ) → whole V1 s ≡ true → length (payload V1 (take (extent V1 s) s)) + fixed V1 ≡ extent V1 s
@@ -67,19 +67,19 @@ sized-last p (b ∷ kept) h = go (p b) (sized-last p kept (h .1))
 -- ---- how far they go
 
 abbrev paid : List (List ℕ) → ℕ
-paid l = length (spread (payload V1) l)
+paid l = length (concatMap (payload V1) l)
 
 paid-reverse : (l kept : List (List ℕ)) → paid (reverseAux l kept) ≡ paid l + paid kept
-unfolding spread
+unfolding concatMap
 paid-reverse [] kept = omega arith
 paid-reverse (b ∷ l) kept =
     paid-reverse l (b ∷ kept)
-    ∙ (let one = length-append (payload V1 b) (spread (payload V1) kept) in
-    let other = length-append (payload V1 b) (spread (payload V1) l) in
+    ∙ (let one = length-append (payload V1 b) (concatMap (payload V1) kept) in
+    let other = length-append (payload V1 b) (concatMap (payload V1) l) in
     omega (arith, one, other))
 
 sum : (s : List ℕ) → endOf V1 s ≡ length (commands V1 s) * fixed V1 + paid (commands V1 s)
-unfolding spread
+unfolding concatMap
 sum =
     along V1 (λ (s : List ℕ). endOf V1 s ≡ length (commands V1 s) * fixed V1 + paid (commands V1 s))
     (λ s h. rw (end-cut V1 s h, commands-cut V1 s h))
@@ -88,7 +88,7 @@ sum =
     rw (end-whole V1 s h, commands-whole V1 s h, length-append) (omega (arith, front, rest)))
 
 pub measured : (s : List ℕ) → Measured s (endOf V1 s) (length (reverse (commands V1 s))) (paid (reverse (commands V1 s)))
-unfolding spread
+unfolding concatMap
 measured s =
     let count = length-reverse (commands V1 s) in
     let all = paid-reverse (commands V1 s) [] in
@@ -96,11 +96,11 @@ measured s =
 
 -- The limits, by the command's own length.
 pub over-is : (command : List ℕ) (kept : List (List ℕ)) → formed V1 command ≡ true → overLimits (command ∷ kept) ≡ overWith kept (fieldsOf V1 command)
-unfolding spread
+unfolding concatMap
 over-is command kept h =
     let more : length (command ∷ kept) ≡ length kept + 1 = omega arith in
-    let all : length (payload V1 command ++ spread (payload V1) kept) ≡ fieldsOf V1 command .length + paid kept =
-    length-append (payload V1 command) (spread (payload V1) kept) ∙ ap (λ (m : ℕ). m + paid kept) (length-payload V1 command h) in
+    let all : length (payload V1 command ++ concatMap (payload V1) kept) ≡ fieldsOf V1 command .length + paid kept =
+    length-append (payload V1 command) (concatMap (payload V1) kept) ∙ ap (λ (m : ℕ). m + paid kept) (length-payload V1 command h) in
     rw (more, all)
 
 -- Where neither limit is passed, the command fits behind the others.

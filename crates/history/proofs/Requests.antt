@@ -27,12 +27,13 @@ use Rattle.guard.specs.Replies.{replied, refused}
 use Rattle.guard.specs.declared.Answer.{Answer}
 use Rattle.stream.specs.Stream.{commands, endOf}
 use Rattle.history.specs.WorkedOut.{concerns, entryFrom, textFrom}
-use Rattle.history.specs.Engine.{mostKept, mostPayload, overLimits, HISTORY-FULL, readFrom, guardRows, engineRows, keptBy, deducedBy, deduced}
+use Rattle.history.specs.Engine.{mostKept, mostPayload, overLimits, readFrom, guardRows, engineRows, keptBy, deducedBy, deduced}
 use Rattle.history.specs.Lent.{historySize, keptIn, bytesBy, usedBy, HistoryOutcome, historyServe}
-use Rattle.history.specs.Steps.{Measured, writtenBy, overWith, weighedNumber, weighed, historyCarried}
-use Rattle.history.specs.declared.Totals.{Totals}
+use Rattle.history.specs.inner.Steps.{Measured, writtenBy, overWith, weighedNumber, weighed, historyCarried}
+use Rattle.history.specs.declared.inner.kept.Totals.{Totals}
 use Rattle.history.proofs.Raised.{one-translation, entry-here}
 use Rattle.history.proofs.Extents.{Sized, sized-commands, sized-last, over-is, fits-behind}
+use Rattle.numbers.specs.Numbers.{HISTORY-FULL}
 
 -- ---- weighing
 
@@ -169,8 +170,13 @@ module _ (n room : ℕ) (bytes : List ℕ) (used : ℕ) (command reply : List �
     found : historyServe n room bytes used command reply ≡ historyCarried room bytes used (fieldsOf V1 command) command reply
     unfolding historyServe deduced deducedBy replied historyCarried
     found =
-        rw
-        (number-is, entry-by (weighedNumber kept (fieldsOf V1 command) room (length reply)), weighed-entry kept (fieldsOf V1 command) room (length reply), weighed-number kept (fieldsOf V1 command) room (length reply))
+        rw (
+          number-is,
+          entry-by (weighedNumber kept (fieldsOf V1 command) room (length reply)),
+          weighed-entry kept (fieldsOf V1 command) room
+              (length reply),
+          weighed-number kept (fieldsOf V1 command) room (length reply),
+        )
 
     pub serves-found : (c : Command) → c ≡ fieldsOf V1 command → historyServe n room bytes used command reply ≡ historyCarried room bytes used c command reply
     serves-found c e = found ∙ ap (λ (d : Command). historyCarried room bytes used d command reply) (sym e)

@@ -10,7 +10,7 @@ use lib.Dec.{eqb}
 use borrow.Author.Tests.{ne-eqb}
 use lib.ListN.{length, drop, length-append}
 use Rattle.formats.specs.Format.{V1, fixed}
-use Rattle.lists.specs.Parts.{part, spread}
+use Rattle.lists.specs.Parts.{part, concatMap}
 use Rattle.lists.proofs.Parts.{drop-part, length-part}
 use Rattle.lists.proofs.Tests.{cases}
 use Rattle.commands.specs.Command.{original, writes}
@@ -25,9 +25,9 @@ use Rattle.stream.proofs.Commands.{Walked, walked-none, walked-more, walked-don
 use Rattle.stream.proofs.Walks as walk
 use Rattle.history.specs.WorkedOut.{concerns, entryFrom, highest, timesWritten}
 use Rattle.history.proofs.Raised.{entry-here, entry-other}
-use Rattle.history.specs.declared.Span.{Span}
+use Rattle.history.specs.declared.inner.kept.Span.{Span}
 use Rattle.history.specs.Lent.{historySize}
-use Rattle.history.specs.Steps.{writtenBy, Measured}
+use Rattle.history.specs.inner.Steps.{writtenBy, Measured}
 
 module _ {B : Type 0} (step : B → List ℕ → B) where
   -- One command after another.
@@ -87,23 +87,23 @@ paid n command = n + length (payload V1 command)
 
 pub record Extending (s : List ℕ) (at count payloads : ℕ) : Type 0 where
   pub counting : Working counted (length (reverse (commands V1 s))) s at count
-  pub paying : Working paid (length (spread (payload V1) (reverse (commands V1 s)))) s at payloads
+  pub paying : Working paid (length (concatMap (payload V1) (reverse (commands V1 s)))) s at payloads
   pub sum : at ≡ count * fixed V1 + payloads
 
 count-goes : (command : List ℕ) (kept : List (List ℕ)) → length (command ∷ kept) ≡ counted (length kept) command
 unfolding counted
 count-goes command kept = omega arith
 
-pay-goes : (command : List ℕ) (kept : List (List ℕ)) → length (spread (payload V1) (command ∷ kept)) ≡ paid (length (spread (payload V1) kept)) command
-unfolding paid spread
+pay-goes : (command : List ℕ) (kept : List (List ℕ)) → length (concatMap (payload V1) (command ∷ kept)) ≡ paid (length (concatMap (payload V1) kept)) command
+unfolding paid concatMap
 pay-goes command kept = rw (length-append) (omega arith)
 
 pub extending-none : (s : List ℕ) → Extending s 0 0 0
-unfolding spread
+unfolding concatMap
 extending-none s =
     record {
       counting = working-none counted length count-goes s 0 refl;
-      paying = working-none paid (λ (kept : List (List ℕ)). length (spread (payload V1) kept)) pay-goes s 0 refl;
+      paying = working-none paid (λ (kept : List (List ℕ)). length (concatMap (payload V1) kept)) pay-goes s 0 refl;
       sum = refl;
     }
 

@@ -6,13 +6,13 @@ use mathlib.Core.Bool.{Bool, cond, not, _||_}
 use lib.ListN.{length}
 use lib.Dec.{ltb}
 use Rattle.formats.specs.Format.{V1}
-use Rattle.lists.specs.Parts.{splice, spread}
+use Rattle.lists.specs.Parts.{splice, concatMap}
 use Rattle.lists.specs.Table.{Row, row, first, settled}
 use Rattle.commands.specs.Command.{original, translation, reads, readsTranslation}
 use Rattle.commands.specs.declared.Command.{Command}
 use Rattle.commands.specs.Bytes.{fieldsOf, payload, formed}
-use Rattle.stamps.specs.Stamp.{MALFORMED}
-use Rattle.guard.specs.Judge.{NO-CARD, entryRows}
+use Rattle.numbers.specs.Numbers.{MALFORMED, NO-CARD, HISTORY-FULL}
+use Rattle.guard.specs.Judge.{entryRows}
 use Rattle.guard.specs.Replies.{replied}
 use Rattle.guard.specs.declared.Answer.{Answer}
 use Rattle.history.specs.WorkedOut.{textFrom, entryFrom}
@@ -26,11 +26,7 @@ mostPayload = 32768
 
 -- Kept commands pass either limit. Rule 14.2.
 abbrev pub overLimits : List (List ℕ) → Bool
-overLimits kept = ltb mostKept (length kept) || ltb mostPayload (length (spread (payload V1) kept))
-
--- The number of a history that has no room for one more accepted command.
-abbrev pub HISTORY-FULL : ℕ
-HISTORY-FULL = 22
+overLimits kept = ltb mostKept (length kept) || ltb mostPayload (length (concatMap (payload V1) kept))
 
 -- The store's table without row 9, on the entry that is worked out: rows 1 and 2, then the guard's own. Rule 14.7.
 abbrev pub guardRows : ℕ → ℕ → List (List ℕ) → List ℕ → ℕ → List Row

@@ -1,4 +1,4 @@
 pub mod WorkedOut
 pub mod Engine
 pub mod Lent
-pub mod Steps
+pub mod inner

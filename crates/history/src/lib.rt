@@ -5,9 +5,8 @@ ghost use mathlib.Core.Path.{_≡_};
 ghost use Rattle.history.specs.Lent.{historyServe};
 use commands::Parsed;
 use guard::Answer;
-use guard::Judged;
-use guard::NO_CARD;
-use stamps::MALFORMED;
+use numbers::MALFORMED;
+use numbers::NO_CARD;
 
 // How many commands a history keeps at most, and how many payload bytes these have in all at most.
 pub const MOST_KEPT: usize = 200;
@@ -17,32 +16,10 @@ pub const MOST_PAYLOAD: usize = 32768;
 // The lent bytes: room for a history at both limits.
 pub const SIZE: usize = 43168;
 
-// The number of a history that has no room for one more accepted command.
-pub const FULL: u8 = 22;
-
 // What a request is answered, and how many of the lent bytes are used after it.
 pub struct HistoryAnswer {
     pub answer: Answer,
     pub used: usize,
-}
-
-// Of some bytes: how many commands they hold, how many payload bytes these have in all, and the byte where they end.
-pub struct Totals {
-    pub count: usize,
-    pub payloads: usize,
-    pub end: usize,
-}
-
-// A part of some bytes.
-pub struct Span {
-    pub start: usize,
-    pub end: usize,
-}
-
-// What an entry says of a command, and the byte where the kept commands end.
-pub struct Weighed {
-    pub judged: Judged,
-    pub end: usize,
 }
 
 // One request for `cards` cards with this room, on the commands kept in the first `used` of the lent bytes. It gives the number, the seven

@@ -10,10 +10,10 @@ use lib.Dec.{ltb}
 use lib.ListN.{length, take, drop, getD, length-append, length-take, List·getD-append}
 use lib.Seq.{length-take-le, take-append-seam, getD-append-seam}
 use Rattle.formats.specs.Format.{V1}
-use Rattle.lists.specs.Parts.{spread, splice}
+use Rattle.lists.specs.Parts.{concatMap, splice}
 use Rattle.lists.specs.Table.{Row}
 use Rattle.lists.proofs.Parts.{length-splice}
-use Rattle.lists.proofs.Spread.{spread-append}
+use Rattle.lists.proofs.ConcatMap.{concatMap-append}
 use Rattle.lists.proofs.Table.{unapplied, none-applies}
 use Rattle.lists.proofs.Tests.{cases}
 use Rattle.commands.specs.Bytes.{fieldsOf, formed}
@@ -23,10 +23,11 @@ use Rattle.stream.proofs.Place.{cut-short}
 use Rattle.stream.proofs.Commands.{end-length}
 use Rattle.stream.proofs.Walks as walk
 use Rattle.guard.specs.Replies.{replied}
-use Rattle.history.specs.Engine.{overLimits, HISTORY-FULL, engineRows, deducedBy, deduced}
+use Rattle.history.specs.Engine.{overLimits, engineRows, deducedBy, deduced}
 use Rattle.history.specs.Lent.{historySize, keptIn, bytesBy, usedBy, historyServe}
 use Rattle.history.proofs.Extents.{measured, over-is, fits-behind}
 use Rattle.history_claims.specs.Lent.{BytesKeep, BytesKept}
+use Rattle.numbers.specs.Numbers.{HISTORY-FULL}
 
 -- Where neither limit is passed, the command fits behind the others.
 fits : (s command : List ℕ) → formed V1 command ≡ true → overLimits (command ∷ reverse (commands V1 s)) ≡ false → endOf V1 s + length command ≤ historySize
@@ -61,15 +62,15 @@ front s =
     ∙ ap (take (length (endToEnd (commands V1 s)))) (sym (walk.joined V1 s))
     ∙ take-append-seam (endToEnd (commands V1 s)) (drop (endOf V1 s) s)
 
-spread-one : (command : List ℕ) → endToEnd (command ∷ []) ≡ command
-unfolding spread
-spread-one command = append-nil command
+concatMap-one : (command : List ℕ) → endToEnd (command ∷ []) ≡ command
+unfolding concatMap
+concatMap-one command = append-nil command
 
 commands-more : (s command : List ℕ) → OneCommand V1 command → commands V1 (take (endOf V1 s) s ++ command) ≡ commands V1 s ++ (command ∷ [])
 commands-more s command own =
     ap (λ (l : List ℕ). commands V1 (l ++ command)) (front s)
-    ∙ ap (λ (l : List ℕ). commands V1 (endToEnd (commands V1 s) ++ l)) (sym (spread-one command))
-    ∙ ap (commands V1) (sym (spread-append (λ (c : List ℕ). c) (commands V1 s) (command ∷ [])) ∙ sym (append-nil (endToEnd (commands V1 s ++ (command ∷ [])))))
+    ∙ ap (λ (l : List ℕ). commands V1 (endToEnd (commands V1 s) ++ l)) (sym (concatMap-one command))
+    ∙ ap (commands V1) (sym (concatMap-append (λ (c : List ℕ). c) (commands V1 s) (command ∷ [])) ∙ sym (append-nil (endToEnd (commands V1 s ++ (command ∷ [])))))
     ∙ walk.back V1 (commands V1 s ++ (command ∷ [])) [] (one-more (commands V1 s) command (walk.each V1 s) own) (cut-short V1 [] (omega arith))
 
 -- ---- the bytes

@@ -8,7 +8,7 @@ use Rattle.commands.specs.Command.{original, translation, writes}
 use Rattle.commands.specs.Bytes.{fieldsOf, payload}
 use Rattle.guard.specs.Judge.{raise}
 use Rattle.image.specs.Image.{view, noCard}
-use Rattle.model.specs.Serve.{stepped}
+use Rattle.store_model.specs.Serve.{stepped}
 use Rattle.history.specs.WorkedOut.{concerns, highest, timesWritten, textFrom, entryFrom}
 use Rattle.history.proofs.Raised.{names-one, one-translation, entry-here, entry-other, text-here, text-other}
 use Rattle.history_claims.specs.Claims.{cardFrom}

@@ -8,7 +8,7 @@ use borrow.Author.Tests.{le-ltb, ne-eqb}
 use lib.Dec.{T, ltb, eqb, lit≤}
 use lib.ListN.{length, replicate, length-replicate}
 use Rattle.formats.specs.Format.{V1, V2}
-use Rattle.lists.specs.Parts.{part, splice, table, spread, every, zeros, Bytes}
+use Rattle.lists.specs.Parts.{part, splice, tabulate, concatMap, every, zeros, Bytes}
 use Rattle.lists.specs.Le.{le, toLe}
 use Rattle.lists.specs.Search.{any, none}
 use Rattle.lists.specs.Table.{row, all, allFrom, first}
@@ -24,29 +24,31 @@ use Rattle.stream.specs.Stream.{extent, whole, commandsWithin, commands, endWit
 use Rattle.image.specs.Layout.{shapeOk}
 use Rattle.image.specs.Bytes.{header, entryBytes, pad, readEntry, entryAt}
 use Rattle.image.specs.Image.{bodies, encode, cardAt, decode, tailZero, translationSound, cardSound, headerSound, sound, fresh}
-use Rattle.model.specs.Cases.{readOriginal, long, text205, names, writesIn, readsIn, run}
-use Rattle.model.specs.Serve.{stepped, serveBy, serve}
-use Rattle.model.specs.Words.{Sent}
-use Rattle.model.specs.Claims.{SentBytes, AllBytes}
+use Rattle.store_model.specs.Cases.{readOriginal, long, text205, names, writesIn, readsIn, run}
+use Rattle.store_model.specs.Serve.{stepped, serveBy, serve}
+use Rattle.store_model.specs.Words.{Sent}
+use Rattle.store_model.specs.Claims.{SentBytes, AllBytes}
 use Rattle.history.specs.WorkedOut.{highest, timesWritten, textFrom, entryFrom}
-use Rattle.history.specs.Engine.{overLimits, HISTORY-FULL, guardRows, engineRows, deducedBy, deduced}
+use Rattle.history.specs.Engine.{overLimits, guardRows, engineRows, deducedBy, deduced}
 use Rattle.history.specs.Lent.{historySize, keptIn, bytesBy, usedBy, historyServe}
 use Rattle.history.proofs.Raised.{entry-here}
-use Rattle.history_claims.specs.Claims.{keptAfter, engineEvent, engineEvents, engineLog, gave22}
+use Rattle.history_claims.specs.Claims.{keptAfter, engineEvent, engineEvents, engineTrace, gave22}
 use Rattle.history_claims.specs.Swaps.{Apart, SameSequences}
 use Rattle.history_claims.specs.Cases.{KeptLimits, again, TwoHundred, wrote205, WorkedBytes, onCard, malformed, inLanguage3, gotLanguage3, ApartCases}
-use Rattle.model.proofs.ByTest.{bytes-by, sent-bytes}
+use Rattle.store_model.proofs.ByTest.{bytes-by, sent-bytes}
 use Rattle.history_claims.proofs.Claims.{equals-guard, first-full}
 use Rattle.history_claims.proofs.Lent.{engine-over-bytes, lent-equals-guard}
 use Rattle.history_claims.proofs.Swaps.{swapping}
 use Rattle.history_claims.proofs.Sequences.{sequences}
+use Rattle.numbers.specs.Numbers.{HISTORY-FULL}
 
 pub kept-limits : KeptLimits
-unfolding spread payload
+unfolding concatMap payload
 kept-limits = record { many = refl; too-many = refl; heavy = refl; too-heavy = refl }
 
 pub worked-bytes : WorkedBytes
-unfolding historyServe keptIn bytesBy usedBy deduced deducedBy entryFrom textFrom highest timesWritten replied raise commands commandsWithin endOf endWithin whole extent commandBytes formed payload fieldsOf wellFormed all allFrom le toLe part splice spread zeros
+unfolding historyServe keptIn bytesBy usedBy deduced deducedBy entryFrom textFrom highest timesWritten replied raise commands commandsWithin endOf
+    endWithin whole extent commandBytes formed payload fieldsOf wellFormed all allFrom le toLe part splice concatMap zeros
 worked-bytes = record { three = refl; read = refl; text = refl; used = refl; late = refl; late-used = refl; opened = refl }
 
 -- ---- one command again and again
@@ -92,8 +94,8 @@ passes : (m : ℕ) → first (guardRows 1 16 (replicate m command) command 0) �
 passes zero = ap (λ (k : ℕ). on (entryFrom [] k)) card-0 ∙ on-none
 passes (suc m) = ap (λ (k : ℕ). on (entryFrom (replicate (suc m) command) k)) card-0 ∙ ap on (entry-is m) ∙ on-once
 
-paid-none : (m : ℕ) → spread (payload V1) (replicate m command) ≡ []
-unfolding spread payload commandBytes toLe
+paid-none : (m : ℕ) → concatMap (payload V1) (replicate m command) ≡ []
+unfolding concatMap payload commandBytes toLe
 paid-none zero = refl
 paid-none (suc m) = paid-none m
 
@@ -125,8 +127,8 @@ until-is (suc m) h = rw (kept-is m (omega (arith, h)), low m h) (until-is m (ome
 turned : reverse (replicate 200 again) ≡ replicate 200 again
 turned = refl
 
-until-200 : none gave22 (engineLog 1 16 (replicate 200 again)) ≡ true
-unfolding engineLog
+until-200 : none gave22 (engineTrace 1 16 (replicate 200 again)) ≡ true
+unfolding engineTrace
 until-200 = ap (λ (l : List Sent). none gave22 (engineEvents 1 16 l)) turned ∙ not-in (until-is 200 (lit≤ tt))
 
 next-200 : gave22 (engineEvent again (deduced 1 16 (keptAfter 1 16 (reverse (replicate 200 again))) (again .command) (again .lent))) ≡ true
@@ -151,7 +153,7 @@ zeros-long : length (replicate {A = ℕ} historySize 0) ≡ historySize
 zeros-long = length-replicate {A = ℕ} historySize 0
 
 pub two-hundred : TwoHundred
-unfolding engineLog
+unfolding engineTrace
 two-hundred =
     record {
       until = until-200;
@@ -248,7 +250,8 @@ apart-2 : Apart V2 (onCard 1 (readsIn 3)) (writesIn 1 3)
 apart-2 p q z = let never : _≡_ {A = ℕ} 1 0 = sym reads-card ∙ z ∙ writes-card in absurd (omega (arith, never))
 
 accepted-2 : run V2 (fresh V2 2 16) (reverse inLanguage3) ≡ gotLanguage3
-unfolding run serve serveBy stepped sound headerSound cardSound translationSound tailZero decode cardAt entryAt readEntry encode bodies pad entryBytes header shapeOk fresh replied raise entrySound commandBytes formed payload fieldsOf wellFormed all allFrom le toLe part splice table spread every zeros
+unfolding run serve serveBy stepped sound headerSound cardSound translationSound tailZero decode cardAt entryAt readEntry encode bodies pad entryBytes
+    header shapeOk fresh replied raise entrySound commandBytes formed payload fieldsOf wellFormed all allFrom le toLe part splice tabulate concatMap every zeros
 accepted-2 = refl
 
 pub apart-cases : ApartCases

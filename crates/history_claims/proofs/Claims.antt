@@ -9,9 +9,9 @@ use borrow.Author.Tests.{eqb-true, ne-eqb}
 use lib.Dec.{T}
 use lib.ListN.{length}
 use Rattle.formats.specs.Format.{V1}
-use Rattle.lists.specs.Parts.{spread}
+use Rattle.lists.specs.Parts.{concatMap}
 use Rattle.lists.specs.Table.{Row, first, listed}
-use Rattle.lists.proofs.Spread.{table-is}
+use Rattle.lists.proofs.ConcatMap.{tabulate-is}
 use Rattle.lists.proofs.Table.{given, unapplied, last-given, none-applies, first-all}
 use Rattle.lists.proofs.Tests.{to-T, from-T}
 use Rattle.commands.specs.Bytes.{fieldsOf}
@@ -21,21 +21,22 @@ use Rattle.image.specs.Layout.{shapeOk}
 use Rattle.image.specs.Image.{Card, Cards, noCard, encode, decode, fresh}
 use Rattle.image.specs.Image.{freshCards}
 use Rattle.image_claims.proofs.Claims.{freshSound, goodEncodes}
-use Rattle.model.specs.Serve.{entryOf, serve}
-use Rattle.model.specs.Words.{Sent, Event, imageAfter}
-use Rattle.model.specs.Claims.{AllBytes}
-use Rattle.model.proofs.Demand.{bytes-reverse, same-log}
-use Rattle.model.proofs.Machine.{numberOn, cardsFrom}
-use Rattle.model.proofs.Simulation.{same-event, same-images, all-good}
+use Rattle.store_model.specs.Serve.{entryOf, serve}
+use Rattle.store_model.specs.Words.{Sent, Event, imageAfter}
+use Rattle.store_model.specs.Claims.{AllBytes}
+use Rattle.store_model.proofs.Demand.{bytes-reverse, same-log}
+use Rattle.store_model.proofs.Machine.{numberOn, cardsFrom}
+use Rattle.store_model.proofs.Simulation.{same-event, same-images, all-good}
 use Rattle.history.specs.WorkedOut.{entryFrom}
-use Rattle.history.specs.Engine.{overLimits, HISTORY-FULL, guardRows, engineRows, deducedBy, deduced}
-use Rattle.history_claims.specs.Claims.{cardFrom, cardsShown, keptAfter, engineEvents, engineLog, Keeping, KeepsAccepted, EqualsGuard, FirstFull, EngineNumbers, historyNumbers, EngineListed}
+use Rattle.history.specs.Engine.{overLimits, guardRows, engineRows, deducedBy, deduced}
+use Rattle.history_claims.specs.Claims.{cardFrom, cardsShown, keptAfter, engineEvents, engineTrace, Keeping, KeepsAccepted, EqualsGuard, FirstFull, EngineNumbers, historyNumbers, EngineListed}
 use Rattle.history_claims.proofs.Same.{Shows, shows-fresh, together, number-is, full-accepted, full-entry}
+use Rattle.numbers.specs.Numbers.{HISTORY-FULL}
 
 -- ---- what it keeps
 
 none-over : overLimits [] ≡ false
-unfolding spread
+unfolding concatMap
 none-over = refl
 
 pub keeps-accepted : KeepsAccepted
@@ -69,7 +70,7 @@ unfolding cardsShown
 shown n c kept cs s =
     rw (← s .count, ← s .room)
     (ap (λ (l : List Card). record { room = cs .room; cards = l })
-    (table-is (cardFrom kept) (cs .cards) (noCard V1) (λ i h. sym (s .each i (subst (λ (m : ℕ). i < m) (s .count) h)))))
+    (tabulate-is (cardFrom kept) (cs .cards) (noCard V1) (λ i h. sym (s .each i (subst (λ (m : ℕ). i < m) (s .count) h)))))
 
 module _ (n c : ℕ) (shape : T (shapeOk V1 n c)) (sent : List Sent) (b : AllBytes sent) where
   -- The requests, latest first, on the cards of a fresh store.
@@ -96,11 +97,11 @@ module _ (n c : ℕ) (shape : T (shapeOk V1 n c)) (sent : List Sent) (b : AllByt
       (same-event V1 cards s (all-good V1 (freshCards V1 n c) sents (freshSound V1 n c shape .good) (bytes-reverse sent [] b tt)))
 
 pub equals-guard : EqualsGuard
-unfolding engineLog
+unfolding engineTrace
 equals-guard n c shape sent b h =
     let t = together n c (freshCards V1 n c) (shows-fresh n c) (reverse sent) h in
     record {
-      log = t .log ∙ sym (same-log V1 n c shape sent b);
+      trace = t .trace ∙ sym (same-log V1 n c shape sent b);
       cards = shown n c (keptAfter n c (reverse sent)) (cards n c shape sent b) (t .cards) ∙ sym (cards-are n c shape sent b);
     }
 
@@ -112,7 +113,7 @@ unfolding deduced deducedBy
 full-reply n c kept command reply e = rw e
 
 pub first-full : FirstFull
-unfolding engineLog
+unfolding engineTrace
 first-full n c shape sent b s h g =
     let kept : List (List ℕ) = keptAfter n c (reverse sent) in
     let t = together n c (freshCards V1 n c) (shows-fresh n c) (reverse sent) h in

@@ -11,9 +11,9 @@ use Rattle.lists.proofs.Tests.{cases}
 use Rattle.commands.specs.Bytes.{fieldsOf, payload, formed}
 use Rattle.guard.specs.Replies.{replied}
 use Rattle.image.specs.Image.{Card, Cards, noCard}
-use Rattle.model.specs.Serve.{cardOf, stepped, cardsAfter}
-use Rattle.model.specs.Words.{Sent}
-use Rattle.model.proofs.Machine.{numberOn, eventBy, cardsBy, passed}
+use Rattle.store_model.specs.Serve.{cardOf, stepped, cardsAfter}
+use Rattle.store_model.specs.Words.{Sent}
+use Rattle.store_model.proofs.Machine.{numberOn, eventBy, cardsBy, passed}
 use Rattle.history_claims.specs.Swaps.{Apart}
 
 set-comm : {A : Type 0} (l : List A) (i j : ℕ) (a b : A) → i ≢ j → set (set l i a) j b ≡ set (set l j b) i a

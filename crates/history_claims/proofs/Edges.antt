@@ -1,6 +1,6 @@
 -- The worked cases at the edges, by computation. Assumes nothing.
 use mathlib.Core.Path.{refl}
-use Rattle.lists.specs.Parts.{part, splice, spread, zeros}
+use Rattle.lists.specs.Parts.{part, splice, concatMap, zeros}
 use Rattle.lists.specs.Le.{le, toLe}
 use Rattle.lists.specs.Table.{all, allFrom}
 use Rattle.commands.specs.Command.{wellFormed}
@@ -11,7 +11,7 @@ use Rattle.history.specs.Engine.{deducedBy, deduced}
 use Rattle.history_claims.specs.Edges.{HistoryEdges}
 
 pub history-edges : HistoryEdges
-unfolding highest timesWritten textFrom entryFrom deducedBy deduced replied fieldsOf payload formed commandBytes wellFormed all allFrom le toLe part splice spread zeros
+unfolding highest timesWritten textFrom entryFrom deducedBy deduced replied fieldsOf payload formed commandBytes wellFormed all allFrom le toLe part splice concatMap zeros
 history-edges =
     record {
       entry0 = refl;

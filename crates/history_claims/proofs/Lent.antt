@@ -3,12 +3,12 @@ use Prim.Native.Nat.{ℕ}
 use mathlib.Core.Path.{_≡_, refl, sym, ap, _∙_}
 use mathlib.Core.List.{List, [], _∷_, reverse}
 use Rattle.formats.specs.Format.{V1}
-use Rattle.model.specs.Words.{Sent, Event, received}
+use Rattle.store_model.specs.Words.{Sent, Event, received}
 use Rattle.lists.specs.Search.{none}
 use Rattle.stream.proofs.Place.{cut-short}
 use Rattle.stream.proofs.Commands.{commands-cut}
 use Rattle.history.specs.Engine.{deduced}
-use Rattle.history_claims.specs.Claims.{keptAfter, engineEvent, engineEvents, engineLog, gave22, cardsShown}
+use Rattle.history_claims.specs.Claims.{keptAfter, engineEvent, engineEvents, engineTrace, gave22, cardsShown}
 use Rattle.history_claims.proofs.Claims.{equals-guard}
 use Rattle.history.specs.Lent.{keptIn, historyServe}
 use Rattle.history_claims.specs.Lent.{heldAfter, eventsOver, EngineOverBytes, LentEqualsGuard}
@@ -48,11 +48,11 @@ engine-over-bytes n c bytes long (s ∷ earlier) =
     }
 
 pub lent-equals-guard : LentEqualsGuard
-unfolding engineLog
+unfolding engineTrace
 lent-equals-guard n c shape bytes long sent b h =
     let over = engine-over-bytes n c bytes long (reverse sent) in
     let both = equals-guard n c shape sent b (ap (none gave22) (sym (over .events)) ∙ h) in
     record {
-      log = over .events ∙ both .log;
+      trace = over .events ∙ both .trace;
       cards = ap (cardsShown n c) (over .kept) ∙ both .cards;
     }

@@ -20,16 +20,17 @@ use Rattle.guard.specs.declared.Entry.{Entry}
 use Rattle.guard.specs.Replies.{replied}
 use Rattle.image.specs.Image.{Card, Cards, view, noCard}
 use Rattle.image.specs.Image.{freshCards}
-use Rattle.model.specs.Serve.{cardOf, entryOf, stepped, answerBy, replyBy}
-use Rattle.model.specs.Words.{Sent, Event, received}
+use Rattle.store_model.specs.Serve.{cardOf, entryOf, stepped, answerBy, replyBy}
+use Rattle.store_model.specs.Words.{Sent, Event, received}
 use Rattle.lists.specs.Search.{any, none}
-use Rattle.model.proofs.Stepped.{seen-named}
-use Rattle.model.proofs.Machine.{numberOn, eventBy, cardsBy, cardsFrom, eventsFrom, Passed, passed, count-kept}
+use Rattle.store_model.proofs.Stepped.{seen-named}
+use Rattle.store_model.proofs.Machine.{numberOn, eventBy, cardsBy, cardsFrom, eventsFrom, Passed, passed, count-kept}
 use Rattle.history.specs.WorkedOut.{entryFrom}
-use Rattle.history.specs.Engine.{overLimits, HISTORY-FULL, guardRows, engineRows, keptBy, readFrom, deducedBy, deduced}
+use Rattle.history.specs.Engine.{overLimits, guardRows, engineRows, keptBy, readFrom, deducedBy, deduced}
 use Rattle.history_claims.specs.Claims.{cardFrom, keptAfter, engineEvent, engineEvents, gave22}
 use Rattle.history_claims.proofs.Cards.{card-here, card-other, card-none, entry-none}
 use Rattle.history.proofs.Raised.{names-one, entry-here, entry-other}
+use Rattle.numbers.specs.Numbers.{HISTORY-FULL}
 
 -- The engine shows these cards.
 pub record Shows (n c : ℕ) (kept : List (List ℕ)) (cs : Cards) : Type 0 where
@@ -144,7 +145,8 @@ module _ (n c : ℕ) (kept : List (List ℕ)) (cs : Cards) (shows : Shows n c ke
       raised =
           ap (λ (t : ℕ). view t after) (sym (names-one (s .command)))
           ∙ seen-named (cardOf V1 cs (fieldsOf V1 (s .command))) (fieldsOf V1 (s .command)) (payload V1 (s .command)) has (length-payload V1 (s .command) (known .wellFormed))
-          ∙ ap (λ (e : Entry). raise e (fieldsOf V1 (s .command))) (ap (λ (t : ℕ). view t (cardOf V1 cs (fieldsOf V1 (s .command)))) (names-one (s .command)) ∙ shows .entries place (rw (shows .count) at there))
+          ∙ ap (λ (e : Entry). raise e (fieldsOf V1 (s .command)))
+          (ap (λ (t : ℕ). view t (cardOf V1 cs (fieldsOf V1 (s .command)))) (names-one (s .command)) ∙ shows .entries place (rw (shows .count) at there))
           ∙ sym (entry-here kept (s .command) place (eq-eqb place place refl))
 
       entries : (k : ℕ) → k < n → view 0 (getD (set (cs .cards) place after) k (noCard V1)) ≡ entryFrom (s .command ∷ kept) k
@@ -183,12 +185,12 @@ module _ (n c : ℕ) (kept : List (List ℕ)) (cs : Cards) (shows : Shows n c ke
 module _ (n c : ℕ) (start : Cards) (fresh : Shows n c [] start) where
   -- As long as no event gave 22.
   pub record Together (sent : List Sent) : Type 0 where
-    pub log : engineEvents n c sent ≡ eventsFrom V1 start sent
+    pub trace : engineEvents n c sent ≡ eventsFrom V1 start sent
     pub cards : Shows n c (keptAfter n c sent) (cardsFrom V1 start sent)
 
   pub together : (sent : List Sent) → none gave22 (engineEvents n c sent) ≡ true → Together sent
   unfolding engineEvents keptAfter eventsFrom cardsFrom
-  together [] h = record { log = refl; cards = fresh }
+  together [] h = record { trace = refl; cards = fresh }
   together (s ∷ earlier) h =
       let kept : List (List ℕ) = keptAfter n c earlier in
       let both = or-fails (gave22 (engineEvent s (deduced n c kept (s .command) (s .lent)))) (any gave22 (engineEvents n c earlier)) (not-true _ h) in
@@ -196,8 +198,8 @@ module _ (n c : ℕ) (start : Cards) (fresh : Shows n c [] start) where
       let other : number n c kept (cardsFrom V1 start earlier) (rest .cards) s ≢ HISTORY-FULL =
       λ z. eqb-false _ HISTORY-FULL (both .0) (number-is n c kept (cardsFrom V1 start earlier) (rest .cards) s ∙ z) in
       record {
-        log =
+        trace =
             ap (λ (e : Event). e ∷ engineEvents n c earlier) (same-event n c kept (cardsFrom V1 start earlier) (rest .cards) s other)
-            ∙ ap (λ (l : List Event). eventBy V1 (numberOn V1 (cardsFrom V1 start earlier) s) (cardsFrom V1 start earlier) s ∷ l) (rest .log);
+            ∙ ap (λ (l : List Event). eventBy V1 (numberOn V1 (cardsFrom V1 start earlier) s) (cardsFrom V1 start earlier) s ∷ l) (rest .trace);
         cards = shows-more n c kept (cardsFrom V1 start earlier) (rest .cards) s other;
       }

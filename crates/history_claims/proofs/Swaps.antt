@@ -10,13 +10,13 @@ use Rattle.lists.proofs.Tests.{cases, to-T}
 use Rattle.image.specs.Image.{Cards, encode, decode, sound}
 use Rattle.image.specs.Image.{GoodCards}
 use Rattle.image_claims.proofs.Claims.{soundReadsBack}
-use Rattle.model.specs.Serve.{serve}
-use Rattle.model.specs.Words.{Sent, Event, eventOf, imageAfter, history}
-use Rattle.model.specs.Claims.{SentBytes}
-use Rattle.model.proofs.Machine.{numberOn, cardsBy}
-use Rattle.model.proofs.Simulation.{good-more, same-event, same-image}
-use Rattle.model.proofs.Sound.{bytes-all}
-use Rattle.model.proofs.Versions.{turned}
+use Rattle.store_model.specs.Serve.{serve}
+use Rattle.store_model.specs.Words.{Sent, Event, eventOf, imageAfter, traceFrom}
+use Rattle.store_model.specs.Claims.{SentBytes}
+use Rattle.store_model.proofs.Machine.{numberOn, cardsBy}
+use Rattle.store_model.proofs.Simulation.{good-more, same-event, same-image}
+use Rattle.store_model.proofs.Sound.{bytes-all}
+use Rattle.store_model.proofs.Versions.{turned}
 use Rattle.history_claims.specs.Swaps.{swap, Apart, Swapping}
 use Rattle.history_claims.proofs.Commute.{unseen-event, unseen-number, same-cards}
 
@@ -92,22 +92,22 @@ module _ (v : Format) where
 -- ---- lists of requests
 
 pub swapping : Swapping
-unfolding imageAfter history swap
-swapping v start bs [] b zero apart = record { image = refl; log = refl }
-swapping v start bs [] b (suc i) apart = record { image = refl; log = refl }
-swapping v start bs (s ∷ []) b zero apart = record { image = refl; log = refl }
+unfolding imageAfter traceFrom swap
+swapping v start bs [] b zero apart = record { image = refl; trace = refl }
+swapping v start bs [] b (suc i) apart = record { image = refl; trace = refl }
+swapping v start bs (s ∷ []) b zero apart = record { image = refl; trace = refl }
 swapping v start bs (s ∷ t ∷ earlier) b zero apart =
     let image : List ℕ = imageAfter v start earlier in
     let x = exchanged v image (bytes-all v start earlier bs (b .1 .1)) s t (b .0) (b .1 .0) apart in
     record {
       image = x .image-same;
-      log = rw (x .first, x .second);
+      trace = rw (x .first, x .second);
     }
 swapping v start bs (s ∷ earlier) b (suc i) apart =
     let rest = swapping v start bs earlier (b .1) i apart in
     record {
       image = ap (λ (image : List ℕ). imageBy v image s) (rest .image);
-      log =
-          ap (λ (image : List ℕ). event v image s ∷ history v start (swap i earlier)) (rest .image)
-          ∙ ap (λ (log : List Event). event v (imageAfter v start earlier) s ∷ log) (rest .log);
+      trace =
+          ap (λ (image : List ℕ). event v image s ∷ traceFrom v start (swap i earlier)) (rest .image)
+          ∙ ap (λ (trace : List Event). event v (imageAfter v start earlier) s ∷ trace) (rest .trace);
     }

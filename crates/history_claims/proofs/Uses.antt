@@ -6,8 +6,8 @@ use mathlib.Core.Path.{_≡_}
 use mathlib.Core.List.{List, [], _∷_, map}
 use mathlib.Core.Bool.{false}
 use lib.ListN.{length, replicate, length-replicate}
-use Rattle.lists.specs.Search.{those}
-use Rattle.model.specs.Words.{Event}
+use Rattle.lists.specs.Search.{filter}
+use Rattle.store_model.specs.Words.{Event}
 use Rattle.history.specs.Engine.{overLimits, deduced}
 use Rattle.history.specs.Lent.{historySize, keptIn, historyServe}
 use Rattle.history_claims.specs.Claims.{keptAfter, engineEvents, wasAccepted, EngineNumber}
@@ -19,10 +19,10 @@ use Rattle.history_claims.proofs.Lent.{engine-over-bytes}
 
 -- No shape is asked for: with no card and no room, and with one malformed request, the engine keeps what it accepted
 -- and is within its limits.
-accepted-none : keptAfter 0 0 [] ≡ map (λ (e : Event). e .sent .command) (those wasAccepted (engineEvents 0 0 []))
+accepted-none : keptAfter 0 0 [] ≡ map (λ (e : Event). e .sent .command) (filter wasAccepted (engineEvents 0 0 []))
 accepted-none = keeps-accepted 0 0 [] .those-accepted
 
-accepted-malformed : keptAfter 0 0 (malformed ∷ []) ≡ map (λ (e : Event). e .sent .command) (those wasAccepted (engineEvents 0 0 (malformed ∷ [])))
+accepted-malformed : keptAfter 0 0 (malformed ∷ []) ≡ map (λ (e : Event). e .sent .command) (filter wasAccepted (engineEvents 0 0 (malformed ∷ [])))
 accepted-malformed = keeps-accepted 0 0 (malformed ∷ []) .those-accepted
 
 within-none : overLimits (keptAfter 0 0 []) ≡ false

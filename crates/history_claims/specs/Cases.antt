@@ -11,11 +11,11 @@ use Rattle.lists.specs.Le.{toLe}
 use Rattle.lists.specs.Search.{none}
 use Rattle.stamps.specs.Stamp.{shared, exclusive}
 use Rattle.image.specs.Image.{fresh}
-use Rattle.model.specs.Words.{Sent}
-use Rattle.model.specs.Cases.{pair, request, got, stamp1, stamp2, verify, verifyOpening, writeOriginal, writeTranslation, readOriginal, text205, text401, long, names, gotIn, letters, writesIn, readsIn, run, Got}
+use Rattle.store_model.specs.Words.{Sent}
+use Rattle.store_model.specs.Cases.{pair, request, got, stamp1, stamp2, verify, verifyOpening, writeOriginal, writeTranslation, readOriginal, text205, text401, long, names, gotIn, letters, writesIn, readsIn, run, Got}
 use Rattle.history.specs.Engine.{overLimits, deduced}
 use Rattle.history.specs.Lent.{historySize, keptIn, historyServe}
-use Rattle.history_claims.specs.Claims.{keptAfter, engineEvent, engineLog, gave22, EqualSoFar, FirstRefusal}
+use Rattle.history_claims.specs.Claims.{keptAfter, engineEvent, engineTrace, gave22, EqualSoFar, FirstRefusal}
 use Rattle.history_claims.specs.Lent.{LentEqual}
 use Rattle.history_claims.specs.Swaps.{Undisturbed, SameByCard}
 
@@ -40,7 +40,7 @@ again = verify shared stamp1 0
 
 -- From a fresh store with N 1 and C 16, 200 of them are answered as by the store, from nothing kept or from lent zeros. The next is the first to get 22.
 pub record TwoHundred : Type 0 where
-  pub until : none gave22 (engineLog 1 16 (replicate 200 again)) ≡ true
+  pub until : none gave22 (engineTrace 1 16 (replicate 200 again)) ≡ true
   pub equal : EqualSoFar 1 16 (replicate 200 again)
   pub lent-equal : LentEqual 1 16 (replicate historySize 0) (replicate 200 again)
   pub next : gave22 (engineEvent again (deduced 1 16 (keptAfter 1 16 (reverse (replicate 200 again))) (again .command) (again .lent))) ≡ true

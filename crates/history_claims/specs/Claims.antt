@@ -8,19 +8,20 @@ use mathlib.Core.Bool.{Bool, true, false}
 use lib.ListN.{length}
 use lib.Dec.{T, eqb}
 use Rattle.formats.specs.Format.{V1}
-use Rattle.lists.specs.Parts.{table}
-use Rattle.lists.specs.Search.{none, those}
+use Rattle.lists.specs.Parts.{tabulate}
+use Rattle.lists.specs.Search.{none, filter}
 use Rattle.lists.specs.Table.{applies, earlier, noRow, listed}
 use Rattle.commands.specs.Command.{original, translation}
 use Rattle.commands.specs.Bytes.{fieldsOf}
 use Rattle.guard.specs.Replies.{replied}
 use Rattle.image.specs.Layout.{shapeOk}
 use Rattle.image.specs.Image.{fresh, Card, Cards, decode}
-use Rattle.model.specs.Serve.{entryOf, serve}
-use Rattle.model.specs.Words.{Sent, Event, imageAfter, logOf, received}
-use Rattle.model.specs.Claims.{AllBytes}
+use Rattle.store_model.specs.Serve.{entryOf, serve}
+use Rattle.store_model.specs.Words.{Sent, Event, imageAfter, traceOf, received}
+use Rattle.store_model.specs.Claims.{AllBytes}
 use Rattle.history.specs.WorkedOut.{entryFrom, textFrom}
-use Rattle.history.specs.Engine.{overLimits, HISTORY-FULL, Deduced, guardRows, engineRows, deduced}
+use Rattle.history.specs.Engine.{overLimits, Deduced, guardRows, engineRows, deduced}
+use Rattle.numbers.specs.Numbers.{HISTORY-FULL}
 
 -- ---- the engine over a list of requests, at first with nothing kept
 
@@ -39,9 +40,9 @@ engineEvents n c [] = []
 engineEvents n c (s ∷ earlier) =
     engineEvent s (deduced n c (keptAfter n c earlier) (s .command) (s .lent)) ∷ engineEvents n c earlier
 
--- The log of requests in the order in which they are sent.
-unfoldable pub engineLog : ℕ → ℕ → List Sent → List Event
-engineLog n c sent = engineEvents n c (reverse sent)
+-- The trace of requests in the order in which they are sent.
+unfoldable pub engineTrace : ℕ → ℕ → List Sent → List Event
+engineTrace n c sent = engineEvents n c (reverse sent)
 
 -- An event was accepted; one found the history full.
 abbrev pub wasAccepted : Event → Bool
@@ -62,13 +63,13 @@ cardFrom kept k =
     }
 
 unfoldable pub cardsShown : ℕ → ℕ → List (List ℕ) → Cards
-cardsShown n c kept = record { room = c; cards = table (cardFrom kept) n }
+cardsShown n c kept = record { room = c; cards = tabulate (cardFrom kept) n }
 
 -- ---- what it keeps (rules 14.1 and 14.2)
 
 -- It keeps the commands that it accepted, each once and in order, and never passes a limit.
 pub record Keeping (n c : ℕ) (sent : List Sent) : Type 0 where
-  pub those-accepted : keptAfter n c sent ≡ map (λ (e : Event). e .sent .command) (those wasAccepted (engineEvents n c sent))
+  pub those-accepted : keptAfter n c sent ≡ map (λ (e : Event). e .sent .command) (filter wasAccepted (engineEvents n c sent))
   pub within-limits : overLimits (keptAfter n c sent) ≡ false
 
 abbrev pub KeepsAccepted : Type 0
@@ -76,14 +77,14 @@ KeepsAccepted = (n c : ℕ) (sent : List Sent) → Keeping n c sent
 
 -- ---- equal to the guard until the first 22 (rule 14.10)
 
--- Requests to a fresh store and to the engine: one log, with every number, field and reply buffer, and one set of cards, with every text.
+-- Requests to a fresh store and to the engine: one trace, with every number, field and reply buffer, and one set of cards, with every text.
 pub record EqualSoFar (n c : ℕ) (sent : List Sent) : Type 0 where
-  pub log : engineLog n c sent ≡ logOf V1 n c sent
+  pub trace : engineTrace n c sent ≡ traceOf V1 n c sent
   pub cards : cardsShown n c (keptAfter n c (reverse sent)) ≡ decode V1 (imageAfter V1 (fresh V1 n c) (reverse sent))
 
 abbrev pub EqualsGuard : Type 0
 EqualsGuard =
-    (n c : ℕ) → T (shapeOk V1 n c) → (sent : List Sent) → AllBytes sent → none gave22 (engineLog n c sent) ≡ true → EqualSoFar n c sent
+    (n c : ℕ) → T (shapeOk V1 n c) → (sent : List Sent) → AllBytes sent → none gave22 (engineTrace n c sent) ≡ true → EqualSoFar n c sent
 
 -- ---- the first 22 (rule 14.11)
 
@@ -97,7 +98,7 @@ pub record FirstRefusal (n c : ℕ) (sent : List Sent) (s : Sent) : Type 0 where
 abbrev pub FirstFull : Type 0
 FirstFull =
     (n c : ℕ) → T (shapeOk V1 n c) → (sent : List Sent) → AllBytes sent → (s : Sent)
-    → none gave22 (engineLog n c sent) ≡ true
+    → none gave22 (engineTrace n c sent) ≡ true
     → gave22 (engineEvent s (deduced n c (keptAfter n c (reverse sent)) (s .command) (s .lent))) ≡ true
     → FirstRefusal n c sent s
 

@@ -8,8 +8,8 @@ use lib.ListN.{length, replicate}
 use Rattle.stamps.specs.Stamp.{shared, exclusive, noPair, noMark}
 use Rattle.guard.specs.declared.Entry.{Entry}
 use Rattle.commands.specs.Command.{original, translation}
-use Rattle.model.specs.Words.{Sent}
-use Rattle.model.specs.Cases.{pair, stamp1, stamp2, stamp3, markOf, withPairs, sends, verify, text205, text401, request, long, got}
+use Rattle.store_model.specs.Words.{Sent}
+use Rattle.store_model.specs.Cases.{pair, stamp1, stamp2, stamp3, markOf, withPairs, sends, verify, text205, text401, request, long, got}
 use Rattle.history.specs.WorkedOut.{entryFrom, textFrom}
 use Rattle.history.specs.Engine.{deduced}
 

@@ -10,8 +10,8 @@ use Rattle.formats.specs.Format.{V1}
 use Rattle.lists.specs.Search.{none}
 use Rattle.image.specs.Layout.{shapeOk}
 use Rattle.image.specs.Image.{fresh, decode}
-use Rattle.model.specs.Words.{Sent, Event, imageAfter, logOf, received}
-use Rattle.model.specs.Claims.{AllBytes}
+use Rattle.store_model.specs.Words.{Sent, Event, imageAfter, traceOf, received}
+use Rattle.store_model.specs.Claims.{AllBytes}
 use Rattle.history.specs.Engine.{deduced}
 use Rattle.history.specs.Lent.{historySize, keptIn, HistoryOutcome, historyServe}
 use Rattle.history_claims.specs.Claims.{keptAfter, engineEvents, gave22, cardsShown}
@@ -65,7 +65,7 @@ EngineOverBytes = (n c : ℕ) (bytes : List ℕ) → length bytes ≡ historySiz
 
 -- Equal to the guard until the first 22, in the terms of the exported operation. Rule 14.10.
 pub record LentEqual (n c : ℕ) (bytes : List ℕ) (sent : List Sent) : Type 0 where
-  pub log : eventsOver n c bytes (reverse sent) ≡ logOf V1 n c sent
+  pub trace : eventsOver n c bytes (reverse sent) ≡ traceOf V1 n c sent
   pub cards :
       cardsShown n c (keptIn (heldAfter n c bytes (reverse sent) .bytes) (heldAfter n c bytes (reverse sent) .used))
       ≡ decode V1 (imageAfter V1 (fresh V1 n c) (reverse sent))

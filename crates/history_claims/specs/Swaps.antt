@@ -7,10 +7,10 @@ use mathlib.Core.List.{List, [], _∷_}
 use mathlib.Core.Bool.{Bool, true}
 use Rattle.formats.specs.Format.{Format}
 use Rattle.lists.specs.Parts.{Bytes}
-use Rattle.lists.specs.Search.{those}
+use Rattle.lists.specs.Search.{filter}
 use Rattle.commands.specs.Bytes.{fieldsOf, formed}
-use Rattle.model.specs.Words.{Sent, Event, imageAfter, history, received, formedFor}
-use Rattle.model.specs.Claims.{AllBytes}
+use Rattle.store_model.specs.Words.{Sent, Event, imageAfter, traceFrom, received, formedFor}
+use Rattle.store_model.specs.Claims.{AllBytes}
 
 -- ---- two neighbours swapped (rule 14.12)
 
@@ -35,11 +35,11 @@ ApartAt v zero [] = Unit {0}
 ApartAt v (suc i) (a ∷ l) = ApartAt v i l
 ApartAt v (suc i) [] = Unit {0}
 
--- With those two swapped, the last image is the same, and so is each request's own event, its answer and its reply buffer: the log is the old log with
+-- With those two swapped, the last image is the same, and so is each request's own event, its answer and its reply buffer: the trace is the old trace with
 -- the two events swapped.
 pub record Undisturbed (v : Format) (start : List ℕ) (sent : List Sent) (i : ℕ) : Type 0 where
   pub image : imageAfter v start (swap i sent) ≡ imageAfter v start sent
-  pub log : history v start (swap i sent) ≡ swap i (history v start sent)
+  pub trace : traceFrom v start (swap i sent) ≡ swap i (traceFrom v start sent)
 
 -- Of either version, from any image, sound or not, whatever each request gets.
 abbrev pub Swapping : Type 0
@@ -54,7 +54,7 @@ sentFor v k s = formedFor k (received v s)
 
 -- Two lists have the same sequence of requests for each card. Malformed ones do not count.
 abbrev pub SameSequences : Format → List Sent → List Sent → Type 0
-SameSequences v a b = (k : ℕ) → those (sentFor v k) a ≡ those (sentFor v k) b
+SameSequences v a b = (k : ℕ) → filter (sentFor v k) a ≡ filter (sentFor v k) b
 
 -- An event of a well-formed request for card k.
 abbrev pub eventFor : ℕ → Event → Bool
@@ -63,7 +63,7 @@ eventFor k e = formedFor k (e .read)
 -- Then they leave the same image, and the requests for each card see the same, one by one.
 pub record SameByCard (v : Format) (start : List ℕ) (a b : List Sent) : Type 0 where
   pub image : imageAfter v start a ≡ imageAfter v start b
-  pub events : (k : ℕ) → those (eventFor k) (history v start a) ≡ those (eventFor k) (history v start b)
+  pub events : (k : ℕ) → filter (eventFor k) (traceFrom v start a) ≡ filter (eventFor k) (traceFrom v start b)
 
 abbrev pub Sequences : Type 0
 Sequences =

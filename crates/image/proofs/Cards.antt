@@ -10,13 +10,13 @@ use borrow.Author.Tests.{eq-eqb, eqb-true, eqb-false}
 use lib.Dec.{eqb, lit≤, lit<}
 use lib.ListN.{length, take, getD, set, replicate, length-set}
 use lib.Seq.{getD-set-same, getD-set-other}
-use Rattle.lists.specs.Parts.{part, spread, table, every, zeros, Bytes}
+use Rattle.lists.specs.Parts.{part, concatMap, tabulate, every, zeros, Bytes}
 use Rattle.lists.specs.Le.{le, toLe, field}
 use Rattle.lists.specs.Table.{all, allFrom}
 use Rattle.lists.proofs.Bytes.{Bytes-append, Bytes-replicate, Bytes-take, zeros-replicate}
 use Rattle.lists.proofs.Every.{every-in}
 use Rattle.lists.proofs.Le.{Bytes-toLe}
-use Rattle.lists.proofs.Spread.{Bytes-spread, table-is, length-table, getD-table}
+use Rattle.lists.proofs.ConcatMap.{Bytes-concatMap, tabulate-is, length-tabulate, getD-tabulate}
 use Rattle.lists.proofs.Tests.{cases, from-T, and-in}
 use Rattle.guard.specs.Entry.{entrySound}
 use Rattle.guard.specs.declared.Entry.{Entry}
@@ -24,7 +24,30 @@ use Rattle.formats.specs.Format.{Format, V1, V2, version, translations, entrySi
 use Rattle.commands.specs.Bytes.{pairBytes}
 use Rattle.image.specs.Layout.{sides, shapeOk, sizeOf, entryPlace, entryEnd, bodyPlace}
 use Rattle.image.specs.Bytes.{magic, headerNumbers, header, entryMark, entryCounts, entryBytes, pad, countOf, roomOf, readEntry, entryAt}
-use Rattle.image.specs.Image.{Card, Cards, translationOf, view, sideText, withCard, noCard, noTranslation, cardEntry, bodies, encode, bodyAt, translationAt, cardAt, decode, tailZero, translationSound, cardSound, headerSound, sound, GoodCard, GoodCards}
+use Rattle.image.specs.Image.{
+  Card,
+  Cards,
+  translationOf,
+  view,
+  sideText,
+  withCard,
+  noCard,
+  noTranslation,
+  cardEntry,
+  bodies,
+  encode,
+  bodyAt,
+  translationAt,
+  cardAt,
+  decode,
+  tailZero,
+  translationSound,
+  cardSound,
+  headerSound,
+  sound,
+  GoodCard,
+  GoodCards,
+}
 use Rattle.image.proofs.Bytes.{lengths}
 use Rattle.image.proofs.Shape.{shape, some-translation}
 use Rattle.image.proofs.Encode.{part-whole, length-entryBytes, length-encode, part-header, countOf-encode, roomOf-encode, part-entry, part-body}
@@ -49,10 +72,10 @@ unfolding entryBytes
 Bytes-entry f see =
     let e = see 0 in
     let mark = toLe 2 (e .mark .desk) ++ toLe 2 0 in
-    Bytes-append (pairBytes (e .pair) ++ entryMark (e .mark)) (spread (toLe 2) (entryCounts f see))
+    Bytes-append (pairBytes (e .pair) ++ entryMark (e .mark)) (concatMap (toLe 2) (entryCounts f see))
     (Bytes-append (pairBytes (e .pair)) (entryMark (e .mark)) (then (toLe 8 (e .pair .s)) 8 (e .pair .x) (Bytes-toLe 8 (e .pair .s)))
     (then mark 4 (e .mark .transaction) (then (toLe 2 (e .mark .desk)) 2 0 (Bytes-toLe 2 (e .mark .desk)))))
-    (Bytes-spread (toLe 2) (entryCounts f see) 0 (λ i below. Bytes-toLe 2 (getD (entryCounts f see) i 0)))
+    (Bytes-concatMap (toLe 2) (entryCounts f see) 0 (λ i below. Bytes-toLe 2 (getD (entryCounts f see) i 0)))
 
 Bytes-pad : (room : ℕ) (t : List ℕ) → Bytes t → Bytes (pad room t)
 unfolding pad
@@ -62,8 +85,8 @@ Bytes-bodies : (f : Format) (room : ℕ) (card : Card) → ((side : ℕ) → Byt
 unfolding bodies
 Bytes-bodies f room card b =
     let texts : ℕ → List ℕ = λ (side : ℕ). sideText side card in
-    Bytes-spread (pad room) (table texts (sides f)) []
-    (λ i below. rw (getD-table texts (sides f) i [] (rw (length-table texts (sides f)) at below)) (Bytes-pad room (texts i) (b i)))
+    Bytes-concatMap (pad room) (tabulate texts (sides f)) []
+    (λ i below. rw (getD-tabulate texts (sides f) i [] (rw (length-tabulate texts (sides f)) at below)) (Bytes-pad room (texts i) (b i)))
 
 -- ---- cards
 
@@ -83,7 +106,7 @@ good-with f cs k card g h =
 
 -- What stands behind an entry's numbers.
 entry-blank : (f : Format) (see : ℕ → Entry) → zeros (part (entryEnd f) (entrySize f - entryEnd f) (entryBytes f see)) ≡ true
-unfolding entryBytes toLe part spread table zeros
+unfolding entryBytes toLe part concatMap tabulate zeros
 entry-blank V1 see = refl
 entry-blank V2 see = refl
 
@@ -182,10 +205,10 @@ module _ (f : Format) (cs : Cards) (good : GoodCards f cs) where
     translation-encode : (t : ℕ) → t < translations f → translationAt f (encode f cs) k t ≡ translationOf t card
     translation-encode t h = rw (entryAt-encode t h, text-encode (suc t) (omega arith))
 
-    translated-encode : table (translationAt f (encode f cs) k) (translations f) ≡ card .translated
+    translated-encode : tabulate (translationAt f (encode f cs) k) (translations f) ≡ card .translated
     translated-encode =
-        ap (table (translationAt f (encode f cs) k)) (sym (good .each k below .count))
-        ∙ table-is (translationAt f (encode f cs) k) (card .translated) noTranslation
+        ap (tabulate (translationAt f (encode f cs) k)) (sym (good .each k below .count))
+        ∙ tabulate-is (translationAt f (encode f cs) k) (card .translated) noTranslation
         (λ t h. translation-encode t (subst (λ (n : ℕ). t < n) (good .each k below .count) h))
 
     pub cardAt-encode : cardAt f (encode f cs) k ≡ card
@@ -215,7 +238,7 @@ module _ (f : Format) (cs : Cards) (good : GoodCards f cs) where
 
   pub decode-encode : decode f (encode f cs) ≡ cs
   unfolding decode
-  decode-encode = rw (count-back, room-back, table-is (cardAt f (encode f cs)) (cs .cards) (noCard f) (λ k below. cardAt-encode k below))
+  decode-encode = rw (count-back, room-back, tabulate-is (cardAt f (encode f cs)) (cs .cards) (noCard f) (λ k below. cardAt-encode k below))
 
   -- ---- bytes
 
@@ -224,9 +247,9 @@ module _ (f : Format) (cs : Cards) (good : GoodCards f cs) where
   Bytes-encode =
       let room = cs .room in
       let cards = cs .cards in
-      let entries = spread (cardEntry f) cards in
-      Bytes-append (header f (length cards) room ++ entries) (spread (bodies f room) cards)
+      let entries = concatMap (cardEntry f) cards in
+      Bytes-append (header f (length cards) room ++ entries) (concatMap (bodies f room) cards)
       (Bytes-append (header f (length cards) room) entries (Bytes-header f (length cards) room)
-      (Bytes-spread (cardEntry f) cards (noCard f) (λ k below. Bytes-entry f (λ (t : ℕ). view t (getD cards k (noCard f))))))
-      (Bytes-spread (bodies f room) cards (noCard f)
+      (Bytes-concatMap (cardEntry f) cards (noCard f) (λ k below. Bytes-entry f (λ (t : ℕ). view t (getD cards k (noCard f))))))
+      (Bytes-concatMap (bodies f room) cards (noCard f)
       (λ k below. Bytes-bodies f room (getD cards k (noCard f)) (good .each k below .bytes)))

@@ -9,20 +9,41 @@ use mathlib.Core.Logic.{_⊎_, inl, inr}
 use borrow.Author.Tests.{eqb-true, ltb-true, ltb-false}
 use lib.Dec.{T, ltb}
 use lib.ListN.{length, getD, replicate, List·getD-eq-default}
-use Rattle.lists.specs.Parts.{part, spread, table, every, zeros, Bytes}
+use Rattle.lists.specs.Parts.{part, concatMap, tabulate, every, zeros, Bytes}
 use Rattle.lists.specs.Le.{le, toLe, field}
 use Rattle.lists.proofs.Bytes.{Bytes-nil, Bytes-part, zeros-means}
 use Rattle.lists.proofs.Every.{every-out}
 use Rattle.lists.proofs.Le.{le-injective, le-part-bound, Bytes-toLe}
 use Rattle.lists.proofs.Parts.{length-part, part-part, part-join}
-use Rattle.lists.proofs.Spread.{spread-parts, length-table, getD-table}
+use Rattle.lists.proofs.ConcatMap.{concatMap-parts, length-tabulate, getD-tabulate}
 use Rattle.lists.proofs.Tests.{and-left, and-right, all-out, cases, from-T, to-T}
 use Rattle.guard.specs.Entry.{entrySound, FitsEntry}
 use Rattle.guard.specs.declared.Entry.{Entry}
 use Rattle.formats.specs.Format.{Format, version, translations, entrySize, fromsAt, originalAt, lengthsAt}
 use Rattle.image.specs.Layout.{sides, shapeOk, sizeOf, mostBytes, headerSize, entryPlace, entryEnd, bodyPlace}
 use Rattle.image.specs.Bytes.{magic, header, pad, countOf, roomOf, readEntry, entryAt}
-use Rattle.image.specs.Image.{Translation, view, translationOf, noTranslation, noCard, sideText, cardEntry, bodies, encode, bodyAt, translationAt, cardAt, decode, tailZero, translationSound, cardSound, headerSound, sound, GoodCard, GoodCards}
+use Rattle.image.specs.Image.{
+  Translation,
+  view,
+  translationOf,
+  noTranslation,
+  noCard,
+  sideText,
+  cardEntry,
+  bodies,
+  encode,
+  bodyAt,
+  translationAt,
+  cardAt,
+  decode,
+  tailZero,
+  translationSound,
+  cardSound,
+  headerSound,
+  sound,
+  GoodCard,
+  GoodCards,
+}
 use Rattle.image.proofs.Shape.{Shape, shape, some-translation, entry-within, body-within}
 use Rattle.image.proofs.Encode.{part-whole}
 use Rattle.image.proofs.Entry.{again, entryBytes-read, entryBytes-ext, pad-read}
@@ -46,7 +67,7 @@ module _ (f : Format) (image : List ℕ) where
   -- The cards that an image holds, by their number, their room and their places.
   pub count-decode : length (decode f image .cards) ≡ countOf image
   unfolding decode
-  count-decode = length-table (cardAt f image) (countOf image)
+  count-decode = length-tabulate (cardAt f image) (countOf image)
 
   pub room-decode : decode f image .room ≡ roomOf image
   unfolding decode
@@ -54,7 +75,7 @@ module _ (f : Format) (image : List ℕ) where
 
   pub card-decode : (k : ℕ) → k < countOf image → getD (decode f image .cards) k (noCard f) ≡ cardAt f image k
   unfolding decode
-  card-decode k below = getD-table (cardAt f image) (countOf image) k (noCard f) below
+  card-decode k below = getD-tabulate (cardAt f image) (countOf image) k (noCard f) below
 
   -- The entry has one pair, one mark, one edition and one original, in whatever language it is seen.
   pub pair-same : (k t : ℕ) → entryAt f image k t .pair ≡ entryAt f image k 0 .pair
@@ -63,7 +84,7 @@ module _ (f : Format) (image : List ℕ) where
 
   pub translation-at : (k t : ℕ) → t < translations f → translationOf t (cardAt f image k) ≡ translationAt f image k t
   unfolding cardAt
-  translation-at k t h = getD-table (translationAt f image k) (translations f) t noTranslation h
+  translation-at k t h = getD-tabulate (translationAt f image k) (translations f) t noTranslation h
 
   module _ (holds : T (sound f image)) where
     pub header-holds : headerSound f image ≡ true
@@ -190,7 +211,8 @@ Bytes-translations f image k t b = go (cases (ltb t (translations f)))
         (Bytes-part (bodyPlace f (countOf image) (roomOf image) k (suc t)) (entryAt f image k t .translation) image b)
     go (inr h) =
         subst (λ (u : Translation). Bytes (u .text))
-        (sym (List·getD-eq-default (table (translationAt f image k) (translations f)) noTranslation (omega (arith, length-table (translationAt f image k) (translations f), ltb-false t (translations f) h))))
+        (sym (List·getD-eq-default (tabulate (translationAt f image k) (translations f)) noTranslation
+        (omega (arith, length-tabulate (translationAt f image k) (translations f), ltb-false t (translations f) h))))
         Bytes-nil
 
 module _ (f : Format) (image : List ℕ) (b : Bytes image) (holds : T (sound f image)) where
@@ -221,7 +243,7 @@ module _ (f : Format) (image : List ℕ) (b : Bytes image) (holds : T (sound f i
         ≡ part (headerSize + entrySize f * countOf image + k * (sides f * roomOf image)) (sides f * roomOf image) image
     unfolding bodies
     bodies-back =
-        spread-parts (pad (roomOf image)) (λ (side : ℕ). sideText side (cardAt f image k))
+        concatMap-parts (pad (roomOf image)) (λ (side : ℕ). sideText side (cardAt f image k))
         (headerSize + entrySize f * countOf image + k * (sides f * roomOf image)) (roomOf image) image (sides f)
         (λ side h. body-back side h ∙ ap (λ (at : ℕ). part at (roomOf image) image) (place side))
       where
@@ -240,7 +262,7 @@ module _ (f : Format) (image : List ℕ) (b : Bytes image) (holds : T (sound f i
         }
       where
         many : length (cardAt f image k .translated) ≡ translations f
-        many = length-table (translationAt f image k) (translations f)
+        many = length-tabulate (translationAt f image k) (translations f)
 
         own : (side : ℕ) → Bytes (sideText side (cardAt f image k))
         own zero = Bytes-part (bodyPlace f (countOf image) (roomOf image) k 0) (entryAt f image k 0 .original) image b
@@ -264,9 +286,9 @@ module _ (f : Format) (image : List ℕ) (b : Bytes image) (holds : T (sound f i
       joined one two (again 6 2 image b (omega arith)) (again 8 2 image b (omega arith)) five
       ∙ rw (← part-join 0 4 2 image, ← part-join 0 6 2 image, ← part-join 0 8 2 image, ← part-join 0 10 6 image)
 
-  entries-back : spread (cardEntry f) (table (cardAt f image) (countOf image)) ≡ part headerSize (countOf image * entrySize f) image
+  entries-back : concatMap (cardEntry f) (tabulate (cardAt f image) (countOf image)) ≡ part headerSize (countOf image * entrySize f) image
   entries-back =
-      spread-parts (cardEntry f) (cardAt f image) headerSize (entrySize f) image (countOf image)
+      concatMap-parts (cardEntry f) (cardAt f image) headerSize (entrySize f) image (countOf image)
       (λ k below. entry-back k below ∙ ap (λ (at : ℕ). part at (entrySize f) image) (place k))
     where
       place : (k : ℕ) → entryPlace f k ≡ headerSize + k * entrySize f
@@ -277,17 +299,17 @@ module _ (f : Format) (image : List ℕ) (b : Bytes image) (holds : T (sound f i
   encode-decode =
       let n = countOf image in
       let c = roomOf image in
-      let cards = table (cardAt f image) n in
+      let cards = tabulate (cardAt f image) n in
       let size : headerSize + n * entrySize f + n * (sides f * c) ≡ length image = rw (long f image holds) (omega arith) in
       let place : headerSize + entrySize f * n ≡ headerSize + n * entrySize f = omega arith in
       let front = headerSize + n * entrySize f in
       let whole : part 0 front image ++ part front (n * (sides f * c)) image ≡ part 0 (front + n * (sides f * c)) image =
       sym (part-join 0 front (n * (sides f * c)) image ∙ rw zero-add) in
       rw (
-        length-table (cardAt f image) n,
+        length-tabulate (cardAt f image) n,
         header-back,
         entries-back,
-        spread-parts (bodies f c) (cardAt f image) (headerSize + entrySize f * n) (sides f * c) image n (λ k below. bodies-back k below),
+        concatMap-parts (bodies f c) (cardAt f image) (headerSize + entrySize f * n) (sides f * c) image n (λ k below. bodies-back k below),
         place,
         ← part-join 0 headerSize (n * entrySize f) image,
         whole,

@@ -6,11 +6,11 @@ use lib.Dec.{lit≤}
 use mathlib.Core.Path.{_≡_, refl, sym, ap, _∙_}
 use mathlib.Core.List.{List, _++_}
 use lib.ListN.{length, getD, length-append, length-take, length-replicate}
-use Rattle.lists.specs.Parts.{part, spread, table}
+use Rattle.lists.specs.Parts.{part, concatMap, tabulate}
 use Rattle.lists.specs.Le.{le, toLe}
 use Rattle.lists.proofs.Le.{le-toLe}
 use Rattle.lists.proofs.Parts.{part-part, part-append-left, part-append-right, part-all}
-use Rattle.lists.proofs.Spread.{length-spread, part-spread, length-table, part-spread-table}
+use Rattle.lists.proofs.ConcatMap.{length-concatMap, part-concatMap, length-tabulate, part-concatMap-tabulate}
 use Rattle.guard.specs.declared.Entry.{Entry}
 use Rattle.formats.specs.Format.{Format, V1, V2, entrySize}
 use Rattle.image.specs.Layout.{sizeOf, headerSize, sides, entryPlace, bodyPlace}
@@ -25,13 +25,13 @@ module _ {A : Type 0} where
 
 module _ {A B : Type 0} (f : A → List B) (w : ℕ) (wide : (a : A) → length (f a) ≡ w) (l : List A) (k : ℕ) (h : k < length l) where
   -- A part of piece k.
-  pub part-piece : (i n : ℕ) (d : A) → i + n ≤ w → part (k * w + i) n (spread f l) ≡ part i n (f (getD l k d))
-  part-piece i n d g = sym (part-part (k * w) w i n (spread f l) g) ∙ ap (part i n) (part-spread f w wide l k d h)
+  pub part-piece : (i n : ℕ) (d : A) → i + n ≤ w → part (k * w + i) n (concatMap f l) ≡ part i n (f (getD l k d))
+  part-piece i n d g = sym (part-part (k * w) w i n (concatMap f l) g) ∙ ap (part i n) (part-concatMap f w wide l k d h)
 
 -- ---- lengths
 
 pub length-entryBytes : (f : Format) (see : ℕ → Entry) → length (entryBytes f see) ≡ entrySize f
-unfolding entryBytes toLe spread table
+unfolding entryBytes toLe concatMap tabulate
 length-entryBytes V1 see = refl
 length-entryBytes V2 see = refl
 
@@ -46,18 +46,18 @@ length-pad room t = simp (length-take, length-append, length-replicate) (omega a
 pub length-bodies : (f : Format) (room : ℕ) (card : Card) → length (bodies f room card) ≡ sides f * room
 unfolding bodies
 length-bodies f room card =
-    length-spread (pad room) room (length-pad room) (table (λ (side : ℕ). sideText side card) (sides f))
-    ∙ ap (λ (n : ℕ). n * room) (length-table (λ (side : ℕ). sideText side card) (sides f))
+    length-concatMap (pad room) room (length-pad room) (tabulate (λ (side : ℕ). sideText side card) (sides f))
+    ∙ ap (λ (n : ℕ). n * room) (length-tabulate (λ (side : ℕ). sideText side card) (sides f))
 
 module _ (f : Format) where
   abbrev entries : List Card → List ℕ
-  entries cards = spread (cardEntry f) cards
+  entries cards = concatMap (cardEntry f) cards
 
   pub entries-wide : (card : Card) → length (cardEntry f card) ≡ entrySize f
   entries-wide card = length-entryBytes f (λ (t : ℕ). view t card)
 
   length-entries : (cards : List Card) → length (entries cards) ≡ length cards * entrySize f
-  length-entries cards = length-spread (cardEntry f) (entrySize f) entries-wide cards
+  length-entries cards = length-concatMap (cardEntry f) (entrySize f) entries-wide cards
 
   -- What stands before the bodies.
   pub length-front : (n c : ℕ) (cards : List Card) → length (header f n c ++ entries cards) ≡ headerSize + entrySize f * length cards
@@ -66,9 +66,9 @@ module _ (f : Format) where
   pub length-encode : (cs : Cards) → length (encode f cs) ≡ sizeOf f (length (cs .cards)) (cs .room)
   unfolding encode
   length-encode cs =
-      length-append (header f (length (cs .cards)) (cs .room) ++ entries (cs .cards)) (spread (bodies f (cs .room)) (cs .cards))
+      length-append (header f (length (cs .cards)) (cs .room) ++ entries (cs .cards)) (concatMap (bodies f (cs .room)) (cs .cards))
       ∙ rw
-      (length-front (length (cs .cards)) (cs .room) (cs .cards), length-spread (bodies f (cs .room)) (sides f * cs .room) (length-bodies f (cs .room)) (cs .cards))
+      (length-front (length (cs .cards)) (cs .room) (cs .cards), length-concatMap (bodies f (cs .room)) (sides f * cs .room) (length-bodies f (cs .room)) (cs .cards))
       (omega arith)
 
   -- ---- what stands where
@@ -78,7 +78,7 @@ module _ (f : Format) where
   part-header cs i n h =
       let first = header f (length (cs .cards)) (cs .room) in
       let long : length first ≡ headerSize = length-header f (length (cs .cards)) (cs .room) in
-      part-append-left i n (first ++ entries (cs .cards)) (spread (bodies f (cs .room)) (cs .cards)) (simp length-append (omega arith))
+      part-append-left i n (first ++ entries (cs .cards)) (concatMap (bodies f (cs .room)) (cs .cards)) (simp length-append (omega arith))
       ∙ part-append-left i n first (entries (cs .cards)) (omega arith)
 
   pub countOf-encode : (cs : Cards) → length (cs .cards) < 65536 → countOf (encode f cs) ≡ length (cs .cards)
@@ -98,7 +98,7 @@ module _ (f : Format) where
       let long : length first ≡ headerSize = length-header f (length (cs .cards)) (cs .room) in
       let place : entryPlace f k + i ≡ headerSize + (k * entrySize f + i) = omega arith in
       let inside : (k + 1) * entrySize f ≤ length (cs .cards) * entrySize f = mul-le-mul-right (entrySize f) (omega arith) in
-      part-append-left (entryPlace f k + i) n (first ++ entries (cs .cards)) (spread (bodies f (cs .room)) (cs .cards))
+      part-append-left (entryPlace f k + i) n (first ++ entries (cs .cards)) (concatMap (bodies f (cs .room)) (cs .cards))
       (rw (length-front (length (cs .cards)) (cs .room) (cs .cards)) (omega arith))
       ∙ ap (λ (at : ℕ). part at n (first ++ entries (cs .cards))) place
       ∙ part-append-right headerSize (k * entrySize f + i) n first (entries (cs .cards)) long
@@ -106,7 +106,7 @@ module _ (f : Format) where
 
   part-side : (room side : ℕ) (card : Card) → side < sides f → part (side * room) room (bodies f room card) ≡ pad room (sideText side card)
   unfolding bodies
-  part-side room side card h = part-spread-table (pad room) room (length-pad room) (λ (s : ℕ). sideText s card) (sides f) side h
+  part-side room side card h = part-concatMap-tabulate (pad room) room (length-pad room) (λ (s : ℕ). sideText s card) (sides f) side h
 
   pub part-body : (cs : Cards) (k side i n : ℕ) → k < length (cs .cards) → side < sides f → i + n ≤ cs .room →
       part (bodyPlace f (length (cs .cards)) (cs .room) k side + i) n (encode f cs) ≡ part i n (pad (cs .room) (sideText side (getD (cs .cards) k (noCard f))))
@@ -118,8 +118,8 @@ module _ (f : Format) where
       let front = header f (length cards) room ++ entries cards in
       let place : bodyPlace f (length cards) room k side + i ≡ headerSize + entrySize f * length cards + (k * (sides f * room) + (side * room + i)) = omega arith in
       let fits : side * room + i + n ≤ sides f * room = omega (arith, mul-le-mul-right room g) in
-      ap (λ (at : ℕ). part at n (front ++ spread (bodies f room) cards)) place
-      ∙ part-append-right (headerSize + entrySize f * length cards) (k * (sides f * room) + (side * room + i)) n front (spread (bodies f room) cards)
+      ap (λ (at : ℕ). part at n (front ++ concatMap (bodies f room) cards)) place
+      ∙ part-append-right (headerSize + entrySize f * length cards) (k * (sides f * room) + (side * room + i)) n front (concatMap (bodies f room) cards)
       (length-front (length cards) room cards)
       ∙ part-piece (bodies f room) (sides f * room) (length-bodies f room) cards k h (side * room + i) n (noCard f) fits
       ∙ sym (part-part (side * room) room i n (bodies f room card) m)

@@ -7,12 +7,12 @@ use mathlib.Core.Bool.{true}
 use lib.Dec.{lit<}
 use lib.ListN.{length, take, drop, replicate}
 use lib.Seq.{take-at, drop-at}
-use Rattle.lists.specs.Parts.{part, zeros, spread, table, Bytes}
+use Rattle.lists.specs.Parts.{part, zeros, concatMap, tabulate, Bytes}
 use Rattle.lists.specs.Le.{le, toLe, field}
 use Rattle.lists.proofs.Bytes.{Bytes-part, zeros-means}
 use Rattle.lists.proofs.Le.{le-toLe, toLe-le}
 use Rattle.lists.proofs.Parts.{length-part, part-join, take-part, drop-part}
-use Rattle.lists.proofs.Spread.{spread-parts}
+use Rattle.lists.proofs.ConcatMap.{concatMap-parts}
 use Rattle.guard.specs.Entry.{FitsEntry}
 use Rattle.guard.specs.declared.Entry.{Entry}
 use Rattle.formats.specs.Format.{Format, V1, V2, entrySize, translations, fromsAt, lengthsAt}
@@ -24,7 +24,7 @@ use Rattle.image.proofs.Written.{pad-text}
 
 module _ (card : Card) where
   from-back : (f : Format) (t : ℕ) → t < translations f → view t card .from < 65536 → field (fromsAt f + 2 * t) 2 (cardEntry f card) ≡ view t card .from
-  unfolding entryBytes part toLe spread table
+  unfolding entryBytes part toLe concatMap tabulate
   from-back V1 zero h e = le-toLe 2 (view 0 card .from) e
   from-back V1 (suc t) h e = absurd (omega arith)
   from-back V2 zero h e = le-toLe 2 (view 0 card .from) e
@@ -35,7 +35,7 @@ module _ (card : Card) where
 
   length-back : (f : Format) (t : ℕ) → t < translations f → view t card .translation < 65536 →
       field (lengthsAt f + 2 * t) 2 (cardEntry f card) ≡ view t card .translation
-  unfolding entryBytes part toLe spread table
+  unfolding entryBytes part toLe concatMap tabulate
   length-back V1 zero h e = le-toLe 2 (view 0 card .translation) e
   length-back V1 (suc t) h e = absurd (omega arith)
   length-back V2 zero h e = le-toLe 2 (view 0 card .translation) e
@@ -46,7 +46,7 @@ module _ (card : Card) where
 
   -- The entry that the bytes of an entry stand for.
   pub read-entryBytes : (f : Format) (t : ℕ) → t < translations f → FitsEntry (view t card) → readEntry f t (cardEntry f card) ≡ view t card
-  unfolding readEntry entryBytes part toLe spread table
+  unfolding readEntry entryBytes part toLe concatMap tabulate
   read-entryBytes V1 t h e =
       rw (
         from-back V1 t h (e .from),
@@ -94,9 +94,9 @@ module _ (l : List ℕ) (b : Bytes l) where
         ← part-join 0 16 8 l,
       )
 
-  numbers : (n : ℕ) → 24 + n * 2 ≤ length l → spread (toLe 2) (table (λ i. field (24 + i * 2) 2 l) n) ≡ part 24 (n * 2) l
+  numbers : (n : ℕ) → 24 + n * 2 ≤ length l → concatMap (toLe 2) (tabulate (λ i. field (24 + i * 2) 2 l) n) ≡ part 24 (n * 2) l
   numbers n long =
-      spread-parts (toLe 2) (λ (i : ℕ). field (24 + i * 2) 2 l) 24 2 l n (λ k below. again (24 + k * 2) 2 l b (omega arith))
+      concatMap-parts (toLe 2) (λ (i : ℕ). field (24 + i * 2) 2 l) 24 2 l n (λ k below. again (24 + k * 2) 2 l b (omega arith))
 
   -- Two numbers among four zero bytes.
   blanks : (at : ℕ) → zeros (part at 4 l) ≡ true → (length (part at 4 l) ≡ 4) → (field at 2 l ≡ 0) × (field (at + 2) 2 l ≡ 0)
@@ -108,7 +108,7 @@ module _ (l : List ℕ) (b : Bytes l) where
   pub entryBytes-read : (f : Format) → length l ≡ entrySize f → field 18 2 l ≡ 0
       → zeros (part (entryEnd f) (entrySize f - entryEnd f) l) ≡ true
       → entryBytes f (λ t. readEntry f t l) ≡ l
-  unfolding entryBytes readEntry table
+  unfolding entryBytes readEntry tabulate
   entryBytes-read V1 long none blank =
       rw (front (omega arith) none) (ap (λ (u : List ℕ). part 0 24 l ++ u) (numbers 4 (omega arith)) ∙ sym (part-join 0 24 8 l) ∙ part-whole 32 l long)
   entryBytes-read V2 long none blank =
@@ -118,7 +118,7 @@ module _ (l : List ℕ) (b : Bytes l) where
 
 -- An entry's bytes go by what is seen in the version's own languages.
 pub entryBytes-ext : (f : Format) (see other : ℕ → Entry) → ((t : ℕ) → t < translations f → see t ≡ other t) → entryBytes f see ≡ entryBytes f other
-unfolding entryBytes table
+unfolding entryBytes tabulate
 entryBytes-ext V1 see other same = rw (same 0 (lit< tt))
 entryBytes-ext V2 see other same = rw (same 0 (lit< tt), same 1 (lit< tt), same 2 (lit< tt), same 3 (lit< tt))
 

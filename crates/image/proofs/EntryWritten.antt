@@ -7,7 +7,7 @@ use mathlib.Core.List.{List}
 use mathlib.Core.Bool.{cond}
 use lib.Dec.{eqb}
 use lib.ListN.{length}
-use Rattle.lists.specs.Parts.{part, splice, spread, table}
+use Rattle.lists.specs.Parts.{part, splice, concatMap, tabulate}
 use Rattle.lists.specs.Le.{toLe}
 use Rattle.lists.proofs.Parts.{splice-within, splice-part, length-splice}
 use Rattle.guard.specs.declared.Entry.{Entry}
@@ -15,7 +15,7 @@ use Rattle.formats.specs.Format.{Format, V1, V2, translations, entrySize, origi
 use Rattle.formats.proofs.Numbers.{numbers}
 use Rattle.commands.specs.Bytes.{pairBytes}
 use Rattle.image.specs.Bytes.{entryMark, entryBytes}
-use Rattle.image.specs.Write.{countsWith, entryWith}
+use Rattle.image.specs.inner.Write.{countsWith, entryWith}
 use Rattle.image.proofs.Encode.{length-entryBytes}
 
 -- An entry as seen in each language, after e was written as seen in language t.
@@ -33,7 +33,7 @@ seenAfter t e see j =
 -- On the bytes of an entry.
 pub entry-with : (f : Format) (t : ℕ) (e : Entry) (see : ℕ → Entry) → t < translations f →
     entryWith f t e 0 (entryBytes f see) ≡ entryBytes f (seenAfter t e see)
-unfolding entryWith entryBytes splice spread table toLe
+unfolding entryWith entryBytes splice concatMap tabulate toLe
 entry-with V1 zero e see h = refl
 entry-with V1 (suc t) e see h = absurd (omega arith)
 entry-with V2 zero e see h = refl

@@ -9,22 +9,22 @@ use mathlib.Core.Logic.{_⊎_, inl, inr}
 use borrow.Author.Tests.{lt-ltb, le-ltb, ltb-true, ltb-false}
 use lib.Dec.{T, ltb, lit<}
 use lib.ListN.{length, getD, replicate, length-replicate, getD-replicate, length-append}
-use Rattle.lists.specs.Parts.{part, splice, spread, table, Bytes}
+use Rattle.lists.specs.Parts.{part, splice, concatMap, tabulate, Bytes}
 use Rattle.lists.specs.Table.{settled}
 use Rattle.lists.proofs.Parts.{splice-before, splice-middle, length-splice}
-use Rattle.lists.proofs.Spread.{length-table, getD-table, table-ext, table-is, map-table}
+use Rattle.lists.proofs.ConcatMap.{length-tabulate, getD-tabulate, tabulate-ext, tabulate-is, map-tabulate}
 use Rattle.lists.proofs.Tests.{cases, to-T}
-use Rattle.guard.specs.Judge.{UNSOUND}
+use Rattle.numbers.specs.Numbers.{UNSOUND, NOT-MADE}
 use Rattle.guard.specs.declared.Entry.{Entry}
 use Rattle.formats.specs.Format.{V1, V2, entrySize}
 use Rattle.image.specs.Layout.{sides, sizeOf, headerSize, entryPlace, bodyPlace}
 use Rattle.image.specs.Bytes.{countOf, roomOf, entryAt, entryBytes, pad}
-use Rattle.image.specs.Image.{Card, Cards, noCard, translationOf, view, withCard, cardEntry, bodies, encode, decode, cardAt, sound, fresh, freshCards, makes, makeNumber, NOT-MADE}
-use Rattle.image.specs.Write.{entryWith}
+use Rattle.image.specs.Image.{Card, Cards, noCard, translationOf, view, withCard, cardEntry, bodies, encode, decode, cardAt, sound, fresh, freshCards, makes, makeNumber}
+use Rattle.image.specs.inner.Write.{entryWith}
 use Rattle.image.specs.Convert.{widened, converted, widenedUpTo, convertNumber}
 use Rattle.image.proofs.Shape.{entry-within, body-within}
 use Rattle.image.proofs.Encode.{length-pad, length-bodies, length-encode, part-entry, part-whole, length-entryBytes}
-use Rattle.image.proofs.Put.{table-set, put-part-entry}
+use Rattle.image.proofs.Put.{tabulate-set, put-part-entry}
 use Rattle.image.proofs.Empty.{fresh-cards}
 use Rattle.image.proofs.EntryWritten.{seenAfter, entry-written}
 use Rattle.image.proofs.Decode.{view-at, bodies-back, places, long}
@@ -35,7 +35,7 @@ onTheWay k image j = cond (ltb j k) (widened (cardAt V1 image j)) (noCard V2)
 
 pub count-up-to : (k : ℕ) (image : List ℕ) → length (widenedUpTo k image .cards) ≡ countOf image
 unfolding widenedUpTo
-count-up-to k image = length-table (onTheWay k image) (countOf image)
+count-up-to k image = length-tabulate (onTheWay k image) (countOf image)
 
 pub room-up-to : (k : ℕ) (image : List ℕ) → widenedUpTo k image .room ≡ roomOf image
 unfolding widenedUpTo
@@ -45,9 +45,9 @@ room-up-to k image = refl
 pub none-widened : (image : List ℕ) → encode V2 (widenedUpTo 0 image) ≡ fresh V2 (countOf image) (roomOf image)
 unfolding widenedUpTo freshCards
 none-widened image =
-    let none : table (onTheWay 0 image) (countOf image) ≡ replicate (countOf image) (noCard V2) =
-    ap (table (onTheWay 0 image)) (sym (length-replicate (countOf image) (noCard V2)))
-    ∙ table-is (onTheWay 0 image) (replicate (countOf image) (noCard V2)) (noCard V2)
+    let none : tabulate (onTheWay 0 image) (countOf image) ≡ replicate (countOf image) (noCard V2) =
+    ap (tabulate (onTheWay 0 image)) (sym (length-replicate (countOf image) (noCard V2)))
+    ∙ tabulate-is (onTheWay 0 image) (replicate (countOf image) (noCard V2)) (noCard V2)
     (λ j h. nothing j ∙ sym (getD-replicate (countOf image) j (noCard V2) (noCard V2) (subst (λ (n : ℕ). j < n) (length-replicate (countOf image) (noCard V2)) h))) in
     ap (λ (l : List Card). encode V2 (record { room = roomOf image; cards = l })) none ∙ fresh-cards V2 (countOf image) (roomOf image)
   where
@@ -57,16 +57,16 @@ none-widened image =
 pub all-widened : (image : List ℕ) → encode V2 (widenedUpTo (countOf image) image) ≡ converted image
 unfolding widenedUpTo converted decode
 all-widened image =
-    let every : table (onTheWay (countOf image) image) (countOf image) ≡ map widened (table (cardAt V1 image) (countOf image)) =
-    table-ext (onTheWay (countOf image) image) (λ (j : ℕ). widened (cardAt V1 image j)) (countOf image) (λ j h. rw (lt-ltb j (countOf image) h))
-    ∙ sym (map-table widened (cardAt V1 image) (countOf image)) in
+    let every : tabulate (onTheWay (countOf image) image) (countOf image) ≡ map widened (tabulate (cardAt V1 image) (countOf image)) =
+    tabulate-ext (onTheWay (countOf image) image) (λ (j : ℕ). widened (cardAt V1 image j)) (countOf image) (λ j h. rw (lt-ltb j (countOf image) h))
+    ∙ sym (map-tabulate widened (cardAt V1 image) (countOf image)) in
     ap (λ (l : List Card). encode V2 (record { room = roomOf image; cards = l })) every
 
 -- ---- one card more
 
 -- The two bodies of a card before three empty ones.
 bodies-widened : (room : ℕ) (card : Card) → bodies V2 room (widened card) ≡ splice 0 (bodies V1 room card) (bodies V2 room (noCard V2))
-unfolding bodies spread table
+unfolding bodies concatMap tabulate
 bodies-widened room card =
     let p = pad room (card .original) in
     let q = pad room (translationOf 0 card .text) in
@@ -81,7 +81,7 @@ bodies-widened room card =
 
 -- The entry of a widened card: that of the card in language 0, and nothing in the others.
 entry-widened : (card : Card) → entryBytes V2 (seenAfter 0 (view 0 card) (λ (t : ℕ). view t (noCard V2))) ≡ cardEntry V2 (widened card)
-unfolding entryBytes spread table
+unfolding entryBytes concatMap tabulate
 entry-widened card = refl
 
 module _ (image : List ℕ) (b : Bytes image) (holds : T (sound V1 image)) (k : ℕ) (below : k < countOf image) where
@@ -105,7 +105,7 @@ module _ (image : List ℕ) (b : Bytes image) (holds : T (sound V1 image)) (k : 
 
   old-empty : getD (cs .cards) k (noCard V2) ≡ noCard V2
   unfolding widenedUpTo
-  old-empty = getD-table (onTheWay k image) n k (noCard V2) below ∙ rw (le-ltb k k (omega arith))
+  old-empty = getD-tabulate (onTheWay k image) n k (noCard V2) below ∙ rw (le-ltb k k (omega arith))
 
   -- What is copied.
   both : part (bodyPlace V1 n c k 0) (sides V1 * c) image ≡ bodies V1 c (cardAt V1 image k)
@@ -118,7 +118,7 @@ module _ (image : List ℕ) (b : Bytes image) (holds : T (sound V1 image)) (k : 
   unfolding widenedUpTo
   one-more =
       ap (λ (l : List Card). record { room = c; cards = l })
-      (sym (table-set (onTheWay k image) (onTheWay (suc k) image) n k card (noCard V2) below (rw (lt-ltb k (suc k) (omega arith))) (λ j apart. others j apart (cases (ltb j k)))))
+      (sym (tabulate-set (onTheWay k image) (onTheWay (suc k) image) n k card (noCard V2) below (rw (lt-ltb k (suc k) (omega arith))) (λ j apart. others j apart (cases (ltb j k)))))
     where
       others : (j : ℕ) → (j ≡ k → ⊥) → (ltb j k ≡ true) ⊎ (ltb j k ≡ false) → onTheWay (suc k) image j ≡ onTheWay k image j
       others j apart (inl e) = rw (e, lt-ltb j (suc k) (omega (arith, ltb-true j k e)))

@@ -10,7 +10,7 @@ use Rattle.lists.specs.Parts.{part, splice, zeros}
 use Rattle.lists.proofs.Parts.{length-part, part-part, part-replicate, length-splice, splice-after, splice-adjacent, splice-part}
 use Rattle.lists.proofs.Bytes.{zeros-means}
 use Rattle.image.specs.Bytes.{pad}
-use Rattle.image.specs.Write.{overOld}
+use Rattle.image.specs.inner.Write.{overOld}
 
 module _ {A : Type 0} where
   -- The first of many equal elements.

@@ -7,7 +7,7 @@ use Rattle.lists.specs.Le.{toLe, field}
 use Rattle.commands.specs.Bytes.{pairAt, pairBytes}
 use Rattle.guard.specs.declared.Entry.{Entry}
 use Rattle.stamps.specs.declared.Mark.{Mark}
-use Rattle.lists.specs.Parts.{part, spread, table}
+use Rattle.lists.specs.Parts.{part, concatMap, tabulate}
 use Rattle.formats.specs.Format.{Format, V1, V2, version, translations, entrySize, originalAt, fromsAt, lengthsAt}
 use Rattle.image.specs.Layout.{entryPlace}
 
@@ -27,17 +27,17 @@ abbrev pub entryMark : Mark → List ℕ
 entryMark m = toLe 2 (m .desk) ++ toLe 2 0 ++ toLe 4 (m .transaction)
 
 abbrev pub entryFroms : Format → (ℕ → Entry) → List ℕ
-entryFroms f see = table (λ t. see t .from) (translations f)
+entryFroms f see = tabulate (λ t. see t .from) (translations f)
 
 abbrev pub entryLengths : Format → (ℕ → Entry) → List ℕ
-entryLengths f see = table (λ t. see t .translation) (translations f)
+entryLengths f see = tabulate (λ t. see t .translation) (translations f)
 
 abbrev pub entryCounts : Format → (ℕ → Entry) → List ℕ
 entryCounts V1 see = (see 0 .edition ∷ entryFroms V1 see) ++ (see 0 .original ∷ entryLengths V1 see)
 entryCounts V2 see = (see 0 .edition ∷ see 0 .original ∷ entryFroms V2 see) ++ entryLengths V2 see ++ (0 ∷ 0 ∷ [])
 
 unfoldable pub entryBytes : Format → (ℕ → Entry) → List ℕ
-entryBytes f see = pairBytes (see 0 .pair) ++ entryMark (see 0 .mark) ++ spread (toLe 2) (entryCounts f see)
+entryBytes f see = pairBytes (see 0 .pair) ++ entryMark (see 0 .mark) ++ concatMap (toLe 2) (entryCounts f see)
 
 -- A body: the text, and zeros up to the room.
 unfoldable pub pad : ℕ → List ℕ → List ℕ

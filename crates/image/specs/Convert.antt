@@ -5,12 +5,12 @@ use mathlib.Core.List.{List, [], _∷_, map}
 use mathlib.Core.Bool.{not, cond}
 use lib.Dec.{ltb}
 use lib.ListN.{replicate}
-use Rattle.lists.specs.Parts.{table}
+use Rattle.lists.specs.Parts.{tabulate}
 use Rattle.lists.specs.Table.{Row, row, first}
-use Rattle.guard.specs.Judge.{UNSOUND}
+use Rattle.numbers.specs.Numbers.{UNSOUND, NOT-MADE}
 use Rattle.formats.specs.Format.{V1, V2}
 use Rattle.image.specs.Bytes.{countOf, roomOf}
-use Rattle.image.specs.Image.{Card, Cards, translationOf, noTranslation, noCard, encode, decode, cardAt, sound, makes, NOT-MADE}
+use Rattle.image.specs.Image.{Card, Cards, translationOf, noTranslation, noCard, encode, decode, cardAt, sound, makes}
 
 -- A card of version 1 as one of version 2 (rule 15.9): its translation becomes that of language 0, the other three were never written, all else stays.
 abbrev pub widened : Card → Card
@@ -41,4 +41,4 @@ convertNumber image lent = first (convertRows image lent)
 -- On the way: the first k cards of an image widened, and behind them cards with nothing on them.
 unfoldable pub widenedUpTo : ℕ → List ℕ → Cards
 widenedUpTo k image =
-    record { room = roomOf image; cards = table (λ j. cond (ltb j k) (widened (cardAt V1 image j)) (noCard V2)) (countOf image) }
+    record { room = roomOf image; cards = tabulate (λ j. cond (ltb j k) (widened (cardAt V1 image j)) (noCard V2)) (countOf image) }

@@ -6,7 +6,7 @@ use mathlib.Core.List.{List, [], _∷_, _++_}
 use mathlib.Core.Bool.{Bool, _&&_, cond}
 use lib.ListN.{length, take, getD, set, replicate}
 use lib.Dec.{T, leb, eqb}
-use Rattle.lists.specs.Parts.{part, spread, table, every, zeros, Bytes}
+use Rattle.lists.specs.Parts.{part, concatMap, tabulate, every, zeros, Bytes}
 use Rattle.lists.specs.Le.{le, field}
 use Rattle.lists.specs.Table.{all}
 use Rattle.commands.specs.Command.{Language, original, translation}
@@ -19,6 +19,7 @@ use Rattle.image.specs.declared.Dimensions.{Dimensions}
 use Rattle.formats.specs.Format.{Format, V1, version, translations, entrySize}
 use Rattle.image.specs.Layout.{sides, sizeOf, shapeOk, entryPlace, entryEnd, bodyPlace, headerSize}
 use Rattle.image.specs.Bytes.{versionOf, countOf, roomOf, entryAt, magic, header, entryBytes, pad}
+use Rattle.numbers.specs.Numbers.{NOT-MADE}
 
 -- A translation of a card: the edition that it was made from, and its text.
 pub record Translation : Type 0 where
@@ -96,14 +97,14 @@ abbrev pub cardEntry : Format → Card → List ℕ
 cardEntry f card = entryBytes f (λ t. view t card)
 
 unfoldable pub bodies : Format → ℕ → Card → List ℕ
-bodies f room card = spread (pad room) (table (λ side. sideText side card) (sides f))
+bodies f room card = concatMap (pad room) (tabulate (λ side. sideText side card) (sides f))
 
 -- The bytes of cards (rules 2.3 to 2.5): the header, the entries, then the bodies card by card.
 unfoldable pub encode : Format → Cards → List ℕ
 encode f cs =
     header f (length (cs .cards)) (cs .room)
-    ++ spread (cardEntry f) (cs .cards)
-    ++ spread (bodies f (cs .room)) (cs .cards)
+    ++ concatMap (cardEntry f) (cs .cards)
+    ++ concatMap (bodies f (cs .room)) (cs .cards)
 
 -- The length bytes of a side's body.
 abbrev pub bodyAt : Format → List ℕ → ℕ → ℕ → ℕ → List ℕ
@@ -121,12 +122,12 @@ cardAt f image k =
       mark = entryAt f image k 0 .mark;
       edition = entryAt f image k 0 .edition;
       original = bodyAt f image k 0 (entryAt f image k 0 .original);
-      translated = table (translationAt f image k) (translations f);
+      translated = tabulate (translationAt f image k) (translations f);
     }
 
 -- The cards that an image holds.
 unfoldable pub decode : Format → List ℕ → Cards
-decode f image = record { room = roomOf image; cards = table (cardAt f image) (countOf image) }
+decode f image = record { room = roomOf image; cards = tabulate (cardAt f image) (countOf image) }
 
 -- Behind a text its body has zeros (rule 2.6).
 unfoldable pub tailZero : Format → List ℕ → ℕ → ℕ → ℕ → Bool
@@ -176,9 +177,6 @@ freshCards f n c = record { room = c; cards = replicate n (noCard f) }
 -- Rule 2.7: when an image is made, and the number if it is not.
 unfoldable pub makes : Format → ℕ → ℕ → ℕ → Bool
 makes f n c lent = shapeOk f n c && eqb lent (sizeOf f n c)
-
-abbrev pub NOT-MADE : ℕ
-NOT-MADE = 14
 
 abbrev pub makeNumber : Format → ℕ → ℕ → ℕ → ℕ
 makeNumber f n c lent = cond (makes f n c lent) 0 NOT-MADE

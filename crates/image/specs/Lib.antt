@@ -1,5 +1,5 @@
 pub mod Layout
 pub mod Bytes
 pub mod Image
-pub mod Write
 pub mod Convert
+pub mod inner

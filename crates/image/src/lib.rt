@@ -8,7 +8,9 @@ ghost use lib.ListN.{length};
 ghost use Rattle.lists.specs.Table.{settled};
 ghost use Rattle.formats.specs.Format.{formatOf};
 use formats::Version;
-use guard::UNSOUND;
+use numbers::ACCEPTED;
+use numbers::NOT_MADE;
+use numbers::UNSOUND;
 
 // ---- The image: the bytes of a store's cards.
 
@@ -85,12 +87,7 @@ pub fn front(bytes: &[u8]) -> Dimensions
 
 // ---- A fresh image.
 
-// What making an image answers: made, and not made, by N, C or the lent length.
-pub const MADE: u8 = 0;
-
-pub const NOT_MADE: u8 = 14;
-
-// Makes a fresh image of a version, and answers MADE; or answers NOT_MADE, for N, C or a lent length that is against the rules, and writes nothing.
+// Makes a fresh image of a version, and answers ACCEPTED; or answers NOT_MADE, for N, C or a lent length that is against the rules, and writes nothing.
 pub fn make(v: Version, image: &mut [u8], cards: usize, room: usize) -> u8
     ensures number { λ r. ⌜ r ≡ makeNumber (formatOf v) cards room (length (now (image .entry))) ⌝ }
     ensures bytes { λ r. ⌜ now (image .exit)
@@ -105,12 +102,12 @@ pub fn make(v: Version, image: &mut [u8], cards: usize, room: usize) -> u8
         return NOT_MADE;
     }
     inner::fresh::fill(v, image, n, c);
-    MADE
+    ACCEPTED
 }
 
 // ---- From version 1 to version 2.
 
-// Converts an image of version 1 into one of version 2 in the whole of target, and answers MADE; or answers UNSOUND or NOT_MADE and writes nothing.
+// Converts an image of version 1 into one of version 2 in the whole of target, and answers ACCEPTED; or answers UNSOUND or NOT_MADE and writes nothing.
 pub fn convert(image: &[u8], target: &mut [u8]) -> u8
     ensures number { λ r. ⌜ r ≡ convertNumber (now (image .entry)) (length (now (target .entry))) ⌝ }
     ensures bytes { λ r. ⌜ now (target .exit)
@@ -129,5 +126,5 @@ pub fn convert(image: &[u8], target: &mut [u8]) -> u8
         inner::convert::widen(image, target, k);
         k += 1;
     }
-    MADE
+    ACCEPTED
 }

@@ -1,7 +1,7 @@
 -- The worked cases, by computation. Assumes nothing.
 use mathlib.Core.Path.{refl}
 use Rattle.lists.specs.Le.{le, toLe}
-use Rattle.lists.specs.Parts.{part, spread, table, every, zeros}
+use Rattle.lists.specs.Parts.{part, concatMap, tabulate, every, zeros}
 use Rattle.lists.specs.Table.{all, allFrom}
 use Rattle.guard.specs.Entry.{entrySound}
 use Rattle.image_claims.specs.Cases.{Limits, SecondLimits, Changes}
@@ -18,5 +18,5 @@ unfolding makes shapeOk all allFrom
 second-limits-hold = refl
 
 pub changes-hold : Changes
-unfolding sound headerSound cardSound translationSound tailZero entryAt readEntry encode bodies pad entryBytes header shapeOk entrySound all allFrom le toLe part spread table every zeros
+unfolding sound headerSound cardSound translationSound tailZero entryAt readEntry encode bodies pad entryBytes header shapeOk entrySound all allFrom le toLe part concatMap tabulate every zeros
 changes-hold = refl

@@ -12,7 +12,7 @@ use lib.Seq.{drop-at}
 use Rattle.lists.specs.Parts.{Bytes}
 use Rattle.lists.specs.Le.{le}
 use Rattle.lists.proofs.Parts.{part-take}
-use Rattle.lists.proofs.Spread.{table-ext}
+use Rattle.lists.proofs.ConcatMap.{tabulate-ext}
 use Rattle.lists.proofs.Tests.{to-T, from-T, cases, all-out, all-fails-at}
 use Rattle.lists.specs.Table.{all, allFrom, listed}
 use Rattle.lists.proofs.Bytes.{Bytes-nil, zeros-at, zeros-replicate}
@@ -38,7 +38,7 @@ goodEncodes f cs good = record { bytes = Bytes-encode f cs good; sounds = to-T (
 pub oneImage : OneImage
 unfolding decode
 oneImage f x y bx by sx sy n c same =
-    let cards : decode f x ≡ decode f y = rw (← n, ← c, table-ext (cardAt f x) (cardAt f y) (countOf x) same) in
+    let cards : decode f x ≡ decode f y = rw (← n, ← c, tabulate-ext (cardAt f x) (cardAt f y) (countOf x) same) in
     sym (encode-decode f x bx sx) ∙ ap (encode f) cards ∙ encode-decode f y by sy
 
 -- The number of an image's version.

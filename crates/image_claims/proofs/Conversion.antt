@@ -8,7 +8,7 @@ use borrow.Author.Tests.{eqb-true, not-false}
 use lib.Dec.{T, eqb, lit<}
 use lib.ListN.{length, getD, length-map}
 use Rattle.lists.specs.Le.{le, toLe}
-use Rattle.lists.specs.Parts.{part, spread, table, every, zeros, Bytes}
+use Rattle.lists.specs.Parts.{part, concatMap, tabulate, every, zeros, Bytes}
 use Rattle.lists.specs.Table.{all, allFrom, applies}
 use Rattle.lists.proofs.Bytes.{Bytes-nil}
 use Rattle.lists.proofs.Table.{unapplied, none-applies}
@@ -18,7 +18,27 @@ use Rattle.guard.specs.declared.Entry.{Entry}
 use Rattle.formats.specs.Format.{V1, V2}
 use Rattle.image.specs.Layout.{shapeOk, sizeOf}
 use Rattle.image.specs.Bytes.{header, entryBytes, pad, readEntry, entryAt, countOf, roomOf}
-use Rattle.image.specs.Image.{Card, Cards, translationOf, noTranslation, noCard, view, sideText, bodies, encode, decode, cardAt, tailZero, translationSound, cardSound, headerSound, sound, makes, GoodCard, GoodCards}
+use Rattle.image.specs.Image.{
+  Card,
+  Cards,
+  translationOf,
+  noTranslation,
+  noCard,
+  view,
+  sideText,
+  bodies,
+  encode,
+  decode,
+  cardAt,
+  tailZero,
+  translationSound,
+  cardSound,
+  headerSound,
+  sound,
+  makes,
+  GoodCard,
+  GoodCards,
+}
 use Rattle.image.specs.Convert.{widened, widenedCards, converted, convertRows}
 use Rattle.image.proofs.Mixed.{mixed, mixed-fits, mixed-sound}
 use Rattle.image.proofs.Cards.{count-back, room-back, cardAt-encode}
@@ -131,5 +151,6 @@ conversion image lent b e =
 -- ---- the worked cases, by computation
 
 pub convert-cases : ConvertCases
-unfolding converted decode cardAt sound headerSound cardSound translationSound tailZero entryAt readEntry encode bodies pad entryBytes header makes shapeOk entrySound all allFrom le toLe part spread table every zeros
+unfolding converted decode cardAt sound headerSound cardSound translationSound tailZero entryAt readEntry encode bodies pad entryBytes header makes
+    shapeOk entrySound all allFrom le toLe part concatMap tabulate every zeros
 convert-cases = record { image = refl; numbers = refl }

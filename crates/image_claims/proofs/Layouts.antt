@@ -1,7 +1,7 @@
 -- The worked layouts, by computation. Assumes nothing.
 use mathlib.Core.Path.{refl}
 use Rattle.lists.specs.Le.{le, toLe}
-use Rattle.lists.specs.Parts.{part, spread, table, every, zeros}
+use Rattle.lists.specs.Parts.{part, concatMap, tabulate, every, zeros}
 use Rattle.lists.specs.Table.{all, allFrom}
 use Rattle.commands.specs.Command.{wellFormed}
 use Rattle.commands.specs.Bytes.{fieldsOf, payload, formed, commandBytes}
@@ -12,7 +12,8 @@ use Rattle.image.specs.Image.{bodies, encode, cardAt, decode, tailZero, transla
 use Rattle.image_claims.specs.Layouts.{LayoutCases}
 
 pub layout-cases : LayoutCases
-unfolding fieldsOf payload formed commandBytes wellFormed sound headerSound cardSound translationSound tailZero decode cardAt entryAt readEntry encode bodies pad entryBytes header shapeOk entrySound all allFrom le toLe part spread table every zeros
+unfolding fieldsOf payload formed commandBytes wellFormed sound headerSound cardSound translationSound tailZero decode cardAt entryAt readEntry encode
+    bodies pad entryBytes header shapeOk entrySound all allFrom le toLe part concatMap tabulate every zeros
 layout-cases =
     record {
       parts = refl;

@@ -8,7 +8,7 @@ use mathlib.Core.List.{List, [], _∷_, _++_, map}
 use mathlib.Core.Bool.{true, false}
 use lib.ListN.{set, replicate}
 use Rattle.formats.specs.Format.{V1, V2}
-use Rattle.lists.specs.Parts.{table}
+use Rattle.lists.specs.Parts.{tabulate}
 use Rattle.stamps.specs.Stamp.{stamp, shared, exclusive, noPair, noMark}
 use Rattle.commands.specs.declared.Command.{Command}
 use Rattle.commands.specs.Bytes.{fieldsOf, payload, formed, commandBytes}
@@ -18,7 +18,7 @@ use Rattle.image.specs.Image.{Cards, Translation, encode, decode, sound}
 
 -- 1, 2, 3, .. up to n.
 abbrev pub rising : ℕ → List ℕ
-rising n = table suc n
+rising n = tabulate suc n
 
 -- A card with room 16 whose numbers all differ: s 5.6.7, x 8.9.10, mark (11, 12), edition 20.
 abbrev pub cardWith : List ℕ → List Translation → Cards

@@ -4,8 +4,8 @@ use mathlib.Core.List.{[], _∷_}
 use mathlib.Core.Bool.{true, false}
 use lib.Dec.{ltb}
 use Prim.Native.Nat.{ℕ, _*_}
-use Rattle.lists.specs.Parts.{part, splice, table, spread, every, zeros}
-use Rattle.lists.specs.Search.{any, none, those, since, last}
+use Rattle.lists.specs.Parts.{part, splice, tabulate, concatMap, every, zeros}
+use Rattle.lists.specs.Search.{any, none, filter, since, last}
 use Rattle.lists.specs.Table.{allFrom, all, listed}
 
 part-inside : part {A = ℕ} 1 2 (7 ∷ 8 ∷ 9 ∷ 10 ∷ []) ≡ 8 ∷ 9 ∷ []
@@ -20,13 +20,13 @@ splice-inside : splice {A = ℕ} 1 (1 ∷ 2 ∷ []) (7 ∷ 8 ∷ 9 ∷ 10 ∷ []
 unfolding splice
 splice-inside = refl
 
-three-squares : table (λ i. i * i) 3 ≡ 0 ∷ 1 ∷ 4 ∷ []
-unfolding table
+three-squares : tabulate (λ i. i * i) 3 ≡ 0 ∷ 1 ∷ 4 ∷ []
+unfolding tabulate
 three-squares = refl
 
-spread-pairs : spread (λ (n : ℕ). n ∷ n * n ∷ []) (2 ∷ 3 ∷ []) ≡ 2 ∷ 4 ∷ 3 ∷ 9 ∷ []
-unfolding spread
-spread-pairs = refl
+concatMap-pairs : concatMap (λ (n : ℕ). n ∷ n * n ∷ []) (2 ∷ 3 ∷ []) ≡ 2 ∷ 4 ∷ 3 ∷ 9 ∷ []
+unfolding concatMap
+concatMap-pairs = refl
 
 every-below : every (λ i. ltb i 3) 3 ≡ true
 unfolding every
@@ -50,8 +50,8 @@ large-among = refl
 none-large : none (λ n. ltb 5 n) (1 ∷ 2 ∷ []) ≡ true
 none-large = refl
 
-those-large : those (λ n. ltb 5 n) (1 ∷ 7 ∷ 2 ∷ 8 ∷ []) ≡ 7 ∷ 8 ∷ []
-those-large = refl
+filter-large : filter (λ n. ltb 5 n) (1 ∷ 7 ∷ 2 ∷ 8 ∷ []) ≡ 7 ∷ 8 ∷ []
+filter-large = refl
 
 since-large : since (λ n. ltb 5 n) (1 ∷ 2 ∷ 7 ∷ 3 ∷ []) ≡ 1 ∷ 2 ∷ []
 since-large = refl

@@ -1,7 +1,7 @@
 pub mod Tests
 pub mod Parts
 pub mod Bytes
-pub mod Spread
+pub mod ConcatMap
 pub mod Every
 pub mod Table
 pub mod Le

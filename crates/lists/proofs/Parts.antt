@@ -6,7 +6,25 @@ use native.Mathlib.Numerals.{add-one}
 use mathlib.Core.Path.{_≡_, refl, sym, ap, _∙_}
 use mathlib.Core.List.{List, [], _∷_, _++_, append-assoc, append-nil}
 use lib.ListN.{length, take, drop, getD, set, replicate, length-take, length-drop, length-append, length-replicate, replicate-append-replicate, drop-of-length-le, take-append-drop, List·getD-append}
-use lib.Seq.{getD-take, getD-drop, getD-append-add, drop-cons, length-take-le, take-take, drop-drop, take-add, take-append-le, drop-append-le, take-append-add, drop-append-add, take-at, drop-at, take-length, take-nil, set-split}
+use lib.Seq.{
+  getD-take,
+  getD-drop,
+  getD-append-add,
+  drop-cons,
+  length-take-le,
+  take-take,
+  drop-drop,
+  take-add,
+  take-append-le,
+  drop-append-le,
+  take-append-add,
+  drop-append-add,
+  take-at,
+  drop-at,
+  take-length,
+  take-nil,
+  set-split,
+}
 use Rattle.lists.specs.Parts.{part, splice}
 
 module _ {A : Type 0} where

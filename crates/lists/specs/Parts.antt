@@ -16,14 +16,14 @@ module _ {A : Type 0} where
   splice at v l = take at l ++ (v ++ drop (at + length v) l)
 
   -- f 0, f 1, .. up to f (n - 1).
-  unfoldable pub table : (ℕ → A) → ℕ → List A
-  table f zero = []
-  table f (suc n) = table f n ++ (f n ∷ [])
+  unfoldable pub tabulate : (ℕ → A) → ℕ → List A
+  tabulate f zero = []
+  tabulate f (suc n) = tabulate f n ++ (f n ∷ [])
 
 -- What `f` makes of each element, put end to end.
-unfoldable pub spread : {A B : Type 0} → (A → List B) → List A → List B
-spread f [] = []
-spread f (a ∷ l) = f a ++ spread f l
+unfoldable pub concatMap : {A B : Type 0} → (A → List B) → List A → List B
+concatMap f [] = []
+concatMap f (a ∷ l) = f a ++ concatMap f l
 
 -- `p` holds of every number below n.
 unfoldable pub every : (ℕ → Bool) → ℕ → Bool

@@ -14,9 +14,9 @@ module _ {A : Type 0} where
   none p l = not (any p l)
 
   -- The elements that are so, in the order in which they stand.
-  abbrev pub those : (A → Bool) → List A → List A
-  those p [] = []
-  those p (a ∷ l) = cond (p a) (a ∷ those p l) (those p l)
+  abbrev pub filter : (A → Bool) → List A → List A
+  filter p [] = []
+  filter p (a ∷ l) = cond (p a) (a ∷ filter p l) (filter p l)
 
   -- The elements since the last that is so, that one left out; all where none is so. (The latest stands first.)
   abbrev pub since : (A → Bool) → List A → List A

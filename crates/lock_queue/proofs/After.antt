@@ -15,10 +15,10 @@ use Rattle.stamps.proofs.Stamp.{max-one, SessionRules, session-rules}
 use Rattle.stamps.specs.Stamp.{stampValid, largerOfEach, noPair}
 use Rattle.lock_queue.specs.Queue.{State, noWaiting, mostPlaces, longer, standing, desk, desks, stands}
 use Rattle.lock_queue.specs.Good.{waitingFormed, within, good}
-use Rattle.lock_queue.specs.Requests.{joined, removed, without, upgrading, onto, denied, Request, asks, leaves, lapses, applied, answered, number, after, answer}
+use Rattle.lock_queue.specs.Requests.{joined, removed, without, upgrading, queueJoined, denied, Request, asks, leaves, lapses, applied, answered, number, after, answer}
 use Rattle.lock_queue.specs.declared.Waiting.{Waiting}
 use Rattle.lock_queue.proofs.Checks.{good-unsized, good-by}
-use Rattle.lock_queue.proofs.Upgrades.{up-stands, absent-plain, onto-up, onto-plain}
+use Rattle.lock_queue.proofs.Upgrades.{up-stands, absent-plain, queueJoined-up, queueJoined-plain}
 use Rattle.lock_queue.proofs.Judged.{no-row, accepted-good, accepted-after, refused-after, not-bad, ask-room, leave-stands, lapse-leaves}
 use Rattle.lock_queue.proofs.Removed.{all-weaker, all-joined, all-removed, within-more, distinct-joined, distinct-removed, gone, removed-long}
 
@@ -40,7 +40,7 @@ after-keeps P lent q r p f = go (number lent q r) refl
 module _ (lent : ℕ) (q : State) (new : Waiting) (lie : lent ≤ length (q .places)) (e : number lent q (asks new) ≡ 0)
     (plain : upgrading (new .mode) (desk new) (standing q) ≡ false) where
   room : q .count < lent
-  room = subst (λ (s : State). s .count < lent) (onto-plain (new .mode) (desk new) q plain) (ask-room lent q new e)
+  room = subst (λ (s : State). s .count < lent) (queueJoined-plain (new .mode) (desk new) q plain) (ask-room lent q new e)
 
   pub absent : stands (desk new) (desks (standing q)) ≡ false
   absent = sym (and-true (stands (desk new) (desks (standing q)))) ∙ rw plain at (no-row lent q (asks new) e 12)
@@ -161,7 +161,7 @@ module _ (lent : ℕ) (q : State) (new : Waiting) (lie : lent ≤ length (q .pla
 
   pub up-same : applied (asks new) q ≡ applied (asks new) (without (desk new) q)
   up-same =
-      ap (joined new) (onto-up (new .mode) (desk new) q up ∙ sym (onto-plain (new .mode) (desk new) (without (desk new) q) up-plain))
+      ap (joined new) (queueJoined-up (new .mode) (desk new) q up ∙ sym (queueJoined-plain (new .mode) (desk new) (without (desk new) q) up-plain))
 
 -- What holds of the queue that an ask which is no upgrade makes, of any queue, holds of the one that an upgrade makes.
 pub plainly : (P : State → Type 0) (lent : ℕ) (q : State) (new : Waiting) → lent ≤ length (q .places) → number lent q (asks new) ≡ 0 →
@@ -171,16 +171,16 @@ pub plainly : (P : State → Type 0) (lent : ℕ) (q : State) (new : Waiting) �
 plainly P lent q new lie e f g = go (cases (upgrading (new .mode) (desk new) (standing q)))
   where
     go : (upgrading (new .mode) (desk new) (standing q) ≡ true) ⊎ (upgrading (new .mode) (desk new) (standing q) ≡ false) → P (applied (asks new) q)
-    go (inl up) = subst P (ap (joined new) (sym (onto-up (new .mode) (desk new) q up))) (g up)
-    go (inr plain) = subst P (ap (joined new) (sym (onto-plain (new .mode) (desk new) q plain))) (f plain)
+    go (inl up) = subst P (ap (joined new) (sym (queueJoined-up (new .mode) (desk new) q up))) (g up)
+    go (inr plain) = subst P (ap (joined new) (sym (queueJoined-plain (new .mode) (desk new) q plain))) (f plain)
 
-pub onto-largest : (mode d : ℕ) (q : State) → onto mode d q .largest ≡ q .largest
+pub queueJoined-largest : (mode d : ℕ) (q : State) → queueJoined mode d q .largest ≡ q .largest
 unfolding without
-onto-largest mode d q = go (cases (upgrading mode d (standing q)))
+queueJoined-largest mode d q = go (cases (upgrading mode d (standing q)))
   where
-    go : (upgrading mode d (standing q) ≡ true) ⊎ (upgrading mode d (standing q) ≡ false) → onto mode d q .largest ≡ q .largest
-    go (inl up) = ap (λ (s : State). s .largest) (onto-up mode d q up)
-    go (inr plain) = ap (λ (s : State). s .largest) (onto-plain mode d q plain)
+    go : (upgrading mode d (standing q) ≡ true) ⊎ (upgrading mode d (standing q) ≡ false) → queueJoined mode d q .largest ≡ q .largest
+    go (inl up) = ap (λ (s : State). s .largest) (queueJoined-up mode d q up)
+    go (inr plain) = ap (λ (s : State). s .largest) (queueJoined-plain mode d q plain)
 
 -- Places past the count, before and after, keep what they hold, and there are as many places as before.
 pub others-kept : (lent : ℕ) (q : State) (r : Request) → lent ≤ length (q .places) →
@@ -269,16 +269,16 @@ module _ (lent : ℕ) (q : State) (more : List Waiting) (lie : lent ≤ length (
         go (inl up) =
             let left = up-left lent q new lie e up in
             let short : without (desk new) q .count < length (without (desk new) q .places) =
-            rw (without-long lent q (desk new) lie left) (omega (arith, subst (λ (s : State). s .count < lent) (onto-up (new .mode) (desk new) q up) (ask-room lent q new e))) in
-            ap (joined new) (onto-up (new .mode) (desk new) (longer more q) (there true up) ∙ same-without (desk new))
+            rw (without-long lent q (desk new) lie left) (omega (arith, subst (λ (s : State). s .count < lent) (queueJoined-up (new .mode) (desk new) q up) (ask-room lent q new e))) in
+            ap (joined new) (queueJoined-up (new .mode) (desk new) (longer more q) (there true up) ∙ same-without (desk new))
             ∙ same-joined more new (without (desk new) q) short
-            ∙ ap (λ (s : State). longer more (joined new s)) (sym (onto-up (new .mode) (desk new) q up))
+            ∙ ap (λ (s : State). longer more (joined new s)) (sym (queueJoined-up (new .mode) (desk new) q up))
         go (inr plain) =
             let short : q .count < length (q .places) =
-            omega (arith, subst (λ (s : State). s .count < lent) (onto-plain (new .mode) (desk new) q plain) (ask-room lent q new e)) in
-            ap (joined new) (onto-plain (new .mode) (desk new) (longer more q) (there false plain))
+            omega (arith, subst (λ (s : State). s .count < lent) (queueJoined-plain (new .mode) (desk new) q plain) (ask-room lent q new e)) in
+            ap (joined new) (queueJoined-plain (new .mode) (desk new) (longer more q) (there false plain))
             ∙ same-joined more new q short
-            ∙ ap (λ (s : State). longer more (joined new s)) (sym (onto-plain (new .mode) (desk new) q plain))
+            ∙ ap (λ (s : State). longer more (joined new s)) (sym (queueJoined-plain (new .mode) (desk new) q plain))
 
     same-after : (r : Request) → after lent (longer more q) r ≡ longer more (after lent q r)
     same-after r = go (number lent q r) refl

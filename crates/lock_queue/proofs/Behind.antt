@@ -10,7 +10,8 @@ use Rattle.stamps.specs.declared.Pair.{Pair}
 use Rattle.lock_queue.proofs.Standing.{map-append, stands-append}
 use Rattle.lock_queue.specs.Queue.{desk, desks, stands}
 use Rattle.lock_queue.specs.declared.Waiting.{Waiting}
-use Rattle.lock_queue.specs.Good.{distinct, waitingFormed, within, entriesGood, fitsBehind}
+use Rattle.lock_queue.specs.Good.{distinct, waitingFormed, within}
+use Rattle.lock_queue.specs.inner.Entries.{entriesGood, fitsBehind}
 
 -- No two of a list, and one more that is none of them.
 regrouped : (p q r t : Bool) → (not (p || (q || false)) && (r && not t)) ≡ (not p && r && not (q || t))

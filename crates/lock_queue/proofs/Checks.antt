@@ -11,7 +11,8 @@ use Rattle.lists.specs.Table.{all, allFrom}
 use Rattle.stamps.specs.Stamp.{stampValid}
 use Rattle.stamps.specs.declared.Pair.{Pair}
 use Rattle.lock_queue.specs.Queue.{State, mostPlaces, standing, desks}
-use Rattle.lock_queue.specs.Good.{distinct, waitingFormed, within, queueChecks, good, entriesGood}
+use Rattle.lock_queue.specs.Good.{distinct, waitingFormed, within, queueChecks, good}
+use Rattle.lock_queue.specs.inner.Entries.{entriesGood}
 use Rattle.lock_queue.specs.declared.Waiting.{Waiting}
 
 -- The length and the count.

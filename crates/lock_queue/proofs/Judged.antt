@@ -16,10 +16,30 @@ use Rattle.lock_queue.proofs.Checks.{Good, good-out, good-count}
 use Rattle.lock_queue.specs.Queue.{State, mostPlaces, standing, desk, desks, firstPlace, stands}
 use Rattle.lock_queue.specs.Good.{good}
 use Rattle.lock_queue.specs.declared.Waiting.{Waiting}
-use Rattle.lock_queue.specs.Requests.{joined, without, upgrading, onto, asking, leaving, lapsing, answered, blankAnswer, Request, asks, leaves, lapses, queueRows, sender, applied, number, after, answer}
+use Rattle.lock_queue.specs.Requests.{
+  joined,
+  without,
+  upgrading,
+  queueJoined,
+  asking,
+  leaving,
+  lapsing,
+  answered,
+  blankAnswer,
+  Request,
+  asks,
+  leaves,
+  lapses,
+  queueRows,
+  sender,
+  applied,
+  number,
+  after,
+  answer,
+}
 use Rattle.lock_queue.specs.declared.LockAnswer.{LockAnswer}
-use Rattle.lock_queue.specs.declared.Silence.{Silence}
-use Rattle.lock_queue.proofs.Upgrades.{up-stands, onto-up, onto-plain}
+use Rattle.lock_queue.specs.declared.LeaseExpiry.{LeaseExpiry}
+use Rattle.lock_queue.proofs.Upgrades.{up-stands, queueJoined-up, queueJoined-plain}
 
 -- A number that is not that of the first row is given only where that row does not apply.
 pub first-passed : (a : Bool) (n : ℕ) (rs : List Row) → (first (row a n ∷ rs) ≡ n → ⊥) → a ≡ false
@@ -55,7 +75,7 @@ module _ (lent : ℕ) (q : State) where
   shown-fits r e shown = good-count lent q (not-bad r (λ bad. shown-not-bad _ shown (e ∙ bad)))
 
   -- An accepted asker has a place, and one that leaves has had one.
-  pub ask-room : (new : Waiting) → number lent q (asks new) ≡ 0 → onto (new .mode) (desk new) q .count < lent
+  pub ask-room : (new : Waiting) → number lent q (asks new) ≡ 0 → queueJoined (new .mode) (desk new) q .count < lent
   unfolding without
   ask-room new e = go (cases (upgrading (new .mode) (desk new) (standing q)))
     where
@@ -66,15 +86,15 @@ module _ (lent : ℕ) (q : State) where
       below a b h k = omega arith
 
       go : (upgrading (new .mode) (desk new) (standing q) ≡ true) ⊎ (upgrading (new .mode) (desk new) (standing q) ≡ false)
-          → onto (new .mode) (desk new) q .count < lent
+          → queueJoined (new .mode) (desk new) q .count < lent
       go (inl up) =
           let stood = stands-below (desk new) (q .count) (q .places) (up-stands (new .mode) (desk new) (standing q) up) in
-          rw (onto-up (new .mode) (desk new) q up) (omega (arith, counted))
+          rw (queueJoined-up (new .mode) (desk new) q up) (omega (arith, counted))
       go (inr plain) =
           let space : eqb (q .count) lent ≡ false = sym (and-true (eqb (q .count) lent)) ∙ rw plain at (no-row (asks new) e 13) in
-          rw (onto-plain (new .mode) (desk new) q plain) (below (q .count) lent counted (eqb-false (q .count) lent space))
+          rw (queueJoined-plain (new .mode) (desk new) q plain) (below (q .count) lent counted (eqb-false (q .count) lent space))
 
-  pub ask-place : (new : Waiting) → number lent q (asks new) ≡ 0 → onto (new .mode) (desk new) q .count < mostPlaces
+  pub ask-place : (new : Waiting) → number lent q (asks new) ≡ 0 → queueJoined (new .mode) (desk new) q .count < mostPlaces
   ask-place new e = omega (arith, ask-room new e, accepted-good (asks new) e .short)
 
   pub leave-stands : (d : ℕ) → number lent q (leaves d) ≡ 0 → stands d (desks (standing q)) ≡ true
@@ -87,7 +107,7 @@ module _ (lent : ℕ) (q : State) where
   )
 
   -- Leaving by lease is accepted only where leaving is.
-  pub lapse-leaves : (r : Silence) → number lent q (lapses r) ≡ 0 → number lent q (leaves (r .desk)) ≡ 0
+  pub lapse-leaves : (r : LeaseExpiry) → number lent q (lapses r) ≡ 0 → number lent q (leaves (r .desk)) ≡ 0
   unfolding number
   lapse-leaves r e =
       let fine : not (good lent q) ≡ false = no-row (lapses r) e 10 in
@@ -111,12 +131,12 @@ module _ (lent : ℕ) (q : State) where
   refused-after r h = settled-old (applied r q) q h
 
   -- Leaving by lease, where it is accepted, is leaving.
-  pub lapse-same : (r : Silence) → number lent q (lapses r) ≡ 0 →
+  pub lapse-same : (r : LeaseExpiry) → number lent q (lapses r) ≡ 0 →
       (answer lent q (lapses r) ≡ answer lent q (leaves (r .desk))) × (after lent q (lapses r) ≡ after lent q (leaves (r .desk)))
   unfolding after answer
   lapse-same r e = let f = lapse-leaves r e in (rw (e, f), rw (e, f))
 
-  pub accepted-lapse : (r : Silence) {a : LockAnswer} {s : State} → number lent q (lapses r) ≡ 0 → a ≡ answer lent q (leaves (r .desk)) →
+  pub accepted-lapse : (r : LeaseExpiry) {a : LockAnswer} {s : State} → number lent q (lapses r) ≡ 0 → a ≡ answer lent q (leaves (r .desk)) →
       s ≡ after lent q (leaves (r .desk)) → (a ≡ answer lent q (lapses r)) × (s ≡ after lent q (lapses r))
   accepted-lapse r e f g = let same = lapse-same r e in (f ∙ sym (same .0), g ∙ sym (same .1))
 

@@ -12,7 +12,7 @@ use Rattle.stamps.specs.Stamp.{shared, exclusive}
 use Rattle.lock_queue.specs.Queue.{State, noWaiting, standing, desks, stands, firstPlace}
 use Rattle.lock_queue.specs.declared.Waiting.{Waiting}
 use Rattle.lock_queue.proofs.Standing.{stands-at}
-use Rattle.lock_queue.specs.Requests.{without, modeOf, upgrading, onto}
+use Rattle.lock_queue.specs.Requests.{without, modeOf, upgrading, queueJoined}
 
 pub up-stands : (mode d : ℕ) (ws : List Waiting) → upgrading mode d ws ≡ true → stands d (desks ws) ≡ true
 unfolding upgrading
@@ -23,13 +23,13 @@ pub absent-plain : (mode d : ℕ) (ws : List Waiting) → stands d (desks ws) �
 unfolding upgrading
 absent-plain mode d ws e = rw e
 
-pub onto-up : (mode d : ℕ) (q : State) → upgrading mode d (standing q) ≡ true → onto mode d q ≡ without d q
-unfolding onto
-onto-up mode d q e = rw e
+pub queueJoined-up : (mode d : ℕ) (q : State) → upgrading mode d (standing q) ≡ true → queueJoined mode d q ≡ without d q
+unfolding queueJoined
+queueJoined-up mode d q e = rw e
 
-pub onto-plain : (mode d : ℕ) (q : State) → upgrading mode d (standing q) ≡ false → onto mode d q ≡ q
-unfolding onto
-onto-plain mode d q e = rw e
+pub queueJoined-plain : (mode d : ℕ) (q : State) → upgrading mode d (standing q) ≡ false → queueJoined mode d q ≡ q
+unfolding queueJoined
+queueJoined-plain mode d q e = rw e
 
 -- By the place p where the desk first stands among the first entries.
 module _ (mode d count : ℕ) (l : List Waiting) (fits : count ≤ length l) {p : ℕ} (at : p ≡ firstPlace d (desks (take count l))) where

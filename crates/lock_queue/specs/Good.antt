@@ -7,7 +7,7 @@ use lib.Dec.{leb}
 use Rattle.lists.specs.Table.{all}
 use Rattle.stamps.specs.Stamp.{stampValid, sessionChecks}
 use Rattle.stamps.specs.declared.Pair.{Pair}
-use Rattle.lock_queue.specs.Queue.{State, mostPlaces, standing, desks, stands, desk}
+use Rattle.lock_queue.specs.Queue.{State, mostPlaces, standing, desks, stands}
 use Rattle.lock_queue.specs.declared.Waiting.{Waiting}
 
 -- No desk and start stands twice.
@@ -43,11 +43,3 @@ queueChecks lent q =
 
 unfoldable pub good : ℕ → State → Bool
 good lent q = all (queueChecks lent q)
-
--- ---- The three tests on the standing entries, and the same for one entry behind those before it: what a pass over the places computes.
-
-unfoldable pub entriesGood : Pair → List Waiting → Bool
-entriesGood largest ws = all (map waitingFormed ws) && distinct (desks ws) && all (map (within largest) ws)
-
-abbrev pub fitsBehind : Pair → List Waiting → Waiting → Bool
-fitsBehind largest ws w = waitingFormed w && not (stands (desk w) (desks ws)) && within largest w

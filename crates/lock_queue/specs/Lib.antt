@@ -1,5 +1,5 @@
-pub mod Numbers
 pub mod Queue
 pub mod Good
 pub mod Lease
 pub mod Requests
+pub mod inner

@@ -7,15 +7,15 @@ use mathlib.Core.List.{List, [], _∷_, _++_}
 use mathlib.Core.Bool.{cond, Bool, not, _&&_, _||_}
 use lib.ListN.{drop, set, getD}
 use lib.Dec.{eqb}
-use Rattle.stamps.specs.Stamp.{largerOfEach, shared, exclusive, stale, noPair, MALFORMED}
-use Rattle.lock_queue.specs.Numbers.{BAD-QUEUE, PAIR-DENIED, STANDS-ALREADY, QUEUE-FULL, NOT-STANDING, LEASE-RANGE, LEASE-RUNS}
+use Rattle.stamps.specs.Stamp.{largerOfEach, shared, exclusive, stale, noPair}
+use Rattle.numbers.specs.Numbers.{MALFORMED, BAD-QUEUE, PAIR-DENIED, STANDS-ALREADY, QUEUE-FULL, NOT-STANDING, LEASE-OUT-OF-RANGE, LEASE-RUNS}
 use Rattle.lock_queue.specs.Queue.{State, noWaiting, standing, desk, desks, stands, firstPlace, looked, holds}
 use Rattle.lock_queue.specs.declared.Waiting.{Waiting}
 use Rattle.lists.specs.Table.{Row, row, first, settled}
 use Rattle.stamps.specs.declared.Pair.{Pair}
 use Rattle.lock_queue.specs.Good.{waitingFormed, good}
-use Rattle.lock_queue.specs.Lease.{over, inRange}
-use Rattle.lock_queue.specs.declared.Silence.{Silence}
+use Rattle.lock_queue.specs.Lease.{expired, inRange}
+use Rattle.lock_queue.specs.declared.LeaseExpiry.{LeaseExpiry}
 use Rattle.lock_queue.specs.declared.LockAnswer.{LockAnswer}
 
 -- ---- What an accepted request makes of the queue.
@@ -55,8 +55,8 @@ unfoldable pub upgrading : ℕ → ℕ → List Waiting → Bool
 upgrading mode d ws = stands d (desks ws) && (eqb mode exclusive && eqb (modeOf d ws) shared)
 
 -- Rule 7.10: the queue that an accepted entry joins. An upgrade joins the queue that its desk's old entry has left.
-unfoldable pub onto : ℕ → ℕ → State → State
-onto mode d q = cond (upgrading mode d (standing q)) (without d q) q
+unfoldable pub queueJoined : ℕ → ℕ → State → State
+queueJoined mode d q = cond (upgrading mode d (standing q)) (without d q) q
 
 -- ---- The numbers, as tables of rows.
 
@@ -87,12 +87,12 @@ abbrev pub leaving : ℕ → State → ℕ → List Row
 leaving lent q d = row (not (good lent q)) BAD-QUEUE ∷ row (not (stands d (desks (standing q)))) NOT-STANDING ∷ []
 
 -- Rule 13.5.
-abbrev pub lapsing : ℕ → State → Silence → List Row
+abbrev pub lapsing : ℕ → State → LeaseExpiry → List Row
 lapsing lent q r =
     row (not (good lent q)) BAD-QUEUE
-    ∷ row (not (inRange r)) LEASE-RANGE
+    ∷ row (not (inRange r)) LEASE-OUT-OF-RANGE
     ∷ row (not (stands (r .desk) (desks (standing q)))) NOT-STANDING
-    ∷ row (not (over (r .lease) (r .begin) (r .now))) LEASE-RUNS
+    ∷ row (not (expired (r .lease) (r .begin) (r .now))) LEASE-RUNS
     ∷ []
 
 -- ---- The answer.
@@ -117,7 +117,7 @@ answered number d entry exit =
 pub data Request : Type 0 where
   asks : Waiting → Request
   leaves : ℕ → Request
-  lapses : Silence → Request
+  lapses : LeaseExpiry → Request
 
 abbrev pub queueRows : ℕ → State → Request → List Row
 queueRows lent q (asks new) = asking lent q new
@@ -132,7 +132,7 @@ sender (lapses r) = r .desk
 
 -- The queue after an accepted request.
 abbrev pub applied : Request → State → State
-applied (asks new) q = joined new (onto (new .mode) (desk new) q)
+applied (asks new) q = joined new (queueJoined (new .mode) (desk new) q)
 applied (leaves d) q = without d q
 applied (lapses r) q = without (r .desk) q
 

@@ -3,21 +3,21 @@ ghost use Prim.Native.Nat.{_≤_};
 ghost use lib.ListN.{take};
 ghost use Rattle.lock_queue.specs.Queue.{state, mostPlaces, desks};
 ghost use Rattle.lock_queue.specs.Requests.{already, full, asks, leaves, lapses, number};
-ghost use Rattle.lock_queue.specs.Lease.{timed};
-use crate::BAD_QUEUE;
-use crate::LEASE_OUT_OF_RANGE;
-use crate::LEASE_RUNS;
-use crate::NOT_STANDING;
-use crate::PAIR_DENIED;
+ghost use Rattle.lock_queue.specs.Lease.{validTime};
+use crate::LeaseExpiry;
 use crate::Places;
-use crate::QUEUE_FULL;
 use crate::Queue;
-use crate::STANDS_ALREADY;
-use crate::Silence;
 use crate::Waiting;
 use crate::inner::rules;
 use crate::inner::state::stands;
 use crate::inner::state::upgrading;
+use numbers::BAD_QUEUE;
+use numbers::LEASE_OUT_OF_RANGE;
+use numbers::LEASE_RUNS;
+use numbers::NOT_STANDING;
+use numbers::PAIR_DENIED;
+use numbers::QUEUE_FULL;
+use numbers::STANDS_ALREADY;
 
 // Number 12's test.
 fn already(upgrade: bool, places: Places, count: usize, desk: u32) -> bool
@@ -43,7 +43,7 @@ pub fn ask_number(queue: Queue, lent: usize, new: Waiting) -> u8
     }
     let pair = new.pair;
     if !stamps::session_ok(new.mode, pair) {
-        return stamps::MALFORMED;
+        return numbers::MALFORMED;
     }
     let stood = queue.places;
     let desk = stamps::desk_of(new.mode, pair);
@@ -76,28 +76,28 @@ pub fn leave_number(queue: Queue, lent: usize, desk: u32) -> u8
 }
 
 // Whether a time is within its limits.
-fn timed(time: f64) -> bool
-    ensures { λ r. ⌜ r ≡ timed time ⌝ }
+fn valid_time(time: f64) -> bool
+    ensures { λ r. ⌜ r ≡ validTime time ⌝ }
 {
     (0.0 <= time) & (time <= 1000000000.0)
 }
 
 // The number for leaving by lease.
-pub fn lapse_number(queue: Queue, lent: usize, silence: Silence) -> u8
-    ensures { λ r. ⌜ r ≡ number lent (state queue) (lapses silence) ⌝ }
+pub fn lapse_number(queue: Queue, lent: usize, expiry: LeaseExpiry) -> u8
+    ensures { λ r. ⌜ r ≡ number lent (state queue) (lapses expiry) ⌝ }
 {
     if !rules::good(queue, lent) {
         return BAD_QUEUE;
     }
-    let lease = silence.lease;
-    if !(lease.fair() & timed(silence.begin) & timed(silence.now)) {
+    let lease = expiry.lease;
+    if !(lease.valid_term() & valid_time(expiry.begin) & valid_time(expiry.now)) {
         return LEASE_OUT_OF_RANGE;
     }
     let stood = queue.places;
-    if !stands(stood, queue.count, silence.desk) {
+    if !stands(stood, queue.count, expiry.desk) {
         return NOT_STANDING;
     }
-    if !lease.over(silence.begin, silence.now) {
+    if !lease.expired(expiry.begin, expiry.now) {
         return LEASE_RUNS;
     }
     0

@@ -7,6 +7,7 @@ ghost use mathlib.Core.Path.{_≡_};
 ghost use lib.ListN.{replicate};
 ghost use Rattle.lock_queue.specs.Queue.{state, emptyQueue, mostPlaces, noWaiting};
 ghost use Rattle.lock_queue.specs.Requests.{asks, leaves, lapses, Turns};
+use stamps::NO_PAIR;
 use stamps::Pair;
 
 // ---- The lock queue of one card as it stands: who stands in it, who holds the lock, and how many entries are looked at.
@@ -14,26 +15,17 @@ use stamps::Pair;
 // The largest number of places that a queue can have.
 pub const MOST_PLACES: usize = 32;
 
-// The numbers of refusals (rules 7.6, 7.12 and 13.5). A malformed ask gets 1.
-pub const BAD_QUEUE: u8 = 10;
-
-pub const PAIR_DENIED: u8 = 11;
-
-pub const STANDS_ALREADY: u8 = 12;
-
-pub const QUEUE_FULL: u8 = 13;
-
-pub const NOT_STANDING: u8 = 15;
-
-pub const LEASE_OUT_OF_RANGE: u8 = 21;
-
-pub const LEASE_RUNS: u8 = 25;
-
 // An entry that waits for the lock: 1 shared or 2 exclusive, and the pair that its desk proposed.
 pub struct Waiting {
     pub mode: u8,
     pub pair: Pair,
 }
+
+// A place that holds nothing.
+pub const NO_WAITING: Waiting = Waiting {
+    mode: 0,
+    pair: NO_PAIR,
+};
 
 // The places of a queue by value. How many of them are lent is told apart.
 pub struct Places {
@@ -68,7 +60,7 @@ pub struct Lease {
 }
 
 // A desk and start that is held failed since the time `begin`, its lease term, and the time now.
-pub struct Silence {
+pub struct LeaseExpiry {
     pub desk: u32,
     pub lease: Lease,
     pub begin: f64,
@@ -81,13 +73,10 @@ pub fn empty() -> Queue
 {
     Queue {
         places: Places {
-            at: [Waiting {
-                mode: 0,
-                pair: Pair { s: 0, x: 0 },
-            }; 32],
+            at: [NO_WAITING; 32],
         },
         count: 0,
-        largest: Pair { s: 0, x: 0 },
+        largest: NO_PAIR,
     }
 }
 
@@ -99,7 +88,7 @@ pub fn ask(queue: Queue, lent: usize, new: Waiting) -> LockOutcome
     let number = judge::ask_number(queue, lent, new);
     let desk = stamps::desk_of(new.mode, new.pair);
     if number == 0 {
-        let base = inner::effects::onto(queue, new.mode, desk);
+        let base = inner::effects::queue_joined(queue, new.mode, desk);
         let joined = inner::effects::joined(base, new);
         return LockOutcome {
             answer: inner::answer::answered(number, desk, queue, joined),
@@ -131,11 +120,11 @@ pub fn leave(queue: Queue, lent: usize, desk: u32) -> LockOutcome
 }
 
 // A desk that fell silent leaves, once its lease is over (rules 13.1 to 13.6).
-pub fn lapse(queue: Queue, lent: usize, silence: Silence) -> LockOutcome
-    ensures { λ r. ⌜ Turns lent (state queue) (lapses silence) (r .answer) (state (r .queue)) ⌝ }
+pub fn lapse(queue: Queue, lent: usize, expiry: LeaseExpiry) -> LockOutcome
+    ensures { λ r. ⌜ Turns lent (state queue) (lapses expiry) (r .answer) (state (r .queue)) ⌝ }
 {
-    let number = judge::lapse_number(queue, lent, silence);
-    let desk = silence.desk;
+    let number = judge::lapse_number(queue, lent, expiry);
+    let desk = expiry.desk;
     if number == 0 {
         return leave(queue, lent, desk);
     }

@@ -5,23 +5,36 @@ use Rattle.lists.specs.Table.{all, allFrom}
 use Rattle.floats.specs.Numbers.{wholeFloat, half}
 use Rattle.lock_queue.specs.Queue.{stands, firstPlace, looked, noExclusive, holdsAt, holds}
 use Rattle.lock_queue.specs.Good.{distinct, good}
-use Rattle.lock_queue.specs.Requests.{joined, removed, without, upgrading, onto, answered, number, after, answer}
-use Rattle.lock_queue_claims.specs.Answers.{stages, TableUpgrade, TableOrder, TablePairs, TakesPlace, LeavesMiddle, WhoHolds, QueuesJudged, TableMalformed, TableLapses, LapsedLeaves, QueueAnswers}
+use Rattle.lock_queue.specs.Requests.{joined, removed, without, upgrading, queueJoined, answered, number, after, answer}
+use Rattle.lock_queue_claims.specs.Answers.{
+  stages,
+  TableUpgrade,
+  TableOrder,
+  TablePairs,
+  TakesPlace,
+  LeavesMiddle,
+  WhoHolds,
+  QueuesJudged,
+  TableMalformed,
+  TableLapses,
+  LapsedLeaves,
+  QueueAnswers,
+}
 
-table-upgrade : TableUpgrade
-unfolding stages number after answer answered holds holdsAt noExclusive looked upgrading onto firstPlace good all allFrom distinct stands joined without removed
-table-upgrade = refl
+tabulate-upgrade : TableUpgrade
+unfolding stages number after answer answered holds holdsAt noExclusive looked upgrading queueJoined firstPlace good all allFrom distinct stands joined without removed
+tabulate-upgrade = refl
 
-table-order : TableOrder
-unfolding number after answer answered holds holdsAt noExclusive looked upgrading onto firstPlace good all allFrom distinct stands joined without removed
-table-order = refl
+tabulate-order : TableOrder
+unfolding number after answer answered holds holdsAt noExclusive looked upgrading queueJoined firstPlace good all allFrom distinct stands joined without removed
+tabulate-order = refl
 
-table-pairs : TablePairs
-unfolding number after answer answered holds holdsAt noExclusive looked upgrading onto firstPlace good all allFrom distinct stands joined without removed
-table-pairs = refl
+tabulate-pairs : TablePairs
+unfolding number after answer answered holds holdsAt noExclusive looked upgrading queueJoined firstPlace good all allFrom distinct stands joined without removed
+tabulate-pairs = refl
 
 takes-place : TakesPlace
-unfolding number after upgrading onto firstPlace good all allFrom distinct stands joined without removed
+unfolding number after upgrading queueJoined firstPlace good all allFrom distinct stands joined without removed
 takes-place = refl
 
 leaves-middle : LeavesMiddle
@@ -44,13 +57,13 @@ queues-judged =
       leaves-15 = refl;
     }
 
-table-malformed : TableMalformed
+tabulate-malformed : TableMalformed
 unfolding number upgrading firstPlace good all allFrom distinct stands
-table-malformed = refl
+tabulate-malformed = refl
 
-table-lapses : TableLapses
+tabulate-lapses : TableLapses
 unfolding number after answer answered holds holdsAt noExclusive looked firstPlace good all allFrom distinct stands without removed ofBits ofInt wholeFloat half add sub mul div neg lt le
-table-lapses = refl
+tabulate-lapses = refl
 
 lapsed-leaves : LapsedLeaves
 unfolding number after firstPlace good all allFrom distinct stands without removed ofBits ofInt wholeFloat half add sub mul div neg lt le
@@ -59,14 +72,14 @@ lapsed-leaves = refl
 pub queue-answers : QueueAnswers
 queue-answers =
     record {
-      upgrade = table-upgrade;
-      order = table-order;
-      pairs = table-pairs;
+      upgrade = tabulate-upgrade;
+      order = tabulate-order;
+      pairs = tabulate-pairs;
       place = takes-place;
       middle = leaves-middle;
       holders = who-holds;
       queues = queues-judged;
-      malformed = table-malformed;
-      lapses = table-lapses;
+      malformed = tabulate-malformed;
+      lapses = tabulate-lapses;
       lapsed = lapsed-leaves;
     }

@@ -14,7 +14,29 @@ use Rattle.lists.proofs.Tests.{cases, T-and-left, to-T, from-T, and-left, and-r
 use Rattle.stamps.proofs.Stamp.{larger-old, session-rules}
 use Rattle.lists.proofs.Table.{given, unapplied, first-all}
 use Rattle.stamps.specs.Stamp.{stampValid, deskNumber, deskStart, own, shared, exclusive}
-use Rattle.lock_queue_claims.specs.Claims.{EachNumber, Acceptance, RefusalLeaves, BlankAnswers, LookedWithin, StaysGood, JoinsEnd, GapClosed, FreedZeroed, OthersKept, LargestGrows, AskerHolds, LeaverHoldsNothing, HoldersShared, RoomAfterLeaving, NoDeskZero, BeyondLent, askNumbers, leaveNumbers, lapseNumbers, QueueListed}
+use Rattle.lock_queue_claims.specs.Claims.{
+  EachNumber,
+  Acceptance,
+  RefusalLeaves,
+  BlankAnswers,
+  LookedWithin,
+  StaysGood,
+  JoinsEnd,
+  GapClosed,
+  FreedZeroed,
+  OthersKept,
+  LargestGrows,
+  AskerHolds,
+  LeaverHoldsNothing,
+  HoldersShared,
+  RoomAfterLeaving,
+  NoDeskZero,
+  BeyondLent,
+  askNumbers,
+  leaveNumbers,
+  lapseNumbers,
+  QueueListed,
+}
 use Rattle.lock_queue.specs.Queue.{State, noWaiting, standing, desk, desks, stands, firstPlace, looked, noExclusive, holdsAt, holds}
 use Rattle.lock_queue.specs.Good.{waitingFormed, good}
 use Rattle.lock_queue.specs.Requests.{joined, removed, without, modeOf, upgrading, Request, asks, leaves, lapses, queueRows, sender, applied, blankAnswer, answered, number, after, answer}
@@ -24,7 +46,7 @@ use Rattle.lock_queue.proofs.Standing.{stands-place, stands-append, map-append}
 use Rattle.lock_queue.proofs.Judged.{each-once, accepted-good, accepted-after, leave-place, lapse-leaves}
 use Rattle.lock_queue.proofs.Removed.{all-at, gone, removed-absent, stands-inside, place-desk, place-last, none-exclusive}
 use Rattle.lock_queue.proofs.After as queue-after
-use Rattle.lock_queue.proofs.After.{after-keeps, absent, joined-standing, joined-good, some-left, without-standing, without-good, up-left, up-lie, up-again, up-plain, plainly, onto-largest}
+use Rattle.lock_queue.proofs.After.{after-keeps, absent, joined-standing, joined-good, some-left, without-standing, without-good, up-left, up-lie, up-again, up-plain, plainly, queueJoined-largest}
 
 pub each-number : EachNumber
 unfolding number
@@ -110,7 +132,7 @@ largest-grows lent q r =
     after-keeps (λ s. (q .largest .s ≤ s .largest .s) × (q .largest .x ≤ s .largest .x)) lent q r (omega arith) (made r)
   where
     made : (r : Request) → number lent q r ≡ 0 → (q .largest .s ≤ applied r q .largest .s) × (q .largest .x ≤ applied r q .largest .x)
-    made (asks new) e = rw (onto-largest (new .mode) (desk new) q) (larger-old (q .largest) (new .pair))
+    made (asks new) e = rw (queueJoined-largest (new .mode) (desk new) q) (larger-old (q .largest) (new .pair))
     made (leaves d) e = omega arith
     made (lapses l) e = omega arith
 

@@ -19,8 +19,8 @@ use lib.Ieee.Positive.{above, above-of-le, positive-of-value, le→cross}
 use lib.Ieee.Scale.{finite}
 use Rattle.floats.specs.Numbers.{wholeFloat, half}
 use Rattle.lock_queue.specs.declared.Lease.{Lease}
-use Rattle.lock_queue.specs.declared.Silence.{Silence}
-use Rattle.lock_queue.specs.Lease.{fair, timed, wait, inRange}
+use Rattle.lock_queue.specs.declared.LeaseExpiry.{LeaseExpiry}
+use Rattle.lock_queue.specs.Lease.{validTerm, validTime, wait, inRange}
 
 -- ---- a negative rounding is not above zero
 units-negative : (f : Format) (q k : ℕ) → T (above (units f true q k)) → ⊥
@@ -53,7 +53,9 @@ finite-sub : (f : Format) (s : Bool) (m : ℕ) (e : ℤ) (t : Bool) (n : ℕ) (d
 unfolding lt sub sum
 finite-sub f false m e false n d h a = go (ltb (m * up e * down d) (n * up d * down e)) h a
   where
-    go : (b : Bool) → T b → T (above (cond b (round f true (n * up d * down e - m * up e * down d) (down e * down d)) (round f (false && ltb (n * up d * down e) (m * up e * down d)) (m * up e * down d - n * up d * down e) (down e * down d)))) → ⊥
+    go : (b : Bool) → T b → T
+        (above (cond b (round f true (n * up d * down e - m * up e * down d) (down e * down d))
+        (round f (false && ltb (n * up d * down e) (m * up e * down d)) (m * up e * down d - n * up d * down e) (down e * down d)))) → ⊥
     go true t a = round-negative f (n * up d * down e - m * up e * down d) (down e * down d) a
     go false t a = t
 finite-sub f false m e true n d h a = h
@@ -64,7 +66,9 @@ finite-sub f true m e true n d h a =
     both : (x y : ℕ) → x < y → y < x → ⊥
     both x y h k = omega arith
 
-    go : (b c : Bool) → (T b → m * up e * down d < n * up d * down e) → (T c → n * up d * down e < m * up e * down d) → T c → T (above (cond b (round f false (n * up d * down e - m * up e * down d) (down e * down d)) (round f c (m * up e * down d - n * up d * down e) (down e * down d)))) → ⊥
+    go : (b c : Bool) → (T b → m * up e * down d < n * up d * down e) → (T c → n * up d * down e < m * up e * down d) → T c → T
+        (above (cond b (round f false (n * up d * down e - m * up e * down d) (down e * down d))
+        (round f c (m * up e * down d - n * up d * down e) (down e * down d)))) → ⊥
     go true c k l t a = both (m * up e * down d) (n * up d * down e) (k tt) (l t)
     go false true k l t a = round-negative f (m * up e * down d - n * up d * down e) (down e * down d) a
     go false false k l t a = t
@@ -149,7 +153,8 @@ longer (fin true n k) f h = go (ltb (1 * down k) (n * up k * 1)) (ltb→lt (1 * 
     zeros : 0 * 1 * down k ≡ n * up k * 1
     zeros = eqb→eq (0 * 1 * down k) (n * up k * 1) (and-l (eqb (0 * 1 * down k) (n * up k * 1)) (eqb (0 * 1 * down k) 0) h)
 
-    go : (b : Bool) → (T b → 1 * down k < n * up k * 1) → T (le one (cond b (round binary64 true (n * up k * 1 - 1 * down k) (1 * down k)) (round binary64 false (1 * down k - n * up k * 1) (1 * down k))))
+    go : (b : Bool) → (T b → 1 * down k < n * up k * 1) → T
+        (le one (cond b (round binary64 true (n * up k * 1 - 1 * down k) (1 * down k)) (round binary64 false (1 * down k - n * up k * 1) (1 * down k))))
     go true k′ = absurd (omega (arith, k′ tt, zeros))
     go false k′ =
         subst (λ (x : Float). T (le x (round binary64 false (1 * down k - n * up k * 1) (1 * down k)))) one-rounded
@@ -200,11 +205,11 @@ back (fin s m e) nan f g h = absurd g
 back (fin s m e) (inf t) f g h = absurd g
 back (fin s m e) (fin t n d) f g h = finite-sub binary64 s m e t n d h
 
-pub timed-finite : (t : Float) → T (timed t) → T (finite t)
+pub validTime-finite : (t : Float) → T (validTime t) → T (finite t)
 unfolding wholeFloat ofInt
-timed-finite t h = bounded t _ _ _ (and-l (le nil t) (le t (wholeFloat 1_000_000_000)) h) (and-r (le nil t) (le t (wholeFloat 1_000_000_000)) h)
+validTime-finite t h = bounded t _ _ _ (and-l (le nil t) (le t (wholeFloat 1_000_000_000)) h) (and-r (le nil t) (le t (wholeFloat 1_000_000_000)) h)
 
-pub wait-above : (l : Lease) → T (fits binary64 (l .period)) → T (fair l) → T (above (wait l))
+pub wait-above : (l : Lease) → T (fits binary64 (l .period)) → T (validTerm l) → T (above (wait l))
 unfolding wholeFloat half ofInt div
 wait-above l f h =
     let all = four (lt nil (l .period)) (le (l .period) (wholeFloat 86400)) (le nil (l .drift)) (le (l .drift) half) h in
@@ -221,18 +226,19 @@ none-least : (x : Float) → x ≡ nan → T (le nil x) → ⊥
 unfolding le
 none-least x e h = subst (λ (y : Float). T (le nil y)) e h
 
-pub none-fine : (r : Silence) → (r .lease .period ≡ nan) ⊎ (r .lease .drift ≡ nan) ⊎ (r .begin ≡ nan) ⊎ (r .now ≡ nan) → T (inRange r) → ⊥
+pub none-fine : (r : LeaseExpiry) → (r .lease .period ≡ nan) ⊎ (r .lease .drift ≡ nan) ⊎ (r .begin ≡ nan) ⊎ (r .now ≡ nan) → T (inRange r) → ⊥
 unfolding wholeFloat ofInt
 none-fine r no-one all = go no-one
   where
-    first : T (fair (r .lease) && timed (r .begin))
-    first = and-l (fair (r .lease) && timed (r .begin)) (timed (r .now)) all
+    first : T (validTerm (r .lease) && validTime (r .begin))
+    first = and-l (validTerm (r .lease) && validTime (r .begin)) (validTime (r .now)) all
 
     terms : T (lt nil (r .lease .period)) × T (le (r .lease .period) (wholeFloat 86400)) × T (le nil (r .lease .drift)) × T (le (r .lease .drift) half)
-    terms = four (lt nil (r .lease .period)) (le (r .lease .period) (wholeFloat 86400)) (le nil (r .lease .drift)) (le (r .lease .drift) half) (and-l (fair (r .lease)) (timed (r .begin)) first)
+    terms = four (lt nil (r .lease .period)) (le (r .lease .period) (wholeFloat 86400)) (le nil (r .lease .drift)) (le (r .lease .drift) half)
+        (and-l (validTerm (r .lease)) (validTime (r .begin)) first)
 
     go : (r .lease .period ≡ nan) ⊎ (r .lease .drift ≡ nan) ⊎ (r .begin ≡ nan) ⊎ (r .now ≡ nan) → ⊥
     go (inl e) = none-below (r .lease .period) e (terms .0)
     go (inr (inl e)) = none-least (r .lease .drift) e (terms .2)
-    go (inr (inr (inl e))) = none-least (r .begin) e (and-l (le nil (r .begin)) (le (r .begin) (wholeFloat 1_000_000_000)) (and-r (fair (r .lease)) (timed (r .begin)) first))
-    go (inr (inr (inr e))) = none-least (r .now) e (and-l (le nil (r .now)) (le (r .now) (wholeFloat 1_000_000_000)) (and-r (fair (r .lease) && timed (r .begin)) (timed (r .now)) all))
+    go (inr (inr (inl e))) = none-least (r .begin) e (and-l (le nil (r .begin)) (le (r .begin) (wholeFloat 1_000_000_000)) (and-r (validTerm (r .lease)) (validTime (r .begin)) first))
+    go (inr (inr (inr e))) = none-least (r .now) e (and-l (le nil (r .now)) (le (r .now) (wholeFloat 1_000_000_000)) (and-r (validTerm (r .lease) && validTime (r .begin)) (validTime (r .now)) all))

@@ -10,7 +10,7 @@ use Rattle.stamps.specs.Stamp.{stamp}
 use Rattle.lock_queue.specs.Queue.{stands}
 use Rattle.lock_queue.specs.Good.{distinct, good}
 use Rattle.lock_queue.specs.Requests.{leaves, lapses, number, after}
-use Rattle.lock_queue.specs.declared.Silence.{Silence}
+use Rattle.lock_queue.specs.declared.LeaseExpiry.{LeaseExpiry}
 use Rattle.lock_queue_claims.specs.LeaseCases.{oneStands, silent, LeaseEnds, LeaseLimits, TimeLimits, LeaseSpecials, LeaseOrder}
 use Rattle.lock_queue_claims.proofs.Leases.{lapses-exactly, leaves-as-leaving, no-number, clock-back, back-waits}
 
@@ -37,15 +37,15 @@ lease-order = refl
 -- ---- each hypothesis of a claim is met by a case
 
 -- A period of 30, a drift of 0.5, since 145; at 190 it is over, and at 100 the clock went back.
-abbrev since : ℕ → Silence
+abbrev since : ℕ → LeaseExpiry
 since now = silent 0x403e_0000_0000_0000 0x3fe0_0000_0000_0000 0x4062_2000_0000_0000 now
 
-over-at-190 : number 1 oneStands (lapses (since 0x4067_c000_0000_0000)) ≡ 0
+expired-at-190 : number 1 oneStands (lapses (since 0x4067_c000_0000_0000)) ≡ 0
 unfolding good all allFrom distinct stands ofBits ofInt wholeFloat half add sub mul div neg lt le
-over-at-190 = lapses-exactly 1 oneStands (since 0x4067_c000_0000_0000) .1 (to-T refl, to-T refl, to-T refl, to-T refl)
+expired-at-190 = lapses-exactly 1 oneStands (since 0x4067_c000_0000_0000) .1 (to-T refl, to-T refl, to-T refl, to-T refl)
 
 left-at-190 : after 1 oneStands (lapses (since 0x4067_c000_0000_0000)) ≡ after 1 oneStands (leaves (stamp 0 1 0))
-left-at-190 = leaves-as-leaving 1 oneStands (since 0x4067_c000_0000_0000) over-at-190 .1
+left-at-190 = leaves-as-leaving 1 oneStands (since 0x4067_c000_0000_0000) expired-at-190 .1
 
 never-at-100 : number 1 oneStands (lapses (since 0x4059_0000_0000_0000)) ≡ 0 → ⊥
 unfolding ofBits fits lt

@@ -9,16 +9,16 @@ use lib.Ieee.Fits.{and-l, and-r}
 use Rattle.lists.proofs.Tests.{to-T, from-T, to-false}
 use Rattle.lock_queue.specs.Queue.{State, standing, desks, stands}
 use Rattle.lock_queue.specs.Good.{good}
-use Rattle.lock_queue.specs.Lease.{fair, timed, wait, over, inRange}
+use Rattle.lock_queue.specs.Lease.{validTerm, validTime, wait, expired, inRange}
 use Rattle.lock_queue.specs.Requests.{lapses, number}
-use Rattle.lock_queue.specs.declared.Silence.{Silence}
+use Rattle.lock_queue.specs.declared.LeaseExpiry.{LeaseExpiry}
 use Rattle.lock_queue.proofs.Judged.{no-row, lapse-same}
 use Rattle.lock_queue_claims.specs.Leases.{LapsesExactly, LeavesAsLeaving, NoNumber, ClockBack, BackWaits}
-use Rattle.lock_queue_claims.proofs.Clock.{above-le, back, timed-finite, wait-above, none-fine}
+use Rattle.lock_queue_claims.proofs.Clock.{above-le, back, validTime-finite, wait-above, none-fine}
 
 -- The number, where no row applies.
-ended : (lent : ℕ) (q : State) (r : Silence) → good lent q ≡ true → inRange r ≡ true → stands (r .desk) (desks (standing q)) ≡ true →
-    over (r .lease) (r .begin) (r .now) ≡ true → number lent q (lapses r) ≡ 0
+ended : (lent : ℕ) (q : State) (r : LeaseExpiry) → good lent q ≡ true → inRange r ≡ true → stands (r .desk) (desks (standing q)) ≡ true →
+    expired (r .lease) (r .begin) (r .now) ≡ true → number lent q (lapses r) ≡ 0
 unfolding number
 ended lent q r g i s o = rw (g, i, s, o)
 
@@ -28,11 +28,11 @@ lapses-exactly lent q r = (
     to-T (not-false (good lent q) (no-row lent q (lapses r) e 10)),
     to-T (not-false (inRange r) (no-row lent q (lapses r) e 21)),
     to-T (not-false (stands (r .desk) (desks (standing q))) (no-row lent q (lapses r) e 15)),
-    to-T (not-false (over (r .lease) (r .begin) (r .now)) (no-row lent q (lapses r) e 25)),
+    to-T (not-false (expired (r .lease) (r .begin) (r .now)) (no-row lent q (lapses r) e 25)),
   ),
   λ h.
       ended lent q r (from-T (good lent q) (h .0)) (from-T (inRange r) (h .1)) (from-T (stands (r .desk) (desks (standing q))) (h .2))
-      (from-T (over (r .lease) (r .begin) (r .now)) (h .3)),
+      (from-T (expired (r .lease) (r .begin) (r .now)) (h .3)),
 )
 
 pub leaves-as-leaving : LeavesAsLeaving
@@ -45,20 +45,20 @@ no-number lent q r no-one t =
     rw (from-T (good lent q) t, bad)
 
 -- The wait is above zero, and the time since `begin` is not.
-not-over : (r : Silence) → T (fits binary64 (r .lease .period)) → T (lt (r .now) (r .begin)) → T (inRange r) → T (over (r .lease) (r .begin) (r .now)) → ⊥
-not-over r f h all o =
-    let first = and-l (fair (r .lease) && timed (r .begin)) (timed (r .now)) all in
+not-expired : (r : LeaseExpiry) → T (fits binary64 (r .lease .period)) → T (lt (r .now) (r .begin)) → T (inRange r) → T (expired (r .lease) (r .begin) (r .now)) → ⊥
+not-expired r f h all o =
+    let first = and-l (validTerm (r .lease) && validTime (r .begin)) (validTime (r .now)) all in
     back (r .now) (r .begin)
-    (timed-finite (r .now) (and-r (fair (r .lease) && timed (r .begin)) (timed (r .now)) all))
-    (timed-finite (r .begin) (and-r (fair (r .lease)) (timed (r .begin)) first))
+    (validTime-finite (r .now) (and-r (validTerm (r .lease) && validTime (r .begin)) (validTime (r .now)) all))
+    (validTime-finite (r .begin) (and-r (validTerm (r .lease)) (validTime (r .begin)) first))
     h
-    (above-le (wait (r .lease)) (sub binary64 (r .now) (r .begin)) (wait-above (r .lease) f (and-l (fair (r .lease)) (timed (r .begin)) first)) o)
+    (above-le (wait (r .lease)) (sub binary64 (r .now) (r .begin)) (wait-above (r .lease) f (and-l (validTerm (r .lease)) (validTime (r .begin)) first)) o)
 
 pub clock-back : ClockBack
-clock-back lent q r f h e = let all = lapses-exactly lent q r .0 e in not-over r f h (all .1) (all .3)
+clock-back lent q r f h e = let all = lapses-exactly lent q r .0 e in not-expired r f h (all .1) (all .3)
 
 pub back-waits : BackWaits
 unfolding number
 back-waits lent q r f h g i s =
-    let runs : over (r .lease) (r .begin) (r .now) ≡ false = to-false (over (r .lease) (r .begin) (r .now)) (not-over r f h i) in
+    let runs : expired (r .lease) (r .begin) (r .now) ≡ false = to-false (expired (r .lease) (r .begin) (r .now)) (not-expired r f h i) in
     rw (from-T (good lent q) g, from-T (inRange r) i, from-T (stands (r .desk) (desks (standing q))) s, runs)

@@ -8,31 +8,31 @@ use lib.Dec.{T}
 use Rattle.lists.proofs.Tests.{to-T}
 use Rattle.stamps.specs.Stamp.{stamp, exclusive}
 use Rattle.lock_queue.specs.declared.Waiting.{Waiting}
-use Rattle.lists.specs.Parts.{table}
+use Rattle.lists.specs.Parts.{tabulate}
 use Rattle.lists.specs.Table.{all, allFrom}
 use Rattle.lock_queue.specs.Queue.{mostPlaces, emptyQueue, standing, desk, stands, firstPlace, looked, noExclusive, holdsAt, holds}
 use Rattle.lock_queue.specs.Good.{distinct, good}
-use Rattle.lock_queue.specs.Requests.{asks, leaves, joined, removed, without, upgrading, onto, answered, number, after, answer}
-use Rattle.lock_queue_claims.specs.Course.{queueAfter, granted, largestAsked, lasting}
-use Rattle.lock_queue_claims.specs.Trials.{numbers, guest, asker, twoShared, unused, courseSent, TrialN, TrialUpgrade, TrialUpgraded, TrialCourse}
+use Rattle.lock_queue.specs.Requests.{asks, leaves, joined, removed, without, upgrading, queueJoined, answered, number, after, answer}
+use Rattle.lock_queue_claims.specs.Traces.{queueAfter, granted, largestAsked, lasting}
+use Rattle.lock_queue_claims.specs.Trials.{numbers, guest, asker, twoShared, unused, traceSent, TrialN, TrialUpgrade, TrialUpgraded, TrialTrace}
 use Rattle.lock_queue_claims.proofs.Upgrades.{twelve-means, upgrade-by-pair, upgrade-never-full, upgrade-is-both, newcomer-joins-end, newcomer-holds}
-use Rattle.lock_queue_claims.proofs.Course.{empty-good, largest-accepted, standing-accepted}
+use Rattle.lock_queue_claims.proofs.Traces.{empty-good, largest-accepted, standing-accepted}
 
 pub trial-n : TrialN
-unfolding numbers number after upgrading onto good all allFrom distinct stands joined without removed table
+unfolding numbers number after upgrading queueJoined good all allFrom distinct stands joined without removed tabulate
 trial-n = refl
 
 pub trial-upgrade : TrialUpgrade
-unfolding numbers number after upgrading onto firstPlace good all allFrom distinct stands joined without removed
+unfolding numbers number after upgrading queueJoined firstPlace good all allFrom distinct stands joined without removed
 trial-upgrade = refl
 
 pub trial-upgraded : TrialUpgraded
-unfolding number after answer answered holds holdsAt noExclusive looked upgrading onto firstPlace good all allFrom distinct stands joined without removed
+unfolding number after answer answered holds holdsAt noExclusive looked upgrading queueJoined firstPlace good all allFrom distinct stands joined without removed
 trial-upgraded = (refl, refl)
 
-pub trial-course : TrialCourse
-unfolding numbers granted largestAsked lasting number after upgrading onto firstPlace good all allFrom distinct stands joined without removed
-trial-course = (refl, refl, refl)
+pub trial-systemAfter : TrialTrace
+unfolding numbers granted largestAsked lasting number after upgrading queueJoined firstPlace good all allFrom distinct stands joined without removed
+trial-systemAfter = (refl, refl, refl)
 
 -- ---- each hypothesis of a claim is met by a case
 
@@ -66,12 +66,12 @@ unfolding good all allFrom distinct stands
 again-shared = twelve-means 2 twoShared (guest 2) .1 (to-T refl, to-T refl, to-T refl, inl refl)
 
 again-exclusive : number 2 (after 2 twoShared (asks raise)) (asks raise) ≡ 12
-unfolding number after upgrading onto firstPlace good all allFrom distinct stands joined without removed
+unfolding number after upgrading queueJoined firstPlace good all allFrom distinct stands joined without removed
 again-exclusive = twelve-means 2 (after 2 twoShared (asks raise)) raise .1 (to-T refl, to-T refl, to-T refl, inr refl)
 
 -- Desk 1 asks shared where nobody stands, and is no upgrade.
 new-accepted : number 2 unused (asks (guest 1)) ≡ 0
-unfolding number upgrading onto firstPlace good all allFrom distinct stands
+unfolding number upgrading queueJoined firstPlace good all allFrom distinct stands
 new-accepted = refl
 
 new-last : standing (after 2 unused (asks (guest 1))) ≡ guest 1 ∷ []
@@ -89,8 +89,8 @@ least = empty-good 1 (unused .places) (omega arith) (omega arith)
 most : T (good mostPlaces (emptyQueue []))
 most = empty-good mostPlaces [] (omega arith) (omega arith)
 
-course-largest : queueAfter 2 unused courseSent .largest ≡ largestAsked (granted 2 unused courseSent)
-course-largest = largest-accepted 2 (unused .places) courseSent
+systemAfter-largest : queueAfter 2 unused traceSent .largest ≡ largestAsked (granted 2 unused traceSent)
+systemAfter-largest = largest-accepted 2 (unused .places) traceSent
 
-course-standing : standing (queueAfter 2 unused courseSent) ≡ lasting (granted 2 unused courseSent)
-course-standing = standing-accepted 2 (unused .places) courseSent (omega arith)
+systemAfter-standing : standing (queueAfter 2 unused traceSent) ≡ lasting (granted 2 unused traceSent)
+systemAfter-standing = standing-accepted 2 (unused .places) traceSent (omega arith)

@@ -5,7 +5,7 @@ use Prim.Native.Nat.{_≤_}
 use native.Mathlib.Omega.{arith}
 use mathlib.Core.Path.{_≡_, refl}
 use mathlib.Core.List.{[], _∷_}
-use mathlib.Core.Bool.{false, not}
+use mathlib.Core.Bool.{false}
 use lib.Dec.{T}
 use lib.ListN.{length, drop, getD}
 use Rattle.lists.proofs.Tests.{to-T}
@@ -18,7 +18,23 @@ use Rattle.lock_queue.specs.declared.Waiting.{Waiting}
 use Rattle.lock_queue_claims.specs.Trials.{guest, asker, twoShared}
 use Rattle.lock_queue_claims.specs.LeaseCases.{silent}
 use Rattle.lock_queue_claims.specs.Answers.{seat, given, fourStand}
-use Rattle.lock_queue_claims.proofs.Claims.{refusal-leaves, others-kept, beyond-lent, blank-answers, looked-within, stays-good, joins-end, gap-closed, freed-zeroed, largest-grows, room-after-leaving, asker-holds, leaver-holds-nothing, holders-shared, no-desk-zero}
+use Rattle.lock_queue_claims.proofs.Claims.{
+  refusal-leaves,
+  others-kept,
+  beyond-lent,
+  blank-answers,
+  looked-within,
+  stays-good,
+  joins-end,
+  gap-closed,
+  freed-zeroed,
+  largest-grows,
+  room-after-leaving,
+  asker-holds,
+  leaver-holds-nothing,
+  holders-shared,
+  no-desk-zero,
+}
 use Rattle.lock_queue_claims.proofs.Upgrades.{upgrade-is-both}
 
 -- ---- numbers that the uses rest on, by computation

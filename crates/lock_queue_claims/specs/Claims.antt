@@ -12,7 +12,7 @@ use Rattle.lists.specs.Table.{applies, noRow, earlier, listed}
 use Rattle.lock_queue.specs.Queue.{State, noWaiting, longer, standing, desk, noExclusive, holds}
 use Rattle.lock_queue.specs.Good.{good}
 use Rattle.lock_queue.specs.Requests.{removed, modeOf, Request, asks, leaves, lapses, queueRows, blankAnswer, number, after, answer}
-use Rattle.lock_queue.specs.declared.Silence.{Silence}
+use Rattle.lock_queue.specs.declared.LeaseExpiry.{LeaseExpiry}
 use Rattle.lock_queue.specs.declared.Waiting.{Waiting}
 
 -- Each number exactly when its row applies and none above it does.
@@ -126,4 +126,4 @@ lapseNumbers = 10 ∷ 15 ∷ 21 ∷ 25 ∷ []
 pub record QueueListed : Type 0 where
   pub asked : (lent : ℕ) (q : State) (new : Waiting) → T (listed askNumbers (number lent q (asks new)))
   pub left : (lent : ℕ) (q : State) (d : ℕ) → T (listed leaveNumbers (number lent q (leaves d)))
-  pub lapsed : (lent : ℕ) (q : State) (r : Silence) → T (listed lapseNumbers (number lent q (lapses r)))
+  pub lapsed : (lent : ℕ) (q : State) (r : LeaseExpiry) → T (listed lapseNumbers (number lent q (lapses r)))

@@ -7,7 +7,7 @@ use lib.Ieee.{binary64, ofBits}
 use Rattle.stamps.specs.Stamp.{stamp}
 use Rattle.lock_queue.specs.Queue.{State}
 use Rattle.lock_queue.specs.Requests.{lapses, number}
-use Rattle.lock_queue.specs.declared.Silence.{Silence}
+use Rattle.lock_queue.specs.declared.LeaseExpiry.{LeaseExpiry}
 use Rattle.lock_queue_claims.specs.Trials.{guest}
 
 -- Desk 1 stands alone.
@@ -15,7 +15,7 @@ abbrev pub oneStands : State
 oneStands = record { places = guest 1 ∷ []; count = 1; largest = record { s = stamp 1 1 0; x = 0 } }
 
 -- Desk 1 fell silent: period, drift, begin and now by their bits.
-abbrev pub silent : ℕ → ℕ → ℕ → ℕ → Silence
+abbrev pub silent : ℕ → ℕ → ℕ → ℕ → LeaseExpiry
 silent period drift begin now =
     record {
       desk = stamp 0 1 0;
@@ -24,7 +24,7 @@ silent period drift begin now =
       now = ofBits binary64 now;
     }
 
-abbrev pub answers : List Silence → List ℕ
+abbrev pub answers : List LeaseExpiry → List ℕ
 answers rs = map (λ r. number 1 oneStands (lapses r)) rs
 
 -- A period of 30 and a drift of 0.5 make a wait of 45 (rules 13.3, 13.4 and 13.8).
@@ -115,7 +115,7 @@ LeaseSpecials =
     ≡ 21 ∷ 21 ∷ 21 ∷ 21 ∷ 21 ∷ 21 ∷ 21 ∷ 21 ∷ 0 ∷ []
 
 -- A desk that does not stand, desk 2, in place of desk 1.
-abbrev pub absent : Silence → Silence
+abbrev pub absent : LeaseExpiry → LeaseExpiry
 absent r = record { desk = stamp 0 2 0; lease = r .lease; begin = r .begin; now = r .now }
 
 -- The order 10, 21, 15, 25 (rule 13.5): where a row applies, those behind it make no difference.

@@ -4,12 +4,12 @@ use Prim.Native.Nat.{ℕ, _+_}
 use mathlib.Core.Path.{_≡_}
 use mathlib.Core.List.{List, [], _∷_}
 use mathlib.Core.Bool.{false}
-use Rattle.lists.specs.Parts.{table}
+use Rattle.lists.specs.Parts.{tabulate}
 use Rattle.stamps.specs.Stamp.{stamp, shared, exclusive}
 use Rattle.lock_queue.specs.Queue.{State, mostPlaces, emptyQueue}
 use Rattle.lock_queue.specs.Requests.{Request, asks, leaves, number, after, answer}
 use Rattle.lock_queue.specs.declared.Waiting.{Waiting}
-use Rattle.lock_queue_claims.specs.Course.{granted, largestAsked, lasting}
+use Rattle.lock_queue_claims.specs.Traces.{granted, largestAsked, lasting}
 
 -- The shared entry of desk n.
 abbrev pub guest : ℕ → Waiting
@@ -19,7 +19,7 @@ guest n = record { mode = shared; pair = record { s = stamp n n 0; x = 0 } }
 abbrev pub crowded : State
 crowded =
     record {
-      places = table (λ i. guest (i + 1)) mostPlaces;
+      places = tabulate (λ i. guest (i + 1)) mostPlaces;
       count = mostPlaces;
       largest = record { s = stamp mostPlaces mostPlaces 0; x = 0 };
     }
@@ -87,8 +87,8 @@ abbrev pub unused : State
 unused = emptyQueue (asker 7 1 1 ∷ asker 9 2 2 ∷ [])
 
 -- Desks 1 and 2 join, and desk 3 finds the queue full. Desk 1 upgrades and desk 2 leaves, twice. Then desk 3 joins.
-abbrev pub courseSent : List Request
-courseSent =
+abbrev pub traceSent : List Request
+traceSent =
     asks (guest 1)
     ∷ asks (guest 2)
     ∷ asks (asker shared (stamp 9 3 0) (stamp 1 1 0))
@@ -99,8 +99,8 @@ courseSent =
     ∷ []
 
 -- The refused ask's s, the largest of all, does not count.
-abbrev pub TrialCourse : Type 0
-TrialCourse =
-    (numbers 2 unused courseSent ≡ 0 ∷ 0 ∷ 13 ∷ 0 ∷ 0 ∷ 15 ∷ 0 ∷ [])
-    × (largestAsked (granted 2 unused courseSent) ≡ record { s = stamp 2 2 0; x = stamp 1 1 0 })
-    × (lasting (granted 2 unused courseSent) ≡ asker exclusive (stamp 2 2 0) (stamp 1 1 0) ∷ asker shared (stamp 1 3 0) (stamp 1 1 0) ∷ [])
+abbrev pub TrialTrace : Type 0
+TrialTrace =
+    (numbers 2 unused traceSent ≡ 0 ∷ 0 ∷ 13 ∷ 0 ∷ 0 ∷ 15 ∷ 0 ∷ [])
+    × (largestAsked (granted 2 unused traceSent) ≡ record { s = stamp 2 2 0; x = stamp 1 1 0 })
+    × (lasting (granted 2 unused traceSent) ≡ asker exclusive (stamp 2 2 0) (stamp 1 1 0) ∷ asker shared (stamp 1 3 0) (stamp 1 1 0) ∷ [])

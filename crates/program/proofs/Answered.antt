@@ -12,12 +12,14 @@ use Rattle.lists.specs.Parts.{part, splice}
 use Rattle.lists.proofs.Parts.{part-replicate, splice-nil}
 use Rattle.image.specs.Layout.{mostRoom}
 use Rattle.image.specs.Bytes.{countOf, roomOf}
-use Rattle.program.specs.Text.{quoted, Put}
+use Rattle.program.specs.Text.{quoted}
+use Rattle.program.specs.inner.Put.{Put}
 use Rattle.program.proofs.Puts.{put-put, put-wide}
 use Rattle.formats.specs.Format.{V1}
 use Rattle.image.specs.Image.{goodFront, frontSize, frontOf, sound}
 use Rattle.image.specs.declared.Dimensions.{Dimensions}
-use Rattle.program.specs.Program.{firstLine, mostLine, mostInput, imageOf, streamOf, blankOf, printed, mostPrinted, outputOf, mostOutput, outputWithin, Lent}
+use Rattle.program.specs.Program.{firstLine, mostLine, mostInput, imageOf, streamOf, blankOf, printed, mostPrinted, outputOf, mostOutput, outputWithin}
+use Rattle.program.specs.inner.Ready.{Ready}
 use Rattle.image.proofs.InFront.{Fronting, front, good-front}
 
 -- The stream lent as the rest of the input, from a place on to its end.
@@ -59,7 +61,7 @@ module _ (input : List ℕ) (d : Dimensions) (is : d ≡ frontOf input) (some : 
   room-is : d .room ≡ roomOf input
   room-is = ap (λ (d : Dimensions). d .room) is ∙ there .room-said
 
-  pub lent : (out : List ℕ) (at : ℕ) → length input ≤ mostInput → at ≤ mostLine → mostOutput ≤ length out → Lent input (d .size) (d .room) out at
+  pub lent : (out : List ℕ) (at : ℕ) → length input ≤ mostInput → at ≤ mostLine → mostOutput ≤ length out → Ready input (d .size) (d .room) out at
   lent out at h j k =
       record {
         within = omega (arith, size-is, there .size, there .within);

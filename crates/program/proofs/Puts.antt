@@ -6,7 +6,7 @@ use mathlib.Core.List.{List, [], _++_}
 use lib.ListN.{length, length-append}
 use Rattle.lists.specs.Parts.{splice}
 use Rattle.lists.proofs.Parts.{splice-adjacent, length-splice, splice-nil}
-use Rattle.program.specs.Text.{Put}
+use Rattle.program.specs.inner.Put.{Put}
 
 pub put-put : {at m n : ℕ} {a b s₀ s₁ s₂ : List ℕ} {r₁ r₂ : ℕ} → at ≤ length s₀ → Put at m a s₀ s₁ r₁ → Put r₁ n b s₁ s₂ r₂ → Put at (m + n) (a ++ b) s₀ s₂ r₂
 put-put {at} {m} {n} {a} {b} {s₀} {s₁} {s₂} {r₁} {r₂} h p q =

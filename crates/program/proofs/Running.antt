@@ -6,12 +6,12 @@ use lib.ListN.{length, take, drop}
 use native.Mathlib.Omega.{arith}
 use Rattle.formats.specs.Format.{V1, fixed}
 use Rattle.lists.specs.Parts.{part}
-use Rattle.program.specs.Text.{Put}
+use Rattle.program.specs.inner.Put.{Put}
 use Rattle.program.proofs.Puts.{put-put, put-wide, Putting, putting-none, putting-more, putting-done}
 use Rattle.guard.specs.declared.Answer.{Answer}
 use Rattle.program.specs.Program.{lineBy, lineOf, linesFrom, lastLine, mostLine, printed, mostPrinted}
 use Rattle.store.specs.Runs.{runs, numbersOf}
-use Rattle.model.specs.Serve.{serve}
+use Rattle.store_model.specs.Serve.{serve}
 use Rattle.stream.specs.Stream.{commands, nextAt, endOf}
 use Rattle.stream.specs.declared.Next.the-variants.{Whole, Cut}
 use Rattle.stream.proofs.Commands.{Walked, walked-none, walked-more, walked-done}
@@ -74,7 +74,8 @@ module _ {start : ℕ} {image₀ reply₀ stream out₀ image reply out : List �
     pub running-fits : to + mostLine ≤ length out
     running-fits = omega (arith, r .walked .within, r .few, r .far, r .room, r .lines .long)
 
-    pub running-done : {out′ : List ℕ} {to′ left : ℕ} → left ≡ length stream - from → Put to mostLine (lastLine left) out out′ to′ → Put start (mostPrinted stream) (printed image₀ reply₀ stream) out₀ out′ to′
+    pub running-done : {out′ : List ℕ} {to′ left : ℕ} → left ≡ length stream - from → Put to mostLine (lastLine left) out out′ to′ → Put start
+        (mostPrinted stream) (printed image₀ reply₀ stream) out₀ out′ to′
     unfolding runs linesFrom
     running-done {left = left} k p =
         let at = walked-done V1 stream from (r .walked) e in

@@ -1,17 +1,15 @@
 -- What the program prints for its input, byte for byte (rules 8.3 to 8.6).
 -- Assumes nothing.
-use Prim.Native.Nat.{ℕ, _+_, _*_, _-_, _/_, _≤_}
-use mathlib.Core.Path.{_≡_}
+use Prim.Native.Nat.{ℕ, _+_, _*_, _-_, _/_}
 use mathlib.Core.List.{List, [], _∷_, _++_}
-use mathlib.Core.Bool.{cond, true}
+use mathlib.Core.Bool.{cond}
 use lib.Dec.{ltb, eqb}
 use lib.ListN.{length, take, drop, replicate}
 use Rattle.formats.specs.Format.{V1, fixed}
-use Rattle.image.specs.Layout.{mostBytes, mostRoom}
 use Rattle.image.specs.Bytes.{countOf, roomOf}
-use Rattle.image.specs.Image.{goodFront, frontSize, sound}
+use Rattle.image.specs.Image.{goodFront, frontSize}
 use Rattle.guard.specs.declared.Answer.{Answer}
-use Rattle.lists.specs.Parts.{spread}
+use Rattle.lists.specs.Parts.{concatMap}
 use Rattle.store.specs.Runs.{Run, runs, numbersOf, perLine}
 use Rattle.stream.specs.Stream.{commands, endOf}
 use Rattle.program.specs.Text.{quoted, decimal, spaced, mostDigits}
@@ -24,7 +22,7 @@ firstLine cards = quoted "cards" ++ spaced cards ++ quoted "\n"
 
 -- A command's line: its place, then the numbers of its answer.
 abbrev pub lineBy : ℕ → List ℕ → List ℕ
-lineBy place numbers = decimal place ++ spread spaced numbers ++ quoted "\n"
+lineBy place numbers = decimal place ++ concatMap spaced numbers ++ quoted "\n"
 
 unfoldable pub lineOf : ℕ → Answer → List ℕ
 lineOf place a = lineBy place (numbersOf a)
@@ -90,11 +88,3 @@ mostOutput = (mostInput / (fixed V1) + 2) * mostLine
 -- What is written where so many bytes are lent: nothing where they are too few for the longest output (rule 8.6).
 unfoldable pub outputWithin : ℕ → List ℕ → List ℕ
 outputWithin lent input = cond (ltb lent mostOutput) [] (outputOf input)
-
--- What the run behind an image of `size` bytes needs: an image within the input and the limits, and a place for every line.
-pub record Lent (input : List ℕ) (size room : ℕ) (out : List ℕ) (at : ℕ) : Type 0 where
-  pub within : size ≤ length input
-  pub small : size ≤ mostBytes
-  pub most : room ≤ mostRoom
-  pub good : sound V1 (take size input) ≡ true
-  pub lines : at + mostPrinted (drop size input) ≤ length out

@@ -1,14 +1,11 @@
 -- Text as bytes: words, and numbers in decimal (rule 8.4).
 -- Assumes nothing.
-use Prim.Native.Nat.{ℕ, zero, suc, _+_, _/_, _%_, _≤_}
+use Prim.Native.Nat.{ℕ, zero, suc, _+_, _/_, _%_}
 use Prim.Native.Char.{code}
 use Prim.Native.String.{String, [] as none, _∷_ as _then_}
-use mathlib.Core.Path.{_≡_}
 use mathlib.Core.List.{List, [], _∷_, _++_}
 use mathlib.Core.Bool.{Bool, true, false}
 use lib.Dec.{ltb}
-use lib.ListN.{length}
-use Rattle.lists.specs.Parts.{splice}
 
 -- The bytes of a quoted text, one for each letter.
 unfoldable pub quoted : String → List ℕ
@@ -32,12 +29,3 @@ spaced n = quoted " " ++ decimal n
 -- How many digits a number of 64 bits has at most.
 abbrev pub mostDigits : ℕ
 mostDigits = 20
-
--- ---- What a function that writes a text leaves.
-
--- The bytes `before` became `after`: the text stands in them from place `at` on, and what is handed back is the place behind it, at most so many
--- bytes further on.
-pub record Put (at most : ℕ) (text before after : List ℕ) (behind : ℕ) : Type 0 where
-  pub written : after ≡ splice at text before
-  pub counted : behind ≡ at + length text
-  pub few : behind ≤ at + most

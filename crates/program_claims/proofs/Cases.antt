@@ -7,7 +7,7 @@ use lib.ListN.{length, replicate, length-replicate}
 use Rattle.image.proofs.InFront.{front-sound}
 use Rattle.program.proofs.Answered.{long-output, bad-output}
 use Rattle.formats.specs.Format.{V2}
-use Rattle.lists.specs.Parts.{part, splice, table, spread, every, zeros}
+use Rattle.lists.specs.Parts.{part, splice, tabulate, concatMap, every, zeros}
 use Rattle.lists.specs.Table.{all, allFrom}
 use Rattle.lists.specs.Le.{le, toLe}
 use Rattle.commands.specs.Command.{wellFormed}
@@ -18,7 +18,7 @@ use Rattle.guard.specs.Replies.{replied}
 use Rattle.image.specs.Layout.{shapeOk}
 use Rattle.image.specs.Bytes.{header, entryBytes, pad, readEntry, entryAt}
 use Rattle.image.specs.Image.{bodies, encode, cardAt, decode, tailZero, translationSound, cardSound, headerSound, sound, fresh}
-use Rattle.model.specs.Serve.{stepped, serveBy, serve}
+use Rattle.store_model.specs.Serve.{stepped, serveBy, serve}
 use Rattle.stream.specs.Stream.{extent, whole, commandsWithin, commands, endWithin, endOf}
 use Rattle.image.specs.Image.{goodFront}
 use Rattle.program.specs.Program.{lineOf, linesFrom, firstLine, lastLine, outputOf}
@@ -28,7 +28,10 @@ use Rattle.program_claims.specs.Cases.{stream2, CaseP, ShortCases, RunCa
 use Rattle.program_claims.proofs.GoingOn.{going-on}
 
 pub case-p : CaseP
-unfolding outputOf quoted decimalWithin decimal firstLine lineOf linesFrom lastLine runs numbersOf goodFront commands commandsWithin endOf endWithin whole extent serve serveBy stepped sound headerSound cardSound translationSound tailZero decode cardAt entryAt readEntry encode bodies pad entryBytes header shapeOk fresh replied raise entrySound commandBytes formed payload fieldsOf wellFormed all allFrom le toLe part splice table spread every zeros
+unfolding outputOf quoted decimalWithin decimal firstLine lineOf linesFrom lastLine runs numbersOf goodFront commands commandsWithin endOf endWithin
+    whole extent serve serveBy stepped sound headerSound cardSound translationSound tailZero decode cardAt entryAt readEntry encode bodies pad
+    entryBytes header shapeOk fresh replied raise entrySound commandBytes formed payload fieldsOf wellFormed all allFrom le toLe part splice tabulate
+    concatMap every zeros
 case-p = refl
 
 longest : outputOf (replicate 65536 0) ≡ quoted "bad store\n"
@@ -41,11 +44,16 @@ longer : outputOf (replicate 65537 0) ≡ quoted "too long\n"
 longer = let n : length (replicate {A = ℕ} 65537 0) ≡ 65537 = length-replicate {A = ℕ} 65537 0 in long-output _ (omega (arith, n))
 
 pub short-cases : ShortCases
-unfolding outputOf quoted decimalWithin decimal firstLine lineOf linesFrom lastLine runs numbersOf goodFront commands commandsWithin endOf endWithin whole extent serve serveBy stepped sound headerSound cardSound translationSound tailZero decode cardAt entryAt readEntry encode bodies pad entryBytes header shapeOk fresh replied raise entrySound commandBytes formed payload fieldsOf wellFormed all allFrom le toLe part splice table spread every zeros
+unfolding outputOf quoted decimalWithin decimal firstLine lineOf linesFrom lastLine runs numbersOf goodFront commands commandsWithin endOf endWithin
+    whole extent serve serveBy stepped sound headerSound cardSound translationSound tailZero decode cardAt entryAt readEntry encode bodies pad
+    entryBytes header shapeOk fresh replied raise entrySound commandBytes formed payload fieldsOf wellFormed all allFrom le toLe part splice tabulate
+    concatMap every zeros
 short-cases = record { empty = refl; alone = refl; lacking = refl; longest = longest; longer = longer; second = refl; second-lacking = refl }
 
 pub run-cases : RunCases
-unfolding runs commands commandsWithin whole extent serve serveBy stepped sound headerSound cardSound translationSound tailZero decode cardAt entryAt readEntry encode bodies pad entryBytes header shapeOk fresh replied raise entrySound commandBytes formed payload fieldsOf wellFormed all allFrom le toLe part splice table spread every zeros
+unfolding runs commands commandsWithin whole extent serve serveBy stepped sound headerSound cardSound translationSound tailZero decode cardAt entryAt
+    readEntry encode bodies pad entryBytes header shapeOk fresh replied raise entrySound commandBytes formed payload fieldsOf wellFormed all allFrom
+    le toLe part splice tabulate concatMap every zeros
 run-cases = record { places = refl; places-2 = refl; short = refl; gone-on = going-on V2 (fresh V2 1 16) (9 ∷ []) stream2 15 8 16 refl }
 
 pub decimals : Decimals

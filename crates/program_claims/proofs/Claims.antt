@@ -10,7 +10,7 @@ use lib.Dec.{ltb, lit<}
 use lib.ListN.{length, take, drop, getD}
 use Rattle.formats.specs.Format.{Format}
 use Rattle.guard.specs.declared.Answer.{Answer}
-use Rattle.model.specs.Serve.{serve}
+use Rattle.store_model.specs.Serve.{serve}
 use Rattle.image.specs.Bytes.{countOf}
 use Rattle.image.specs.Image.{goodFront}
 use Rattle.image_claims.proofs.Claims.{noOldFront}
@@ -18,7 +18,7 @@ use Rattle.program.specs.Text.{quoted}
 use Rattle.program.specs.Program.{lineOf, linesFrom, firstLine, printed, mostInput, imageOf, blankOf, streamOf, outputOf}
 use Rattle.store.specs.Runs.{runs}
 use Rattle.program_claims.specs.Claims.{NeverEmpty, NoVersion2, ProgramClaims}
-use Rattle.program_claims.proofs.Log.{logs}
+use Rattle.program_claims.proofs.Trace.{traces}
 use Rattle.program_claims.proofs.Requests.{guarded}
 use Rattle.program_claims.proofs.Served.{serves}
 use Rattle.program_claims.proofs.GoingOn.{going-on}
@@ -91,7 +91,7 @@ claims =
             each = each v image reply cs;
             lines = lines v image reply cs;
           };
-      logs = logs;
+      traces = traces;
       guarded = guarded;
       going-on = going-on;
       serves = serves;

@@ -1,7 +1,7 @@
 -- The worked cases of lent bytes and lines, by computation; the output itself is case P's. Assumes nothing.
 use mathlib.Core.Path.{_≡_, refl}
 use mathlib.Core.List.{[]}
-use Rattle.lists.specs.Parts.{part, splice, table, spread, every, zeros}
+use Rattle.lists.specs.Parts.{part, splice, tabulate, concatMap, every, zeros}
 use Rattle.lists.specs.Table.{all, allFrom}
 use Rattle.lists.specs.Le.{le, toLe}
 use Rattle.commands.specs.Command.{wellFormed}
@@ -12,7 +12,7 @@ use Rattle.guard.specs.Replies.{replied}
 use Rattle.image.specs.Layout.{shapeOk}
 use Rattle.image.specs.Bytes.{header, entryBytes, pad, readEntry, entryAt}
 use Rattle.image.specs.Image.{bodies, encode, cardAt, decode, tailZero, translationSound, cardSound, headerSound, sound, fresh, goodFront}
-use Rattle.model.specs.Serve.{stepped, serveBy, serve}
+use Rattle.store_model.specs.Serve.{stepped, serveBy, serve}
 use Rattle.stream.specs.Stream.{extent, whole, commandsWithin, commands}
 use Rattle.program.specs.Program.{outputWithin}
 use Rattle.store.specs.Runs.{numbersOf, runs}
@@ -29,7 +29,9 @@ unfolding outputWithin
 one-less = refl
 
 pub lines-cases : LinesCases
-unfolding goodFront commands commandsWithin whole extent runs numbersOf serve serveBy stepped sound headerSound cardSound translationSound tailZero decode cardAt entryAt readEntry encode bodies pad entryBytes header shapeOk fresh replied raise entrySound commandBytes formed payload fieldsOf wellFormed all allFrom le toLe part splice table spread every zeros
+unfolding goodFront commands commandsWithin whole extent runs numbersOf serve serveBy stepped sound headerSound cardSound translationSound tailZero
+    decode cardAt entryAt readEntry encode bodies pad entryBytes header shapeOk fresh replied raise entrySound commandBytes formed payload fieldsOf
+    wellFormed all allFrom le toLe part splice tabulate concatMap every zeros
 lines-cases =
     record {
       enough = enough;

@@ -9,8 +9,8 @@ use lib.Seq.{drop-append-seam, getD-drop}
 use Rattle.formats.specs.Format.{Format}
 use Rattle.lists.specs.Parts.{part}
 use Rattle.lists.proofs.Parts.{part-join}
-use Rattle.lists.proofs.Spread.{spread-append}
-use Rattle.model.specs.Serve.{serve}
+use Rattle.lists.proofs.ConcatMap.{concatMap-append}
+use Rattle.store_model.specs.Serve.{serve}
 use Rattle.stream.specs.Stream.{commands, endOf, endToEnd, OneCommand}
 use Rattle.stream.proofs.Walks as walk
 use Rattle.store.specs.Runs.{Run, runs, perLine, numbersOf}
@@ -37,7 +37,7 @@ module _ (v : Format) where
       let left : List ℕ = drop (endOf v s) s in
       let parts : endToEnd (take i cs) ++ (endToEnd (drop i cs) ++ left) ≡ s =
       sym (append-assoc (endToEnd (take i cs)) (endToEnd (drop i cs)) left)
-      ∙ ap (λ (l : List ℕ). l ++ left) (sym (spread-append (λ (c : List ℕ). c) (take i cs) (drop i cs)) ∙ ap endToEnd (take-append-drop i cs))
+      ∙ ap (λ (l : List ℕ). l ++ left) (sym (concatMap-append (λ (c : List ℕ). c) (take i cs) (drop i cs)) ∙ ap endToEnd (take-append-drop i cs))
       ∙ walk.joined v s in
       let behind : drop (length (endToEnd (take i cs))) s ≡ endToEnd (drop i cs) ++ left =
       ap (drop (length (endToEnd (take i cs)))) (sym parts) ∙ drop-append-seam (endToEnd (take i cs)) (endToEnd (drop i cs) ++ left) in
@@ -76,8 +76,8 @@ going-on v image reply stream first second lent h =
     record {
       rest = commands-from v stream (first / perLine);
       counts = ap length two ∙ length-append a b;
-      ends = ap (λ (l : List (List ℕ)). length (endToEnd l)) two ∙ ap length (spread-append (λ (c : List ℕ). c) a b) ∙ length-append (endToEnd a) (endToEnd b);
-      lines = ap lined same ∙ spread-append numbersOf (runWithin v image reply stream first .answers) (runOfRest v image reply stream first second .answers);
+      ends = ap (λ (l : List (List ℕ)). length (endToEnd l)) two ∙ ap length (concatMap-append (λ (c : List ℕ). c) a b) ∙ length-append (endToEnd a) (endToEnd b);
+      lines = ap lined same ∙ concatMap-append numbersOf (runWithin v image reply stream first .answers) (runOfRest v image reply stream first second .answers);
       image-left = ap (λ (r : Run). r .image) same;
       reply-left = ap (λ (r : Run). r .reply) same;
     }

@@ -1,4 +1,4 @@
-pub mod Log
+pub mod Trace
 pub mod Requests
 pub mod Served
 pub mod GoingOn

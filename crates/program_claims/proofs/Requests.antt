@@ -16,12 +16,12 @@ use Rattle.guard.specs.Replies.{replied}
 use Rattle.image.specs.Image.{Cards, text, encode, fresh}
 use Rattle.image.specs.Image.{GoodCard, GoodCards, freshCards}
 use Rattle.image_claims.proofs.Claims.{freshSound}
-use Rattle.model.specs.Serve.{serve, cardOf, textRead, replyBy}
-use Rattle.model.specs.Words.{Sent, Event, logOf}
-use Rattle.model.specs.Claims.{AllBytes}
-use Rattle.model.proofs.Demand.{demand3}
-use Rattle.model.proofs.Machine.{numberOn, cardsBy, passed}
-use Rattle.model.proofs.Simulation.{good-more, same-event, same-image}
+use Rattle.store_model.specs.Serve.{serve, cardOf, textRead, replyBy}
+use Rattle.store_model.specs.Words.{Sent, Event, traceOf}
+use Rattle.store_model.specs.Claims.{AllBytes}
+use Rattle.store_model.proofs.Demand.{demand3}
+use Rattle.store_model.proofs.Machine.{numberOn, cardsBy, passed}
+use Rattle.store_model.proofs.Simulation.{good-more, same-event, same-image}
 use Rattle.stream.specs.Stream.{commands, commandsWithin, extent, whole}
 use Rattle.store.specs.Runs.{perLine}
 use Rattle.program_claims.specs.Claims.{requests, Guarded}
@@ -111,7 +111,7 @@ each-take (suc i) [] b = tt
 each-take (suc i) (c ∷ cs) b = (b .0, each-take i cs (b .1))
 
 pub guarded : Guarded
-unfolding logOf
+unfolding traceOf
 guarded v n c stream reply shape b r =
     let f = freshSound v n c shape in
     let bytes : (cs : List (List ℕ)) → EachBytes cs → AllBytes (requests v (fresh v n c) reply cs) =

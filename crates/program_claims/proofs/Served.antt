@@ -25,11 +25,11 @@ use Rattle.image.specs.Image.{GoodCards}
 use Rattle.image.proofs.Bytes.{Lengths, lengths}
 use Rattle.image_claims.proofs.Claims.{soundReadsBack, goodEncodes}
 use Rattle.image.proofs.Decode.{room-decode}
-use Rattle.model.specs.Serve.{serve, cardOf, entryOf, requestRows, textRead, replyBy}
-use Rattle.model.specs.Words.{Sent}
+use Rattle.store_model.specs.Serve.{serve, cardOf, entryOf, requestRows, textRead, replyBy}
+use Rattle.store_model.specs.Words.{Sent}
 use Rattle.lists.specs.Search.{any, none}
-use Rattle.model.proofs.Machine.{numberOn, cardsBy, passed}
-use Rattle.model.proofs.Simulation.{good-more}
+use Rattle.store_model.proofs.Machine.{numberOn, cardsBy, passed}
+use Rattle.store_model.proofs.Simulation.{good-more}
 use Rattle.stream.specs.Stream.{commands}
 use Rattle.image.specs.Image.{claimed}
 use Rattle.store.specs.Runs.{runs}

@@ -8,7 +8,7 @@ use mathlib.Core.Bool.{true}
 use lib.Dec.{eqb}
 use lib.ListN.{length, replicate}
 use Rattle.formats.specs.Format.{V1}
-use Rattle.lists.specs.Parts.{part, spread, every, zeros, Bytes}
+use Rattle.lists.specs.Parts.{part, concatMap, every, zeros, Bytes}
 use Rattle.lists.specs.Le.{le, toLe}
 use Rattle.lists.specs.Search.{none}
 use Rattle.lists.specs.Table.{all, allFrom}
@@ -18,8 +18,8 @@ use Rattle.guard.specs.declared.Answer.{Answer}
 use Rattle.image.specs.Layout.{shapeOk}
 use Rattle.image.specs.Bytes.{countOf, roomOf, header, readEntry, entryAt}
 use Rattle.image.specs.Image.{tailZero, translationSound, cardSound, headerSound, sound, fresh, goodFront}
-use Rattle.model.specs.Cases.{caseP}
-use Rattle.model.proofs.ByTest.{bytes-by}
+use Rattle.store_model.specs.Cases.{caseP}
+use Rattle.store_model.proofs.ByTest.{bytes-by}
 use Rattle.stream.specs.Stream.{commands}
 use Rattle.store.specs.Runs.{runs}
 use Rattle.program.specs.Text.{decimal}
@@ -29,11 +29,11 @@ use Rattle.program_claims.specs.Cases.{inputP}
 use Rattle.program_claims.proofs.Claims.{claims}
 
 input-bytes : Bytes inputP
-unfolding fresh header commandBytes toLe spread
+unfolding fresh header commandBytes toLe concatMap
 input-bytes = bytes-by inputP tt
 
 input-good : goodFront inputP ≡ true
-unfolding goodFront sound headerSound cardSound translationSound tailZero entryAt readEntry fresh header shapeOk entrySound commandBytes all allFrom le toLe part spread every zeros
+unfolding goodFront sound headerSound cardSound translationSound tailZero entryAt readEntry fresh header shapeOk entrySound commandBytes all allFrom le toLe part concatMap every zeros
 input-good = refl
 
 -- Case P: no command gets 9 or 8, and the store stays sound.
@@ -51,7 +51,8 @@ start-sound : sound V1 (caseP .start) ≡ true
 unfolding sound headerSound cardSound translationSound tailZero entryAt readEntry fresh header shapeOk entrySound all allFrom le toLe part every zeros
 start-sound = refl
 
-alone : outputOf (caseP .start ++ []) ≡ firstLine (countOf (caseP .start)) ++ (linesFrom 1 (runs V1 (caseP .start) (replicate (roomOf (caseP .start)) 0) (commands V1 []) .answers) ++ lastLine (leftOver []))
+alone : outputOf (caseP .start ++ []) ≡ firstLine (countOf (caseP .start)) ++
+    (linesFrom 1 (runs V1 (caseP .start) (replicate (roomOf (caseP .start)) 0) (commands V1 []) .answers) ++ lastLine (leftOver []))
 unfolding fresh header toLe
 alone = claims .prints (caseP .start) [] start-sound (omega arith)
 

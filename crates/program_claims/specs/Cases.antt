@@ -7,8 +7,8 @@ use lib.ListN.{take, replicate}
 use Rattle.formats.specs.Format.{V1, V2}
 use Rattle.guard.specs.declared.Answer.{Answer}
 use Rattle.image.specs.Image.{fresh}
-use Rattle.model.specs.Words.{Sent}
-use Rattle.model.specs.Cases.{caseP, names, text205}
+use Rattle.store_model.specs.Words.{Sent}
+use Rattle.store_model.specs.Cases.{caseP, names, text205}
 use Rattle.stream.specs.Stream.{endToEnd, commands}
 use Rattle.store.specs.Runs.{runs}
 use Rattle.store.specs.Ran.{ranOf}

@@ -12,10 +12,10 @@ use Rattle.guard.specs.declared.Answer.{Answer}
 use Rattle.image.specs.Layout.{shapeOk}
 use Rattle.image.specs.Bytes.{versionOf, countOf, roomOf}
 use Rattle.image.specs.Image.{sound, fresh}
-use Rattle.model.specs.Serve.{serve}
-use Rattle.model.specs.Words.{Sent, Event, imageAfter, history}
+use Rattle.store_model.specs.Serve.{serve}
+use Rattle.store_model.specs.Words.{Sent, Event, imageAfter, traceFrom}
 use Rattle.lists.specs.Search.{none}
-use Rattle.model.specs.Claims.{Claim}
+use Rattle.store_model.specs.Claims.{Claim}
 use Rattle.stream.specs.Stream.{commands}
 use Rattle.image.specs.Image.{goodFront}
 use Rattle.program.specs.Text.{decimal, quoted}
@@ -35,7 +35,7 @@ pub record Stepwise (v : Format) (image reply : List ℕ) (cs : List (List ℕ))
       ≡ linesFrom 1 (runs v image reply (take i cs) .answers)
       ++ (lineOf (i + 1) (getD (runs v image reply cs .answers) i none) ++ linesFrom (i + 2) (drop (i + 1) (runs v image reply cs .answers)))
 
--- ---- a run and the log that demand 3 speaks of
+-- ---- a run and the trace that demand 3 speaks of
 
 -- A run's commands as requests: each is sent with the reply buffer as the one before left it.
 unfoldable pub requests : Format → List ℕ → List ℕ → List (List ℕ) → List Sent
@@ -43,28 +43,28 @@ requests v image reply [] = []
 requests v image reply (c ∷ cs) =
     record { command = c; lent = reply } ∷ requests v (serve v image c reply .image) (serve v image c reply .reply) cs
 
--- Their log from the same image, latest first.
-abbrev pub logged : Format → List ℕ → List ℕ → List (List ℕ) → List Event
-logged v image reply cs = history v image (reverse (requests v image reply cs))
+-- Their trace from the same image, latest first.
+abbrev pub traced : Format → List ℕ → List ℕ → List (List ℕ) → List Event
+traced v image reply cs = traceFrom v image (reverse (requests v image reply cs))
 
--- A run is the log of its requests.
-pub record Logged (v : Format) (image reply : List ℕ) (cs : List (List ℕ)) : Type 0 where
+-- A run is the trace of its requests.
+pub record Traced (v : Format) (image reply : List ℕ) (cs : List (List ℕ)) : Type 0 where
   -- the requests are the commands, in their order,
   pub sends : map (λ (s : Sent). s .command) (requests v image reply cs) ≡ cs
-  -- with one reply buffer: the first is lent it as it is at first, each later one as the log shows it after the one before, and the last one
+  -- with one reply buffer: the first is lent it as it is at first, each later one as the trace shows it after the one before, and the last one
   -- leaves it as the run does,
   pub lends :
       map (λ (s : Sent). s .lent) (requests v image reply cs) ++ (runs v image reply cs .reply ∷ [])
-      ≡ reply ∷ map (λ (e : Event). e .reply) (reverse (logged v image reply cs))
-  -- the answers are those of the log, in order, and the image is left as the requests leave it
-  pub answers : runs v image reply cs .answers ≡ map (λ (e : Event). e .answer) (reverse (logged v image reply cs))
+      ≡ reply ∷ map (λ (e : Event). e .reply) (reverse (traced v image reply cs))
+  -- the answers are those of the trace, in order, and the image is left as the requests leave it
+  pub answers : runs v image reply cs .answers ≡ map (λ (e : Event). e .answer) (reverse (traced v image reply cs))
   pub leaves : runs v image reply cs .image ≡ imageAfter v image (reverse (requests v image reply cs))
 
--- So demand 3 speaks of a run: every sentence of it holds of the log of a stream's commands behind a fresh image, with a reply buffer of any length and content;
+-- So demand 3 speaks of a run: every sentence of it holds of the trace of a stream's commands behind a fresh image, with a reply buffer of any length and content;
 -- of all of them, and of those that have a place for their line where the run stops for want of one. The program's reply buffer has C zeros.
 pub record GuardedRun (v : Format) (n c : ℕ) (stream reply : List ℕ) : Type 0 where
-  pub all : Claim n (requests v (fresh v n c) reply (commands v stream)) (logged v (fresh v n c) reply (commands v stream))
-  pub some : (lent : ℕ) → Claim n (requests v (fresh v n c) reply (judgedOf v stream lent)) (logged v (fresh v n c) reply (judgedOf v stream lent))
+  pub all : Claim n (requests v (fresh v n c) reply (commands v stream)) (traced v (fresh v n c) reply (commands v stream))
+  pub some : (lent : ℕ) → Claim n (requests v (fresh v n c) reply (judgedOf v stream lent)) (traced v (fresh v n c) reply (judgedOf v stream lent))
 
 abbrev pub Guarded : Type 0
 Guarded = (v : Format) (n c : ℕ) (stream reply : List ℕ) → T (shapeOk v n c) → Bytes stream → Bytes reply → GuardedRun v n c stream reply
@@ -144,7 +144,7 @@ NoVersion2 =
 
 pub record ProgramClaims : Type 0 where
   pub stepwise : (v : Format) (image reply : List ℕ) (cs : List (List ℕ)) → Stepwise v image reply cs
-  pub logs : (v : Format) (image reply : List ℕ) (cs : List (List ℕ)) → Logged v image reply cs
+  pub traces : (v : Format) (image reply : List ℕ) (cs : List (List ℕ)) → Traced v image reply cs
   pub guarded : Guarded
   pub going-on : GoingOn
   pub serves : Serves

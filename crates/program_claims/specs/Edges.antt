@@ -5,8 +5,8 @@ use mathlib.Core.Path.{_≡_}
 use mathlib.Core.List.{List, [], _∷_, map}
 use lib.ListN.{take}
 use Rattle.formats.specs.Format.{V1, V2}
-use Rattle.model.specs.Words.{Sent}
-use Rattle.model.specs.Cases.{caseP, allWritten}
+use Rattle.store_model.specs.Words.{Sent}
+use Rattle.store_model.specs.Cases.{caseP, allWritten}
 use Rattle.stream.specs.Stream.{endToEnd}
 use Rattle.store.specs.Ran.{judgedOf, ranOf, lined}
 use Rattle.store.specs.Runs.{runs}

@@ -15,7 +15,8 @@ use Rattle.lists.specs.Le.{toLe}
 use Rattle.lists.proofs.Parts.{splice-nil, splice-adjacent}
 use Rattle.lists.proofs.Tests.{cases}
 use Rattle.redo_log.specs.Log.{checksum, recordCount, startAt, linePlace}
-use Rattle.redo_log.specs.Append.{lineBytes, stored, stores, Admitted}
+use Rattle.redo_log.specs.Append.{lineBytes, stored, stores}
+use Rattle.redo_log.specs.inner.Admitted.{Admitted}
 use Rattle.redo_log.proofs.Stores.{take-append, stores-written}
 
 lt-or-ge : (a b : ℕ) → (a < b) ⊎ (b ≤ a)
@@ -64,15 +65,18 @@ line-put k at kind place sum body l h small e =
     let first : List ℕ = kind ∷ [] in
     let second : List ℕ = first ++ toLe 4 place in
     let third : List ℕ = second ++ toLe 2 (length body) in
-    ap (λ (m : ℕ). splice (at + 7) (take (k - 7) (toLe 4 m)) (splice (at + 5) (take (k - 5) (toLe 2 (length body))) (splice (at + 1) (take (k - 1) (toLe 4 place)) (splice at (take k (toLe 1 kind)) l)))) e
-    ∙ ap (λ (b : List ℕ). splice (at + 7) (take (k - 7) (toLe 4 (checksum body))) (splice (at + 5) (take (k - 5) (toLe 2 (length body))) (splice (at + 1) (take (k - 1) (toLe 4 place)) (splice at (take k b) l)))) (toLe-byte kind small)
+    ap (λ (m : ℕ). splice (at + 7) (take (k - 7) (toLe 4 m))
+    (splice (at + 5) (take (k - 5) (toLe 2 (length body))) (splice (at + 1) (take (k - 1) (toLe 4 place)) (splice at (take k (toLe 1 kind)) l)))) e
+    ∙ ap (λ (b : List ℕ). splice (at + 7) (take (k - 7) (toLe 4 (checksum body)))
+    (splice (at + 5) (take (k - 5) (toLe 2 (length body))) (splice (at + 1) (take (k - 1) (toLe 4 place)) (splice at (take k b) l)))) (toLe-byte kind small)
     ∙ ap (λ (m : List ℕ). splice (at + 7) (take (k - 7) (toLe 4 (checksum body))) (splice (at + 5) (take (k - 5) (toLe 2 (length body))) m)) (splice-taken k at first (toLe 4 place) l (omega arith))
     ∙ ap (splice (at + 7) (take (k - 7) (toLe 4 (checksum body)))) (splice-taken k at second (toLe 2 (length body)) l (omega arith))
     ∙ splice-taken k at third (toLe 4 (checksum body)) l (omega arith)
 
 -- The three parts of an append.
 pub store-put : (k stop count kind : ℕ) (body log : List ℕ) → stop ≡ startAt log (recordCount log) → count ≡ recordCount log → Admitted log (record { kind = kind; body = body }) →
-    splice 0 (take (k - (length body + 11)) (toLe 1 (count + 1))) (splice (linePlace count) (take (k - length body) (lineBytes stop (record { kind = kind; body = body }))) (splice stop (take k body) log))
+    splice 0 (take (k - (length body + 11)) (toLe 1 (count + 1)))
+    (splice (linePlace count) (take (k - length body) (lineBytes stop (record { kind = kind; body = body }))) (splice stop (take k body) log))
     ≡ stored (take k (stores log (record { kind = kind; body = body }))) log
 store-put k stop count kind body log e f room =
     rw (e, f, toLe-byte (recordCount log + 1) (omega (arith, room .below)))

@@ -4,7 +4,7 @@ use mathlib.Core.Path.{_≡_, sym, ap, _∙_}
 use mathlib.Core.List.{List}
 use mathlib.Core.Bool.{true, false}
 use lib.ListN.{length, take, drop, getD, List·getD-eq-default}
-use Rattle.lists.proofs.Spread.{getD-table, length-table}
+use Rattle.lists.proofs.ConcatMap.{getD-tabulate, length-tabulate}
 use Rattle.redo_log.proofs.Records.{body-at}
 use Rattle.redo_log.specs.Log.{LogRecord, noRecord, recordCount, kindAt, lengthAt, startAt, recordAt, goodLog, records, readAt}
 
@@ -14,11 +14,11 @@ read-bad log i g = rw g
 
 pub length-records : (log : List ℕ) → length (records log) ≡ recordCount log
 unfolding records
-length-records log = length-table (recordAt log) (recordCount log)
+length-records log = length-tabulate (recordAt log) (recordCount log)
 
 pub record-of : (log : List ℕ) (i : ℕ) → i < recordCount log → getD (records log) i noRecord ≡ recordAt log i
 unfolding records
-record-of log i h = getD-table (recordAt log) (recordCount log) i noRecord h
+record-of log i h = getD-tabulate (recordAt log) (recordCount log) i noRecord h
 
 pub read-past : (log : List ℕ) (i : ℕ) → goodLog log ≡ true → recordCount log ≤ i → noRecord ≡ readAt log i
 unfolding readAt

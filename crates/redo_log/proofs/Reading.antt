@@ -16,9 +16,32 @@ use Rattle.lists.specs.Table.{all, allFrom}
 use Rattle.lists.proofs.Tests.{and-right, or-cases, or-fails}
 use Rattle.lists.proofs.Parts.{drop-left, part-part}
 use Rattle.lists.proofs.Every.{every-fail}
-use Rattle.redo_log.specs.Log.{LogRecord, beginKind, commitKind, bodiesFrom, mostLog, mostRecords, shaped, follows, joins, total, checksum, kindAt, placeAt, lengthAt, sumAt, recordCount, startAt, recordAt, lastBegun, opened, recordOk, goodLog}
+use Rattle.redo_log.specs.Log.{
+  LogRecord,
+  beginKind,
+  commitKind,
+  bodiesFrom,
+  mostLog,
+  mostRecords,
+  shaped,
+  follows,
+  joins,
+  total,
+  checksum,
+  kindAt,
+  placeAt,
+  lengthAt,
+  sumAt,
+  recordCount,
+  startAt,
+  recordAt,
+  lastBegun,
+  opened,
+  recordOk,
+  goodLog,
+}
 use Rattle.redo_log.proofs.Records.{start-next, ok-inside, begin-length}
-use Rattle.redo_log.specs.Scanned.{scanned}
+use Rattle.redo_log.specs.inner.Scanned.{scanned}
 use Rattle.redo_log.specs.declared.inner.reading.Scan.{Scan}
 
 -- ---- the sum
@@ -122,7 +145,8 @@ module _ (log : List ℕ) where
   unfolding goodLog
   bad-size e = go (or-cases (ltb (length log) 2201) (ltb 65536 (length log)) e)
     where
-      go : (ltb (length log) 2201 ≡ true) ⊎ (ltb 65536 (length log) ≡ true) → (leb bodiesFrom (length log) && leb (length log) mostLog && leb (recordCount log) mostRecords && every (recordOk log) (recordCount log)) ≡ false
+      go : (ltb (length log) 2201 ≡ true) ⊎ (ltb 65536 (length log) ≡ true) →
+          (leb bodiesFrom (length log) && leb (length log) mostLog && leb (recordCount log) mostRecords && every (recordOk log) (recordCount log)) ≡ false
       go (inl f) = rw (lt-leb bodiesFrom (length log) (ltb-true (length log) 2201 f))
       go (inr f) = rw (lt-leb (length log) mostLog (ltb-true 65536 (length log) f)) (falls (leb bodiesFrom (length log)) (leb (recordCount log) mostRecords) (every (recordOk log) (recordCount log)))
         where

@@ -15,7 +15,29 @@ use Rattle.lists.specs.Table.{all, allFrom}
 use Rattle.lists.proofs.Parts.{length-part, part-part}
 use Rattle.lists.proofs.Tests.{and-left, and-right, or-cases}
 use Rattle.lists.proofs.Every.{every-out}
-use Rattle.redo_log.specs.Log.{LogRecord, bodiesFrom, mostLog, mostRecords, shaped, joins, recordCard, recordTransaction, kindAt, placeAt, sumAt, lengthAt, recordCount, startAt, recordAt, lastBegun, opened, recordOk, goodLog, checksum, logNumber}
+use Rattle.redo_log.specs.Log.{
+  LogRecord,
+  bodiesFrom,
+  mostLog,
+  mostRecords,
+  shaped,
+  joins,
+  recordCard,
+  recordTransaction,
+  kindAt,
+  placeAt,
+  sumAt,
+  lengthAt,
+  recordCount,
+  startAt,
+  recordAt,
+  lastBegun,
+  opened,
+  recordOk,
+  goodLog,
+  checksum,
+  logNumber,
+}
 
 -- A good log, test by test.
 pub record Good (log : List ℕ) : Type 0 where
@@ -185,6 +207,16 @@ module _ (log : List ℕ) (i : ℕ) (g : goodLog log ≡ true) (h : i < recordCo
 
   pub inside : startAt log i + lengthAt log i ≤ length log
   inside = ok-inside log i here
+
+  -- The length of its body, by its kind.
+  pub update-body : recordAt log i .kind ≡ 2 → 3 ≤ length (recordAt log i .body)
+  update-body e = subst (λ (m : ℕ). 3 ≤ m) (sym (body-long log i here)) (update-length log i here (sym (record-kind log i) ∙ e))
+
+  pub commit-body : recordAt log i .kind ≡ 3 → length (recordAt log i .body) ≡ 4
+  commit-body e = body-long log i here ∙ commit-length log i here (sym (record-kind log i) ∙ e)
+
+  pub synced-body : recordAt log i .kind ≡ 4 → length (recordAt log i .body) ≡ 6
+  synced-body e = body-long log i here ∙ synced-length log i here (sym (record-kind log i) ∙ e)
 
 -- The part of the log that line i names is the body of record i.
 pub body-at : (log : List ℕ) (i at size : ℕ) → at ≡ startAt log i → size ≡ lengthAt log i → take (at + size - at) (drop at log) ≡ recordAt log i .body

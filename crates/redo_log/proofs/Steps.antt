@@ -9,9 +9,10 @@ use lib.ListN.{length, take}
 use lib.Dec.{ltb, eqb}
 use Rattle.lists.proofs.Tests.{and-left, and-right, or-fails}
 use Rattle.redo_log.specs.Log.{LogRecord, mostRecords, goodLog, shaped, joins, recordCount, startAt, recordAt, lastBegun, opened}
-use Rattle.redo_log.specs.Append.{stored, stores, accepts, lacks, appendNumber, appended, Admitted}
+use Rattle.redo_log.specs.Append.{stored, stores, accepts, lacks, appendNumber, appended}
+use Rattle.redo_log.specs.inner.Admitted.{Admitted}
 use Rattle.redo_log.proofs.Records.{good-out}
-use Rattle.redo_log.specs.Scanned.{scanned}
+use Rattle.redo_log.specs.inner.Scanned.{scanned}
 use Rattle.redo_log.specs.declared.inner.reading.Scan.{Scan}
 use Rattle.redo_log.proofs.Reading.{logged, good-of, stop-of, last-of, running-of, start-fits}
 

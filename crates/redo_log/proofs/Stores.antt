@@ -9,7 +9,8 @@ use Rattle.lists.specs.Parts.{splice}
 use Rattle.lists.specs.Le.{toLe}
 use Rattle.lists.proofs.Parts.{splice-nil, splice-cons, length-splice}
 use Rattle.redo_log.specs.Log.{LogRecord, recordCount, linePlace, startAt}
-use Rattle.redo_log.specs.Append.{Store, stored, puts, lineBytes, stores, Admitted}
+use Rattle.redo_log.specs.Append.{Store, stored, puts, lineBytes, stores}
+use Rattle.redo_log.specs.inner.Admitted.{Admitted}
 
 -- ---- stores are splices
 
@@ -102,5 +103,7 @@ module _ (log : List ℕ) (r : LogRecord) (room : Admitted log r) where
       ∙ stored-append (take k body ++ take (k - length (r .body)) line) (take (k - (length (r .body) + 11)) count) log
       ∙ ap (stored (take (k - (length (r .body) + 11)) count)) (stored-append (take k body) (take (k - length (r .body)) line) log)
       ∙ ap (λ (l : List ℕ). stored (take (k - (length (r .body) + 11)) count) (stored (take (k - length (r .body)) line) l)) (stored-taken k (startAt log n) (r .body) log (room .fits))
-      ∙ ap (stored (take (k - (length (r .body) + 11)) count)) (stored-taken (k - length (r .body)) (linePlace n) (lineBytes (startAt log n) r) (withBody k log r) (rw (long-body k, length-line) (omega (arith, room .below, room .from))))
+      ∙ ap (stored (take (k - (length (r .body) + 11)) count))
+      (stored-taken (k - length (r .body)) (linePlace n) (lineBytes (startAt log n) r) (withBody k log r)
+      (rw (long-body k, length-line) (omega (arith, room .below, room .from))))
       ∙ stored-taken (k - (length (r .body) + 11)) 0 ((n + 1) ∷ []) (withLine k log r) (rw (long-line k) (omega (arith, room .from)))

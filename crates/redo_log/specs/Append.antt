@@ -1,15 +1,14 @@
 -- Appending to a redo log, one byte after the other (rules 11.9 to 11.12).
 -- Assumes nothing.
-use Prim.Native.Nat.{ℕ, _+_, _≤_, _<_}
-use mathlib.Core.Path.{_≡_}
+use Prim.Native.Nat.{ℕ, _+_}
 use mathlib.Core.List.{List, [], _∷_, _++_}
-use mathlib.Core.Bool.{Bool, true, cond, not, _&&_, _||_}
+use mathlib.Core.Bool.{Bool, cond, not, _&&_, _||_}
 use lib.ListN.{length, take, set}
 use lib.Dec.{ltb, eqb}
 use Rattle.lists.specs.Le.{toLe}
 use Rattle.lists.specs.Table.{Row, row, first}
-use Rattle.lists.specs.Parts.{every}
-use Rattle.redo_log.specs.Log.{BAD-LOG, LogRecord, bodiesFrom, mostLog, mostRecords, recordCount, linePlace, startAt, recordAt, lastBegun, opened, recordOk, joins, checksum, goodLog}
+use Rattle.redo_log.specs.Log.{LogRecord, mostRecords, recordCount, linePlace, startAt, recordAt, lastBegun, opened, joins, checksum, goodLog}
+use Rattle.numbers.specs.Numbers.{BAD-LOG, LOG-FULL, APPEND-CUT}
 
 -- ---- stores (rule 11.9): the power may fail between any two of them
 
@@ -48,13 +47,6 @@ accepts log r = goodLog log && joins (lastBegun (recordAt log) (recordCount log)
 abbrev pub lacks : List ℕ → LogRecord → Bool
 lacks log r = eqb (recordCount log) mostRecords || ltb (length log) (startAt log (recordCount log) + length (r .body))
 
--- The numbers of an append that has no room, and of one that is cut.
-abbrev pub LOG-FULL : ℕ
-LOG-FULL = 24
-
-abbrev pub APPEND-CUT : ℕ
-APPEND-CUT = 26
-
 -- Rule 11.11, in its order.
 abbrev pub appendRows : ℕ → List ℕ → LogRecord → List Row
 appendRows budget log r =
@@ -73,12 +65,3 @@ appendNumber budget log r = first (appendRows budget log r)
 unfoldable pub appended : ℕ → List ℕ → LogRecord → List ℕ
 appended budget log r =
     cond (eqb (appendNumber budget log r) BAD-LOG || eqb (appendNumber budget log r) LOG-FULL) log (stored (take budget (stores log r)) log)
-
--- What is known of an append that answers neither 23 nor 24.
-pub record Admitted (log : List ℕ) (r : LogRecord) : Type 0 where
-  pub from : bodiesFrom ≤ length log
-  pub most : length log ≤ mostLog
-  pub below : recordCount log < mostRecords
-  pub checks : every (recordOk log) (recordCount log) ≡ true
-  pub joining : joins (lastBegun (recordAt log) (recordCount log)) (opened (recordAt log) (recordCount log)) r ≡ true
-  pub fits : startAt log (recordCount log) + length (r .body) ≤ length log

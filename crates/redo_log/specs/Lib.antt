@@ -1,3 +1,3 @@
 pub mod Log
 pub mod Append
-pub mod Scanned
+pub mod inner

@@ -5,9 +5,10 @@ use mathlib.Core.List.{List, [], _∷_}
 use mathlib.Core.Bool.{Bool, true, false, cond, not, _&&_, _||_}
 use lib.ListN.{length, drop, getD}
 use lib.Dec.{ltb, leb, eqb}
-use Rattle.lists.specs.Parts.{part, table, every}
+use Rattle.lists.specs.Parts.{part, tabulate, every}
 use Rattle.lists.specs.Le.{field}
 use Rattle.lists.specs.Table.{all}
+use Rattle.numbers.specs.Numbers.{BAD-LOG}
 
 -- ---- the limits (rule 11.1)
 
@@ -156,10 +157,6 @@ goodLog log =
     && leb (recordCount log) mostRecords
     && every (recordOk log) (recordCount log)
 
--- The number of a bad log, and of a record that breaks its layout or its order.
-abbrev pub BAD-LOG : ℕ
-BAD-LOG = 23
-
 -- What a check answers (rule 11.8).
 abbrev pub logNumber : List ℕ → ℕ
 logNumber log = cond (goodLog log) 0 BAD-LOG
@@ -168,7 +165,7 @@ logNumber log = cond (goodLog log) 0 BAD-LOG
 
 -- The counted records, in order (rule 11.7).
 unfoldable pub records : List ℕ → List LogRecord
-records log = table (recordAt log) (recordCount log)
+records log = tabulate (recordAt log) (recordCount log)
 
 -- Nothing is read back of a log that is not good.
 abbrev pub readBack : List ℕ → List LogRecord

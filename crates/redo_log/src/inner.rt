@@ -1,3 +1,4 @@
 // What other crates need, and what asks something of its caller.
 pub mod reading;
+pub mod records;
 pub mod storing;

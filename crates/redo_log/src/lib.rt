@@ -4,13 +4,17 @@ pub mod inner;
 ghost use mathlib.Core.Path.{_≡_};
 ghost use Rattle.redo_log.specs.Log.{logNumber, readAt};
 ghost use Rattle.redo_log.specs.Append.{appendNumber, appended};
-use slices::inner::fixed_width as le;
+use numbers::ACCEPTED;
+use numbers::APPEND_CUT;
+use numbers::BAD_LOG;
+use numbers::LOG_FULL;
 
-pub const BAD_LOG: u8 = 23;
+// The layout of a log (rules 11.1 and 11.2): a byte for the count, a table of lines, and the bodies.
+pub const MOST_RECORDS: usize = 200;
 
-pub const LOG_FULL: u8 = 24;
+pub const BODIES: usize = 2201;
 
-pub const CUT: u8 = 26;
+pub const MOST_LOG: usize = 65536;
 
 // 0 for a good log, else 23.
 pub fn check(log: &[u8]) -> u8
@@ -27,28 +31,26 @@ pub fn check(log: &[u8]) -> u8
 pub fn kind_of(log: &[u8], i: usize) -> u8
     ensures { λ r. ⌜ r ≡ readAt (now (log .entry)) i .kind ⌝ }
 {
-    if check(log) != 0 {
+    if check(log) != ACCEPTED {
         return 0;
     }
-    if (log[0] as usize) <= i {
+    if inner::records::count(log) <= i {
         return 0;
     }
-    log[1 + 11 * i]
+    inner::records::kind_at(log, i)
 }
 
 // The body of record i, as a part of the log; empty where the log is not good or has no such record.
 pub fn body_of<'a>(log: &'a [u8], i: usize) -> &'a [u8]
     ensures { λ r. ⌜ now r ≡ readAt (now (log .entry)) i .body ⌝ }
 {
-    if check(log) != 0 {
+    if check(log) != ACCEPTED {
         return &log[..0];
     }
-    if (log[0] as usize) <= i {
+    if inner::records::count(log) <= i {
         return &log[..0];
     }
-    let at = le::read_u32(log, 1 + 11 * i + 1) as usize;
-    let end = at + (le::read_u16(log, 1 + 11 * i + 5) as usize);
-    &log[at..end]
+    inner::records::body_at(log, i)
 }
 
 // Appends a record, as far as the first `budget` stores of one byte go.
@@ -64,12 +66,12 @@ pub fn append(log: &mut [u8], kind: u8, body: &[u8], budget: usize) -> u8
     if !inner::reading::may_join(kind, body, s.last, s.running) {
         return BAD_LOG;
     }
-    if (log[0] == 200) | (log.len() < stop + body.len()) {
+    if ((log[0] as usize) == MOST_RECORDS) | (log.len() < stop + body.len()) {
         return LOG_FULL;
     }
     inner::storing::store(log, kind, body, stop, budget);
-    if budget < body.len() + 12 {
-        return CUT;
+    if budget < body.len() + inner::records::LINE_AND_COUNT {
+        return APPEND_CUT;
     }
     0
 }

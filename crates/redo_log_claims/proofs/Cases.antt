@@ -2,7 +2,7 @@
 use mathlib.Core.Path.{_≡_, refl, ap}
 use mathlib.Core.Bool.{Bool, cond}
 use lib.ListN.{replicate}
-use Rattle.lists.specs.Parts.{part, table, every}
+use Rattle.lists.specs.Parts.{part, tabulate, every}
 use Rattle.lists.specs.Le.{le, toLe}
 use Rattle.lists.specs.Table.{all, allFrom}
 use Rattle.redo_log.specs.Log.{shaped, lastBegun, opened, follows, total, startAt, recordAt, recordOk, goodLog, logNumber, records, readAt}
@@ -19,10 +19,61 @@ too-long : logNumber (replicate 65537 0) ≡ 23
 too-long = ap (λ (b : Bool). cond b 0 23) (zero-logs 65537 .good)
 
 pub log-cases : LogCases
-unfolding part table every le toLe all allFrom shaped lastBegun opened follows total startAt recordAt recordOk goodLog records readAt stored puts lineBytes stores appended appendedAll
+unfolding part tabulate every le toLe all allFrom shaped lastBegun opened follows total startAt recordAt recordOk goodLog records readAt stored puts lineBytes stores appended appendedAll
 log-cases =
     record {
-      appends = ((refl, refl), ((refl, refl), ((refl, refl), ((refl, refl), ((refl, refl), ((refl, refl), ((refl, refl), ((refl, refl), ((refl, refl), ((refl, refl), ((refl, refl), ((refl, refl), ((refl, refl), ((refl, refl), ((refl, refl), ((refl, refl), ((refl, refl), ((refl, refl), ((refl, refl), ((refl, refl), ((refl, refl), ((refl, refl), ((refl, refl), ((refl, refl), tt))))))))))))))))))))))));
+      appends = (
+        (refl, refl),
+        (
+          (refl, refl),
+          (
+            (refl, refl),
+            (
+              (refl, refl),
+              (
+                (refl, refl),
+                (
+                  (refl, refl),
+                  (
+                    (refl, refl),
+                    (
+                      (refl, refl),
+                      (
+                        (refl, refl),
+                        (
+                          (refl, refl),
+                          (
+                            (refl, refl),
+                            (
+                              (refl, refl),
+                              (
+                                (refl, refl),
+                                (
+                                  (refl, refl),
+                                  (
+                                    (refl, refl),
+                                    (
+                                      (refl, refl),
+                                      (
+                                        (refl, refl),
+                                        ((refl, refl), ((refl, refl), ((refl, refl), ((refl, refl), ((refl, refl), ((refl, refl), ((refl, refl), tt))))))),
+                                      ),
+                                    ),
+                                  ),
+                                ),
+                              ),
+                            ),
+                          ),
+                        ),
+                      ),
+                    ),
+                  ),
+                ),
+              ),
+            ),
+          ),
+        ),
+      );
       line = refl;
       body = refl;
       there = refl;

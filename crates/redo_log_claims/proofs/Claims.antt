@@ -14,10 +14,11 @@ use Rattle.lists.specs.Table.{listed}
 use Rattle.lists.proofs.Tests.{cases, and-left}
 use Rattle.lists.proofs.Table.{given, unapplied, first-all}
 use Rattle.redo_log.specs.Log.{LogRecord, bodiesFrom, mostRecords, mostLog, recordCount, goodLog, logNumber, records}
-use Rattle.redo_log.specs.Append.{Store, stored, stores, accepts, lacks, appendRows, appendNumber, appended, Admitted}
+use Rattle.redo_log.specs.Append.{Store, stored, stores, accepts, lacks, appendRows, appendNumber, appended}
+use Rattle.redo_log.specs.inner.Admitted.{Admitted}
 use Rattle.redo_log.proofs.Stores.{take-append, stored-append, length-stores, written, long-written, stores-written}
 use Rattle.redo_log.proofs.Steps.{admitted, left-23, left-24, left-26, left-0}
-use Rattle.redo_log_claims.specs.Claims.{Appending, Appends, checkNumbers, appendNumbers, LogListed, needed, appendedAll, allStores, admittedOf, wholly, cutAfter, History, Histories}
+use Rattle.redo_log_claims.specs.Claims.{Appending, Appends, checkNumbers, appendNumbers, LogListed, needed, appendedAll, allStores, admittedOf, wholly, cutAfter, AppendRun, AppendRuns}
 use Rattle.redo_log_claims.proofs.Same.{checks-same, records-same}
 use Rattle.redo_log_claims.proofs.Written.{full, same-written, front-before, count-before, bytes-written, written-full, good-there, records-there}
 
@@ -43,7 +44,16 @@ module _ (k : ℕ) (log : List ℕ) (r : LogRecord) where
       let same = same-written log r room k in
       let count = count-before log r room k h in
       let long = long-written log r room k in (
-        rw (count, long, ← checks-same log (written k log r) same, room .checks, le-leb bodiesFrom (length log) (room .from), le-leb (length log) mostLog (room .most), le-leb (recordCount log) mostRecords (omega (arith, room .below))),
+        rw (
+          count,
+          long,
+          ← checks-same log (written k log r) same,
+          room .checks,
+          le-leb bodiesFrom (length log) (room .from),
+          le-leb
+              (length log) mostLog (room .most),
+          le-leb (recordCount log) mostRecords (omega (arith, room .below)),
+        ),
         rw count (sym (records-same log (written k log r) same)),
       )
 
@@ -115,7 +125,7 @@ good-before k log r e = go (accepts log r) refl
 
 -- A history with one append more in front, which is refused, or taken and perhaps cut.
 module _ (k : ℕ) (log : List ℕ) (r : LogRecord) (rs : List LogRecord) (g : goodLog log ≡ true) where
-  more-refused : (n : ℕ) → appendNumber (needed r) log r ≡ suc n → appended (needed r) log r ≡ log → History k log rs → History k log (r ∷ rs)
+  more-refused : (n : ℕ) → appendNumber (needed r) log r ≡ suc n → appended (needed r) log r ≡ log → AppendRun k log rs → AppendRun k log (r ∷ rs)
   unfolding allStores admittedOf appendedAll
   more-refused n e same h =
       record {
@@ -160,10 +170,11 @@ module _ (k : ℕ) (log : List ℕ) (r : LogRecord) (rs : List LogRecord) (g : g
         ∙ ap (λ (m : ℕ). stored (take (k - m) (allStores next rs)) (stored (take k (stores log r)) log)) (length-stores log r)
 
     -- Cut within this append.
-    more-cut : k < needed r → stored (allStores next rs) next ≡ appendedAll next rs → (goodLog (stored (take k (stores log r)) log) ≡ true) × (records (stored (take k (stores log r)) log) ≡ records log)
+    more-cut : k < needed r → stored (allStores next rs) next ≡ appendedAll next rs → (goodLog (stored (take k (stores log r)) log) ≡ true) ×
+        (records (stored (take k (stores log r)) log) ≡ records log)
         → length (stored (take k (stores log r)) log) ≡ length log
         → (Bytes log → Bytes (r .body) → Bytes (stored (take k (stores log r)) log))
-        → History k log (r ∷ rs)
+        → AppendRun k log (r ∷ rs)
     unfolding wholly stored
     more-cut h s c n b =
         let none : k - needed r ≡ 0 = omega arith in
@@ -177,7 +188,8 @@ module _ (k : ℕ) (log : List ℕ) (r : LogRecord) (rs : List LogRecord) (g : g
         }
 
     -- Cut behind it.
-    more-whole : needed r ≤ k → records next ≡ records log ++ r ∷ [] → length next ≡ length log → (Bytes log → Bytes (r .body) → Bytes next) → History (k - needed r) next rs → History k log (r ∷ rs)
+    more-whole : needed r ≤ k → records next ≡ records log ++ r ∷ [] → length next ≡ length log →
+        (Bytes log → Bytes (r .body) → Bytes next) → AppendRun (k - needed r) next rs → AppendRun k log (r ∷ rs)
     unfolding wholly
     more-whole h rn ln b t =
         let here : stored (take k (stores log r)) log ≡ next = ap (λ (ss : List Store). stored ss log) (take-all k (stores log r) (rw length-stores h)) ∙ sym next-is in
@@ -194,13 +206,13 @@ module _ (k : ℕ) (log : List ℕ) (r : LogRecord) (rs : List LogRecord) (g : g
           bytes = λ lb rb. subst Bytes (sym is) (t .bytes (b lb (rb .0)) (rb .1));
         }
 
-pub histories : Histories
+pub histories : AppendRuns
 unfolding allStores admittedOf appendedAll wholly stored
 histories k log [] g =
     record { same = refl; good = rw take-nil g; back = rw take-nil (sym (append-nil (records log))); long = rw take-nil; bytes = λ lb rb. rw take-nil lb }
 histories k log (r ∷ rs) g = go (accepts log r) (lacks log r) refl refl (λ (m : ℕ) (l : List ℕ) (b : goodLog l ≡ true). histories m l rs b)
   where
-    go : (a f : Bool) → accepts log r ≡ a → lacks log r ≡ f → ((m : ℕ) (l : List ℕ) → goodLog l ≡ true → History m l rs) → History k log (r ∷ rs)
+    go : (a f : Bool) → accepts log r ≡ a → lacks log r ≡ f → ((m : ℕ) (l : List ℕ) → goodLog l ≡ true → AppendRun m l rs) → AppendRun k log (r ∷ rs)
     go false f p q later = let left = left-23 (needed r) log r p in more-refused k log r rs g 22 (left .0) (left .1) (later k log g)
     go true true p q later = let left = left-24 (needed r) log r p q in more-refused k log r rs g 23 (left .0) (left .1) (later k log g)
     go true false p q later =
@@ -215,7 +227,7 @@ histories k log (r ∷ rs) g = go (accepts log r) (lacks log r) refl refl (λ (m
             → records (appended (needed r) log r) ≡ records log ++ r ∷ []
             → length (appended (needed r) log r) ≡ length log
             → (ltb k (needed r) ≡ true) ⊎ (ltb k (needed r) ≡ false)
-            → History k log (r ∷ rs)
+            → AppendRun k log (r ∷ rs)
         cut-or-not z l gn rn ln (inl b) =
             let few = left-26 k log r p q b in
             let now = appends k log r in

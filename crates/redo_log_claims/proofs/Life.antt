@@ -10,7 +10,7 @@ use borrow.Author.Tests.{eqb-true, eqb-false, eq-eqb, ltb-true, le-leb}
 use lib.ListN.{length, take, drop, getD, set, length-set}
 use lib.Seq.{set-set, set-comm, take-all, getD-take, getD-drop, getD-set-same, getD-set-other, take-set-lt, drop-set-add}
 use lib.Dec.{eqb, ltb, leb, lit<}
-use Rattle.lists.specs.Parts.{Bytes, part, splice, table, every}
+use Rattle.lists.specs.Parts.{Bytes, part, splice, tabulate, every}
 use Rattle.lists.specs.Le.{le, field}
 use Rattle.lists.specs.Search.{any}
 use Rattle.lists.specs.Table.{all, allFrom}
@@ -18,7 +18,8 @@ use Rattle.lists.proofs.Bytes.{Bytes-nil, Bytes-cons, Bytes-splice}
 use Rattle.lists.proofs.Parts.{splice-nil, length-splice, splice-before, getD-splice-before, getD-splice-after, splice-set}
 use Rattle.lists.proofs.Tests.{cases, never-both, and-left, and-right, or-cases, or-left, or-right}
 use Rattle.redo_log.specs.Log.{LogRecord, bodiesFrom, mostLog, recordCount, linePlace, placeAt, lengthAt, sumAt, recordAt, startAt, lastBegun, opened, total, checksum, recordOk, goodLog, records}
-use Rattle.redo_log.specs.Append.{Store, stored, puts, lineBytes, stores, accepts, lacks, appendNumber, appended, Admitted}
+use Rattle.redo_log.specs.Append.{Store, stored, puts, lineBytes, stores, accepts, lacks, appendNumber, appended}
+use Rattle.redo_log.specs.inner.Admitted.{Admitted}
 use Rattle.redo_log.proofs.Records.{sizes, start-next, ok-inside, good-record, body-long}
 use Rattle.redo_log.proofs.Stores.{length-line, withBody, withLine, stores-written}
 use Rattle.redo_log.proofs.Steps.{admitted, left-23, left-24, left-26, left-0}
@@ -206,7 +207,8 @@ module _ (log : List ℕ) (r : LogRecord) (a : accepts log r ≡ true) (f : lack
         body = λ j o. ap (λ (l : List ℕ). getD l j 0) at-first ∙ getD-outside from j (r .body) log (omega (arith, room-of .fits)) o;
         line = λ j o.
             ap (λ (l : List ℕ). getD l j 0) at-second
-            ∙ getD-outside (linePlace (recordCount log)) j bytes first (omega (arith, long-first, room-of .below, room-of .from)) (subst (λ (m : ℕ). Outside (linePlace (recordCount log)) m j) (sym (length-line from r)) o)
+            ∙ getD-outside (linePlace (recordCount log)) j bytes first (omega (arith, long-first, room-of .below, room-of .from))
+            (subst (λ (m : ℕ). Outside (linePlace (recordCount log)) m j) (sym (length-line from r)) o)
             ∙ ap (λ (l : List ℕ). getD l j 0) (sym at-first);
         count = λ j o.
             ap (λ (l : List ℕ). getD l j 0) at-third
@@ -330,7 +332,7 @@ byte-changed log i p b g lb h low high small ne = rw (bad-now log i p b g lb h l
 -- ---- a log that begins again
 
 pub renews : Renews
-unfolding stored puts goodLog records every table
+unfolding stored puts goodLog records every tabulate
 renews log g =
     let s = sizes log g in
     let none : recordCount (set log 0 0) ≡ 0 = getD-set-same log 0 0 0 (omega (arith, s .0)) in

@@ -5,7 +5,7 @@ use mathlib.Core.Path.{_≡_, refl, sym, ap, _∙_, subst}
 use mathlib.Core.List.{List}
 use lib.ListN.{length, take, drop, getD, length-take, length-drop}
 use lib.Seq.{getD-take, getD-drop, ext-getD}
-use Rattle.lists.specs.Parts.{part, table, every}
+use Rattle.lists.specs.Parts.{part, tabulate, every}
 use Rattle.lists.specs.Le.{le, field}
 use Rattle.lists.proofs.Every.{every-ext}
 use Rattle.redo_log.specs.Log.{bodiesFrom, kindAt, lengthAt, linePlace, startAt, recordAt, lastBegun, opened, recordOk}
@@ -74,18 +74,27 @@ module _ {n : ℕ} (a b : List ℕ) (s : Same n a b) where
   pub ok-same : (i : ℕ) → i < n → recordOk a i ≡ recordOk b i
   unfolding recordOk
   ok-same i h =
-      rw (start-same (suc i) h, s .long, line-same i 1 4 h (omega arith), start-same i (omega arith), line-same i 7 4 h (omega arith), record-same i h, last-same i (omega arith), opened-same i (omega arith))
+      rw (
+        start-same (suc i) h,
+        s .long,
+        line-same i 1 4 h (omega arith),
+        start-same i (omega arith),
+        line-same i 7 4 h (omega arith),
+        record-same i h,
+        last-same i (omega arith),
+        opened-same i (omega arith),
+      )
 
   pub checks-same : every (recordOk a) n ≡ every (recordOk b) n
   checks-same = every-ext (recordOk a) (recordOk b) n ok-same
 
-  table-same : (m : ℕ) → m ≤ n → table (recordAt a) m ≡ table (recordAt b) m
-  unfolding table
-  table-same zero h = refl
-  table-same (suc m) h = rw (table-same m (omega arith), record-same m (omega arith))
+  tabulate-same : (m : ℕ) → m ≤ n → tabulate (recordAt a) m ≡ tabulate (recordAt b) m
+  unfolding tabulate
+  tabulate-same zero h = refl
+  tabulate-same (suc m) h = rw (tabulate-same m (omega arith), record-same m (omega arith))
 
-  pub records-same : table (recordAt a) n ≡ table (recordAt b) n
-  records-same = table-same n (omega arith)
+  pub records-same : tabulate (recordAt a) n ≡ tabulate (recordAt b) n
+  records-same = tabulate-same n (omega arith)
 
   pub after-same : (lastBegun (recordAt a) n ≡ lastBegun (recordAt b) n) × (opened (recordAt a) n ≡ opened (recordAt b) n)
   after-same = (last-same n (omega arith), opened-same n (omega arith))

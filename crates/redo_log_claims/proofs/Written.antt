@@ -10,7 +10,7 @@ use borrow.Author.Tests.{eq-eqb, le-leb, ltb-true, eqb-true}
 use lib.ListN.{length, take, getD}
 use lib.Seq.{take-all}
 use lib.Dec.{ltb, leb, eqb, lit<}
-use Rattle.lists.specs.Parts.{Bytes, part, splice, table, every}
+use Rattle.lists.specs.Parts.{Bytes, part, splice, tabulate, every}
 use Rattle.lists.specs.Le.{le, toLe, field}
 use Rattle.lists.specs.Table.{all, allFrom}
 use Rattle.lists.proofs.Tests.{and-left, and-right, or-cases}
@@ -18,8 +18,28 @@ use Rattle.lists.proofs.Bytes.{Bytes-nil, Bytes-cons, Bytes-append, Bytes-take,
 use Rattle.lists.proofs.Parts.{splice-nil, splice-here, splice-after, length-splice, getD-splice, getD-splice-before, getD-splice-after, part-part, getD-part}
 use Rattle.lists.proofs.Le.{le-toLe, Bytes-toLe}
 use Rattle.lists.proofs.Every.{every-more}
-use Rattle.redo_log.specs.Log.{LogRecord, bodiesFrom, mostRecords, mostLog, kindAt, placeAt, lengthAt, sumAt, recordCount, linePlace, startAt, recordAt, recordOk, goodLog, records, shaped, checksum, total}
-use Rattle.redo_log.specs.Append.{lineBytes, Admitted}
+use Rattle.redo_log.specs.Log.{
+  LogRecord,
+  bodiesFrom,
+  mostRecords,
+  mostLog,
+  kindAt,
+  placeAt,
+  lengthAt,
+  sumAt,
+  recordCount,
+  linePlace,
+  startAt,
+  recordAt,
+  recordOk,
+  goodLog,
+  records,
+  shaped,
+  checksum,
+  total,
+}
+use Rattle.redo_log.specs.Append.{lineBytes}
+use Rattle.redo_log.specs.inner.Admitted.{Admitted}
 use Rattle.redo_log.proofs.Records.{start-next}
 use Rattle.redo_log.proofs.Stores.{length-taken, length-line, withBody, withLine, written, long-body, line-fits, long-line, count-fits, long-written}
 use Rattle.redo_log_claims.proofs.Same.{Same, start-from, start-same, checks-same, records-same, after-same}
@@ -79,7 +99,8 @@ module _ (log : List ℕ) (r : LogRecord) (room : Admitted log r) (k : ℕ) wher
   count-before h =
       let none : k - (length (r .body) + 11) ≡ 0 = omega arith in
       rw (none, splice-nil)
-      (getD-apart (linePlace (recordCount log)) 0 (take (k - length (r .body)) (lineBytes (startAt log (recordCount log)) r)) (withBody k log r) (rw (long-body log r room k) (line-fits log r room (k - length (r .body)))) (inl (omega arith))
+      (getD-apart (linePlace (recordCount log)) 0 (take (k - length (r .body)) (lineBytes (startAt log (recordCount log)) r)) (withBody k log r)
+      (rw (long-body log r room k) (line-fits log r room (k - length (r .body)))) (inl (omega arith))
       ∙ getD-apart (startAt log (recordCount log)) 0 (take k (r .body)) log (omega (arith, room .fits, length-taken k (r .body))) (inl (omega (arith, start-from log (recordCount log)))))
 
 -- ---- bytes stay bytes
@@ -97,7 +118,8 @@ kind-small kind body e = two (or-cases _ (eqb kind 4 && eqb (length body) 6) (an
         go (inr k) = omega (arith, eqb-true kind 3 k)
     one (inr f) = omega (arith, eqb-true kind 2 (and-left (eqb kind 2) _ (and-left (eqb kind 2 && leb 3 (length body)) _ f)))
 
-    two : (((eqb kind 1 || eqb kind 3) && eqb (length body) 4 || eqb kind 2 && leb 3 (length body) && (eqb (getD body 2 0) 1 || eqb (getD body 2 0) 2)) ≡ true) ⊎ ((eqb kind 4 && eqb (length body) 6) ≡ true) → kind < 256
+    two : (((eqb kind 1 || eqb kind 3) && eqb (length body) 4 || eqb kind 2 && leb 3 (length body) &&
+        (eqb (getD body 2 0) 1 || eqb (getD body 2 0) 2)) ≡ true) ⊎ ((eqb kind 4 && eqb (length body) 6) ≡ true) → kind < 256
     two (inl f) = one (or-cases ((eqb kind 1 || eqb kind 3) && eqb (length body) 4) _ f)
     two (inr f) = omega (arith, eqb-true kind 4 (and-left (eqb kind 4) _ f))
 
@@ -144,7 +166,9 @@ module _ (log : List ℕ) (r : LogRecord) (room : Admitted log r) where
       let both : length (splice (linePlace (recordCount log)) (lineBytes (startAt log (recordCount log)) r) (splice (startAt log (recordCount log)) (r .body) log)) ≡ length log =
       length-splice (linePlace (recordCount log)) (lineBytes (startAt log (recordCount log)) r) (splice (startAt log (recordCount log)) (r .body) log) (rw (body, length-line) line) ∙ body in
       splice-after 0 (linePlace (recordCount log)) 11 ((recordCount log + 1) ∷ []) _ (omega arith) (omega arith)
-      ∙ ap (λ (m : ℕ). part (linePlace (recordCount log)) m (splice (linePlace (recordCount log)) (lineBytes (startAt log (recordCount log)) r) (splice (startAt log (recordCount log)) (r .body) log))) (sym (length-line (startAt log (recordCount log)) r))
+      ∙ ap (λ (m : ℕ). part (linePlace (recordCount log)) m
+      (splice (linePlace (recordCount log)) (lineBytes (startAt log (recordCount log)) r) (splice (startAt log (recordCount log)) (r .body) log)))
+      (sym (length-line (startAt log (recordCount log)) r))
       ∙ splice-here (linePlace (recordCount log)) (lineBytes (startAt log (recordCount log)) r) (splice (startAt log (recordCount log)) (r .body) log) (rw body (omega arith))
 
   long-full : length (full log r) ≡ length log
@@ -184,7 +208,9 @@ module _ (log : List ℕ) (r : LogRecord) (room : Admitted log r) where
   body-there =
       let body : length (splice (startAt log (recordCount log)) (r .body) log) ≡ length log = length-splice (startAt log (recordCount log)) (r .body) log (room .fits) in
       splice-after 0 (startAt log (recordCount log)) (length (r .body)) ((recordCount log + 1) ∷ []) _ (omega arith) (omega (arith, start-from log (recordCount log)))
-      ∙ splice-after (linePlace (recordCount log)) (startAt log (recordCount log)) (length (r .body)) (lineBytes (startAt log (recordCount log)) r) (splice (startAt log (recordCount log)) (r .body) log) (rw body (omega (arith, room .below, room .from))) (rw length-line (omega (arith, room .below, start-from log (recordCount log))))
+      ∙ splice-after (linePlace (recordCount log)) (startAt log (recordCount log)) (length (r .body)) (lineBytes (startAt log (recordCount log)) r)
+      (splice (startAt log (recordCount log)) (r .body) log) (rw body (omega (arith, room .below, room .from)))
+      (rw length-line (omega (arith, room .below, start-from log (recordCount log))))
       ∙ splice-here (startAt log (recordCount log)) (r .body) log (omega (arith, room .fits))
 
   record-there : recordAt (full log r) (recordCount log) ≡ r
@@ -226,9 +252,9 @@ module _ (log : List ℕ) (r : LogRecord) (room : Admitted log r) where
       (every-more (recordOk (full log r)) (recordCount log) old ok-there)
 
   pub records-there : records (full log r) ≡ records log ++ r ∷ []
-  unfolding records table
+  unfolding records tabulate
   records-there =
       let one : recordCount log + 1 ≡ suc (recordCount log) = omega arith in
-      ap (table (recordAt (full log r))) (count-there ∙ one)
-      ∙ ap (λ (e : LogRecord). table (recordAt (full log r)) (recordCount log) ++ (e ∷ [])) record-there
+      ap (tabulate (recordAt (full log r))) (count-there ∙ one)
+      ∙ ap (λ (e : LogRecord). tabulate (recordAt (full log r)) (recordCount log) ++ (e ∷ [])) record-there
       ∙ ap (λ (l : List LogRecord). l ++ (r ∷ [])) (sym (records-same log (full log r) same-full))

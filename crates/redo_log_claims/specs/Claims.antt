@@ -106,7 +106,7 @@ BytesOfRecords [] = Unit {0}
 BytesOfRecords (r ∷ rs) = Bytes (r .body) × BytesOfRecords rs
 
 -- Rule 11.14, of the first k stores.
-pub record History (k : ℕ) (log : List ℕ) (rs : List LogRecord) : Type 0 where
+pub record AppendRun (k : ℕ) (log : List ℕ) (rs : List LogRecord) : Type 0 where
   -- the stores do what the appends do
   pub same : stored (allStores log rs) log ≡ appendedAll log rs
   -- the cut log is good, and what is read back is what stood there and each record that was wholly appended
@@ -115,5 +115,5 @@ pub record History (k : ℕ) (log : List ℕ) (rs : List LogRecord) : Type 0 whe
   pub long : length (cutAfter k log rs) ≡ length log
   pub bytes : Bytes log → BytesOfRecords rs → Bytes (cutAfter k log rs)
 
-abbrev pub Histories : Type 0
-Histories = (k : ℕ) (log : List ℕ) (rs : List LogRecord) → goodLog log ≡ true → History k log rs
+abbrev pub AppendRuns : Type 0
+AppendRuns = (k : ℕ) (log : List ℕ) (rs : List LogRecord) → goodLog log ≡ true → AppendRun k log rs

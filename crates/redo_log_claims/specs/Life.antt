@@ -8,8 +8,9 @@ use mathlib.Core.List.{List, [], _∷_}
 use mathlib.Core.Bool.{true}
 use lib.ListN.{length, getD, set}
 use Rattle.lists.specs.Parts.{Bytes}
-use Rattle.redo_log.specs.Log.{LogRecord, BAD-LOG, recordCount, linePlace, lineSize, startAt, goodLog, logNumber, records}
-use Rattle.redo_log.specs.Append.{APPEND-CUT, stored, puts, appendNumber, appended}
+use Rattle.redo_log.specs.Log.{LogRecord, recordCount, linePlace, lineSize, startAt, goodLog, logNumber, records}
+use Rattle.redo_log.specs.Append.{stored, puts, appendNumber, appended}
+use Rattle.numbers.specs.Numbers.{BAD-LOG, APPEND-CUT}
 
 -- Rules 11.24 and 16.14: an append that is cut, and then made again with no smaller budget, is the append with that
 -- budget.

@@ -52,10 +52,6 @@ sessionChecks mode pair =
     ∷ not (eqb (own mode pair) 0)
     ∷ []
 
--- The number of what breaks these rules, in the store and in the lock queue alike.
-abbrev pub MALFORMED : ℕ
-MALFORMED = 1
-
 -- Rule 4.2: stale by x, and, if exclusive, by s; equal stamps are not.
 -- Minuet: EBADSESSION.
 abbrev pub stale : ℕ → Pair → Pair → Bool

@@ -10,19 +10,25 @@ pub struct Pair {
     pub x: u64,
 }
 
+// The pair of two stamps that are none.
+pub const NO_PAIR: Pair = Pair { s: 0, x: 0 };
+
 // A commit mark (Minuet: a commit session identifier). Both zero means none.
 pub struct Mark {
     pub desk: u16,
     pub transaction: u32,
 }
 
+// The mark of a card that bears none.
+pub const NO_MARK: Mark = Mark {
+    desk: 0,
+    transaction: 0,
+};
+
 // The modes.
 pub const SHARED: u8 = 1;
 
 pub const EXCLUSIVE: u8 = 2;
-
-// The number of a mode or of stamps that break the rules.
-pub const MALFORMED: u8 = 1;
 
 // A stamp is T.desk.start: 32, 16 and 16 bits, T highest. So many numbers a start, a desk, and a desk with its start have.
 pub const STARTS: u64 = 65536;

@@ -10,8 +10,8 @@ use mathlib.Core.Bool.{Bool, true, false, cond, and-false}
 use borrow.Author.Tests.{eqb-true, eqb-false, eq-eqb, ne-eqb}
 use lib.Dec.{T, eqb}
 use lib.ListN.{length}
-use Rattle.lists.specs.Parts.{part, splice, spread, Bytes}
-use Rattle.lists.proofs.Spread.{table-ext, length-table}
+use Rattle.lists.specs.Parts.{part, splice, concatMap, Bytes}
+use Rattle.lists.proofs.ConcatMap.{tabulate-ext, length-tabulate}
 use Rattle.lists.proofs.Parts.{splice-before, length-splice}
 use Rattle.lists.proofs.Tests.{cases, to-T}
 use Rattle.commands.specs.Command.{translation, original, writesTranslation, writes}
@@ -26,12 +26,12 @@ use Rattle.image.proofs.Encode.{length-pad}
 use Rattle.image.proofs.Entry.{entryBytes-ext}
 use Rattle.image.proofs.Decode.{count-decode, room-decode, card-decode, view-at, entry-lies, body-lies, sideLength, side-fits, side-tail, places, entry-back, long, encode-decode}
 use Rattle.image.proofs.Put.{side-written, put-entry, put-text-entry}
-use Rattle.image.specs.Write.{entryWith, overOld}
+use Rattle.image.specs.inner.Write.{entryWith, overOld}
 use Rattle.image.proofs.Written.{over-body}
 use Rattle.image.proofs.EntryWritten.{seenAfter, entry-written}
-use Rattle.model.specs.Serve.{stepped}
-use Rattle.model.proofs.Stepped.{text-step, seen-named, seen-other}
-use Rattle.store.specs.Carried.{bodyWritten, textWritten}
+use Rattle.store_model.specs.Serve.{stepped}
+use Rattle.store_model.proofs.Stepped.{text-step, seen-named, seen-other}
+use Rattle.store.specs.inner.Carried.{bodyWritten, textWritten}
 use Rattle.store.proofs.Texts.{one-original, one-translation}
 
 -- ---- the card after an accepted command
@@ -80,7 +80,7 @@ module _ (f : Format) (card : Card) (c : Command) (t : List ℕ) (size : length 
 
   pub bodies-kept : (room : ℕ) → ((j : ℕ) → writesSide j ≡ false) → bodies f room now ≡ bodies f room card
   unfolding bodies
-  bodies-kept room none = ap (spread (pad room)) (table-ext (λ (s : ℕ). sideText s now) (λ (s : ℕ). sideText s card) (sides f) (λ j h. text-kept j (none j)))
+  bodies-kept room none = ap (concatMap (pad room)) (tabulate-ext (λ (s : ℕ). sideText s now) (λ (s : ℕ). sideText s card) (sides f) (λ j h. text-kept j (none j)))
 
 -- ---- on a sound image
 
@@ -97,7 +97,7 @@ module _ (f : Format) (image : List ℕ) (b : Bytes image) (holds : T (sound f i
 
   count : length (card .translated) ≡ translations f
   unfolding cardAt
-  count = length-table (translationAt f image k) (translations f)
+  count = length-tabulate (translationAt f image k) (translations f)
 
   listed : c .language < length (card .translated)
   listed = subst (λ (n : ℕ). c .language < n) (sym count) known

@@ -8,7 +8,8 @@ use Rattle.guard.specs.declared.Answer.{Answer}
 use Rattle.store.specs.Runs.{numbersOf}
 
 all-numbers : (a : Answer) →
-    (getD (numbersOf a) 0 0 ∷ getD (numbersOf a) 1 0 ∷ getD (numbersOf a) 2 0 ∷ getD (numbersOf a) 3 0 ∷ getD (numbersOf a) 4 0 ∷ getD (numbersOf a) 5 0 ∷ getD (numbersOf a) 6 0 ∷ getD (numbersOf a) 7 0 ∷ [])
+    (getD (numbersOf a) 0 0 ∷ getD (numbersOf a) 1 0 ∷ getD (numbersOf a) 2 0 ∷ getD (numbersOf a) 3 0 ∷ getD (numbersOf a) 4 0 ∷ getD
+    (numbersOf a) 5 0 ∷ getD (numbersOf a) 6 0 ∷ getD (numbersOf a) 7 0 ∷ [])
     ≡ numbersOf a
 unfolding numbersOf
 all-numbers a = refl
@@ -19,7 +20,8 @@ pub line-numbers : (a : Answer) {m : List ℕ} → m ≡ numbersOf a →
 line-numbers a p = rw p (all-numbers a)
 
 each-field : (a : Answer) →
-    (a .number ∷ getD (replyFields a) 0 0 ∷ getD (replyFields a) 1 0 ∷ getD (replyFields a) 2 0 ∷ getD (replyFields a) 3 0 ∷ getD (replyFields a) 4 0 ∷ getD (replyFields a) 5 0 ∷ getD (replyFields a) 6 0 ∷ [])
+    (a .number ∷ getD (replyFields a) 0 0 ∷ getD (replyFields a) 1 0 ∷ getD (replyFields a) 2 0 ∷ getD (replyFields a) 3 0 ∷ getD (replyFields a) 4 0
+    ∷ getD (replyFields a) 5 0 ∷ getD (replyFields a) 6 0 ∷ [])
     ≡ numbersOf a
 unfolding numbersOf
 each-field a = refl

@@ -12,16 +12,16 @@ use lib.Seq.{take-length, drop-length}
 use native.Mathlib.Nat.{sub-zero, zero-add}
 use Rattle.formats.specs.Format.{Format, fixed}
 use Rattle.formats.proofs.Numbers.{numbers}
-use Rattle.lists.specs.Parts.{part, splice, spread}
+use Rattle.lists.specs.Parts.{part, splice, concatMap}
 use Rattle.lists.proofs.Tests.{and-in, and-left, and-right, never-both}
 use Rattle.lists.specs.Le.{field}
 use Rattle.lists.proofs.Parts.{splice-whole}
 use Rattle.commands.specs.Bytes.{formed}
 use Rattle.guard.specs.Replies.{refused}
 use Rattle.guard.specs.declared.Answer.{Answer}
-use Rattle.model.specs.Serve.{Outcome, serve}
+use Rattle.store_model.specs.Serve.{Outcome, serve}
 use Rattle.store.specs.Runs.{runs, numbersOf, perLine}
-use Rattle.model.proofs.Exact.{refusals}
+use Rattle.store_model.proofs.Exact.{refusals}
 use Rattle.stream.specs.Stream.{extent, commands, commandsWithin, nextAt, onward}
 use Rattle.stream.proofs.Place.{next-whole, whole-in, went}
 use Rattle.stream.proofs.Walks as walk
@@ -78,7 +78,7 @@ module _ (f : Format) (image reply c line : List ℕ) {end : ℕ} (step : end �
   one-reply = rw judged
 
   pub one-line : splice 0 (lined (runs f image reply (judgedOf f c (length line)))) line ≡ numbersOf (serve f image c reply .answer)
-  unfolding runs spread
+  unfolding runs concatMap
   one-line = rw (judged, append-nil) (line-whole (serve f image c reply .answer) line whole)
 
 -- The first number of a line is the answer's number.

@@ -8,10 +8,10 @@ use lib.ListN.{length, take, drop, length-append, length-drop}
 use lib.Seq.{take-nil, take-length}
 use Rattle.formats.specs.Format.{Format}
 use Rattle.formats.proofs.Numbers.{numbers}
-use Rattle.lists.specs.Parts.{part, splice, spread}
+use Rattle.lists.specs.Parts.{part, splice, concatMap}
 use Rattle.lists.proofs.Parts.{length-part, length-splice, splice-nil, splice-adjacent}
 use Rattle.guard.specs.declared.Answer.{Answer}
-use Rattle.model.specs.Serve.{serve}
+use Rattle.store_model.specs.Serve.{serve}
 use Rattle.store.specs.Runs.{runs, numbersOf, perLine}
 use Rattle.stream.specs.Stream.{commands, nextAt, endToEnd}
 use Rattle.stream.specs.declared.Next.the-variants.{Whole, Cut}
@@ -92,7 +92,7 @@ module _ {f : Format} {m : ℕ} {image₀ reply₀ stream lines₀ image reply l
       length image′ ≡ length image →
       length reply′ ≡ length reply →
       Running f m image₀ reply₀ stream lines₀ image′ reply′ lines′ end (count + 1)
-  unfolding runs part spread
+  unfolding runs part concatMap
   running-more end a image′ reply′ lines′ e h l p q o wide deep =
       let s = walk.passes f stream at end e in
       let width = numbers f in
@@ -127,7 +127,7 @@ module _ {f : Format} {m : ℕ} {image₀ reply₀ stream lines₀ image reply l
     done-count = let n = rw none at (r .counted) in omega (arith, n)
 
     pub done-end : at ≡ length (endToEnd (take m (commands f stream)))
-    unfolding spread
+    unfolding concatMap
     done-end = let n = rw none at (r .ends) in omega (arith, n)
 
     pub done-image : image ≡ runs f image₀ reply₀ (take m (commands f stream)) .image
@@ -139,7 +139,7 @@ module _ {f : Format} {m : ℕ} {image₀ reply₀ stream lines₀ image reply l
     done-reply = rw none at (r .left-reply)
 
     pub done-lines : lines ≡ splice 0 (lined (runs f image₀ reply₀ (take m (commands f stream)))) lines₀
-    unfolding runs spread
+    unfolding runs concatMap
     done-lines = sym (splice-nil (count * perLine) lines) ∙ rw none at (r .left-lines)
 
     pub ended : {K : Type 0} → m ≡ length lines₀ / perLine → K → RunsTo f image₀ stream reply₀ lines₀ (record { count = count; end = at }) image reply lines × K

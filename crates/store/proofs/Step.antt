@@ -24,10 +24,10 @@ use Rattle.commands.proofs.CommandBytes.{formed-short, language-within}
 use Rattle.guard.proofs.Judge.{Accepted, accepted, accepted-raises}
 use Rattle.lists.proofs.Table.{settled-old}
 use Rattle.image.proofs.Decode.{count-decode, card-decode, view-at}
-use Rattle.store.specs.Carried.{judgedAt, carried}
+use Rattle.store.specs.inner.Carried.{judgedAt, carried}
 use Rattle.store.specs.Runs.{numbersOf}
-use Rattle.model.specs.Serve.{Outcome, cardOf, entryOf, textRead, stepped, storeRows, serveBy, serve}
-use Rattle.model.proofs.Formed.{formed-well}
+use Rattle.store_model.specs.Serve.{Outcome, cardOf, entryOf, textRead, stepped, storeRows, serveBy, serve}
+use Rattle.store_model.proofs.Formed.{formed-well}
 use Rattle.formats.specs.Format.{Format, fixed}
 use Rattle.image.specs.Bytes.{entryAt, countOf, roomOf}
 use Rattle.image.specs.Image.{view, Card, withCard, cardAt, encode, decode, sound}
@@ -140,7 +140,8 @@ module _ (f : Format) where
         ∙ ap
         (λ (card : Card). first (judgeRows (view (fieldsOf f command .language) card) (fieldsOf f command) (roomOf image) (length reply)))
         (card-decode f image (fieldsOf f command .card) g))
-        ∙ by-judged (cardAt f image (fieldsOf f command .card)) (card-decode f image (fieldsOf f command .card) g) refl (sym (view-at f image (to-T e) (fieldsOf f command .card) g (fieldsOf f command .language) (language-within f command u)))
+        ∙ by-judged (cardAt f image (fieldsOf f command .card)) (card-decode f image (fieldsOf f command .card) g) refl
+        (sym (view-at f image (to-T e) (fieldsOf f command .card) g (fieldsOf f command .language) (language-within f command u)))
 
     -- The same for a command and a payload that were found in the lent bytes.
     pub serve-found : {c : Command} {text : List ℕ} →

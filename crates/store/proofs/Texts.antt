@@ -18,7 +18,7 @@ use Rattle.image.specs.Layout.{mostRoom, bodyPlace}
 use Rattle.image.specs.Bytes.{countOf, roomOf, readEntry, entryAt}
 use Rattle.image.specs.Image.{Card, Translation, cardAt, sound}
 use Rattle.image.proofs.Decode.{side-fits, body-lies, places, translation-at}
-use Rattle.model.specs.Serve.{textRead}
+use Rattle.store_model.specs.Serve.{textRead}
 
 module _ (f : Format) (image : List ℕ) (s : sound f image ≡ true) (c : Command) (below : c .card < countOf image) (known : c .language < translations f)
     {e : Entry} (p : e ≡ entryAt f image (c .card) (c .language)) where

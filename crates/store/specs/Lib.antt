@@ -1,3 +1,3 @@
 pub mod Runs
-pub mod Carried
 pub mod Ran
+pub mod inner

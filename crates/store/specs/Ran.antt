@@ -5,7 +5,7 @@ use mathlib.Core.Path.{_≡_}
 use mathlib.Core.List.{List}
 use lib.ListN.{length, take}
 use Rattle.formats.specs.Format.{Format}
-use Rattle.lists.specs.Parts.{splice, spread}
+use Rattle.lists.specs.Parts.{splice, concatMap}
 use Rattle.store.specs.Runs.{Run, runs, perLine, numbersOf}
 use Rattle.stream.specs.Stream.{commands, endToEnd}
 use Rattle.store.specs.declared.Ran.{Ran}
@@ -20,7 +20,7 @@ ranOf f stream lent = record { count = length (judgedOf f stream lent); end = le
 
 -- The lines of a run as numbers, end to end.
 abbrev pub lined : Run → List ℕ
-lined r = spread numbersOf (r .answers)
+lined r = concatMap numbersOf (r .answers)
 
 -- What a run comes to (rules 8.2 to 8.5 and 8.7): how far it goes, and the image, the reply buffer and the lines after it.
 abbrev pub RunsTo : Format → List ℕ → List ℕ → List ℕ → List ℕ → Ran → List ℕ → List ℕ → List ℕ → Type 0

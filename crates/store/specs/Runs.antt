@@ -6,7 +6,7 @@ use mathlib.Core.List.{List, [], _∷_}
 use Rattle.formats.specs.Format.{Format}
 use Rattle.guard.specs.Replies.{replyFields}
 use Rattle.guard.specs.declared.Answer.{Answer}
-use Rattle.model.specs.Serve.{serve}
+use Rattle.store_model.specs.Serve.{serve}
 
 -- A run of commands over an image, with one reply buffer for all of them: the answers in order, the image and the reply buffer after.
 pub record Run : Type 0 where

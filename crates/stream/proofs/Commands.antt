@@ -9,7 +9,7 @@ use lib.ListN.{length, take, drop, length-drop, length-append}
 use lib.Seq.{length-take-le, drop-drop}
 use Rattle.formats.proofs.Numbers.{numbers}
 use Rattle.formats.specs.Format.{Format}
-use Rattle.lists.specs.Parts.{spread}
+use Rattle.lists.specs.Parts.{concatMap}
 use Rattle.stream.specs.Stream.{extent, whole, nextAt, commandsWithin, commands, endWithin, endOf, endToEnd}
 use Rattle.stream.specs.declared.Next.the-variants.{Whole, Cut}
 use Rattle.stream.proofs.Place.{extent-fixed, whole-out, cut-short, says-whole, says-cut}
@@ -48,7 +48,7 @@ module _ (v : Format) where
 
   -- The end is where the commands end.
   end-within : (f : ℕ) (s : List ℕ) → endWithin v f s ≡ length (endToEnd (commandsWithin v f s))
-  unfolding commandsWithin endWithin spread
+  unfolding commandsWithin endWithin concatMap
   end-within zero s = refl
   end-within (suc f) s = go (whole v s) refl (end-within f (drop (extent v s) s))
     where
@@ -63,7 +63,7 @@ module _ (v : Format) where
   end-length s = end-within (length s) s
 
   pub end-whole : (s : List ℕ) → whole v s ≡ true → endOf v s ≡ extent v s + endOf v (drop (extent v s) s)
-  unfolding spread
+  unfolding concatMap
   end-whole s e =
       end-length s
       ∙ rw
@@ -71,7 +71,7 @@ module _ (v : Format) where
       (ap (λ (n : ℕ). extent v s + n) (sym (end-length (drop (extent v s) s))))
 
   pub end-cut : (s : List ℕ) → whole v s ≡ false → endOf v s ≡ 0
-  unfolding spread
+  unfolding concatMap
   end-cut s e = end-length s ∙ rw (commands-cut s e)
 
   -- What holds where no whole command begins, and before a whole command if it holds behind it, holds of every stream.

@@ -9,8 +9,8 @@ use lib.ListN.{length, take, drop, getD, length-drop, length-append, take-append
 use lib.Seq.{length-take-le, drop-drop, take-at, drop-at, take-suc, take-length, drop-cons}
 use Rattle.formats.proofs.Numbers.{numbers}
 use Rattle.formats.specs.Format.{Format, V1, V2, fixed}
-use Rattle.lists.specs.Parts.{part, spread}
-use Rattle.lists.proofs.Spread.{spread-append}
+use Rattle.lists.specs.Parts.{part, concatMap}
+use Rattle.lists.proofs.ConcatMap.{concatMap-append}
 use Rattle.stream.specs.Stream.{extent, whole, OneCommand, nextAt, commands, endOf, endToEnd, placeOf}
 use Rattle.stream.specs.declared.Next.the-variants.{Whole, Cut}
 use Rattle.stream.proofs.Place.{extent-fixed, extent-take, extent-append, whole-in, whole-out, says-whole, says-cut}
@@ -25,7 +25,7 @@ module _ (v : Format) where
   -- ---- the parts of a stream
 
   pub joined : (s : List ℕ) → endToEnd (commands v s) ++ drop (endOf v s) s ≡ s
-  unfolding spread
+  unfolding concatMap
   joined = along v (λ (s : List ℕ). endToEnd (commands v s) ++ drop (endOf v s) s ≡ s) stop more
     where
       stop : (s : List ℕ) → whole v s ≡ false → endToEnd (commands v s) ++ drop (endOf v s) s ≡ s
@@ -95,7 +95,7 @@ module _ (v : Format) where
       commands-whole v (c ++ s) full ∙ rw (take-at c s (extent v (c ++ s)) long, drop-at c s (extent v (c ++ s)) long)
 
   pub back : (cs : List (List ℕ)) (rest : List ℕ) → ((i : ℕ) → i < length cs → OneCommand v (getD cs i [])) → whole v rest ≡ false → commands v (endToEnd cs ++ rest) ≡ cs
-  unfolding spread
+  unfolding concatMap
   back [] rest h e = commands-cut v rest e
   back (c ∷ cs) rest h e =
       ap (commands v) (append-assoc c (endToEnd cs) rest)
@@ -138,8 +138,8 @@ module _ (v : Format) where
   module _ (s : List ℕ) where
     -- One more command.
     further : (i : ℕ) → i < length (commands v s) → placeOf v s (suc i) ≡ placeOf v s i + length (getD (commands v s) i [])
-    unfolding placeOf spread
-    further i h = rw (take-suc (commands v s) i [] h, spread-append, length-append) (simp (length-append) (omega (arith, numbers v)))
+    unfolding placeOf concatMap
+    further i h = rw (take-suc (commands v s) i [] h, concatMap-append, length-append) (simp (length-append) (omega (arith, numbers v)))
 
     -- The commands from a command's place on are those from that command on.
     open-at : (i : ℕ) → i < length (commands v s) → commands v (drop (placeOf v s i) s) ≡ drop i (commands v s) →
@@ -154,7 +154,7 @@ module _ (v : Format) where
         ∙ rw e (ap (λ (n : ℕ). placeOf v s i + n) (length-take-le (extent v (drop (placeOf v s i) s)) (drop (placeOf v s i) s) (whole-out v (drop (placeOf v s i) s) b)))
 
     from : (i : ℕ) → i ≤ length (commands v s) → commands v (drop (placeOf v s i) s) ≡ drop i (commands v s)
-    unfolding placeOf spread
+    unfolding placeOf concatMap
     from zero h = refl
     from (suc i) h = go (open-at i (omega (arith, numbers v)) (from i (omega (arith, numbers v))))
       where

@@ -7,7 +7,7 @@ use mathlib.Core.Bool.{Bool, true, false, cond, _&&_}
 use lib.Dec.{leb}
 use lib.ListN.{length, take, drop}
 use Rattle.formats.specs.Format.{Format, V1, fixed}
-use Rattle.lists.specs.Parts.{spread}
+use Rattle.lists.specs.Parts.{concatMap}
 use Rattle.lists.specs.Le.{field}
 use Rattle.stream.specs.declared.Next.{Next}
 use Rattle.stream.specs.declared.Next.the-variants.{Whole, Cut}
@@ -60,7 +60,7 @@ endOf v stream = endWithin v (length stream) stream
 
 -- Commands end to end.
 abbrev pub endToEnd : List (List ℕ) → List ℕ
-endToEnd cs = spread (λ (c : List ℕ). c) cs
+endToEnd cs = concatMap (λ (c : List ℕ). c) cs
 
 -- The byte where the command with this number, counted from 0, begins.
 unfoldable pub placeOf : Format → List ℕ → ℕ → ℕ

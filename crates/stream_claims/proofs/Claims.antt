@@ -7,7 +7,7 @@ use mathlib.Core.List.{List}
 use lib.ListN.{length}
 use denote.Ref.{RefT, now}
 use Rattle.formats.specs.Format.{Format, V1}
-use Rattle.lists.specs.Parts.{spread}
+use Rattle.lists.specs.Parts.{concatMap}
 use Rattle.stream.specs.Stream.{onward, commands, endOf, placeOf, begun, movedTo, passed, steps}
 use Rattle.stream_claims.specs.Claims.{Parts, Stepping, Visits, Reads, StreamClaims}
 use Rattle.stream.specs.declared.Next.{Next}
@@ -29,7 +29,7 @@ stepping : (v : Format) (s : List ℕ) (at : ℕ) → Stepping v s at
 stepping v s at = record { passes = walk.passes v s at; stops = walk.stops v s at }
 
 visits : (v : Format) (s : List ℕ) → Visits v s
-unfolding placeOf spread
+unfolding placeOf concatMap
 visits v s =
     record {
       starts = refl;
@@ -43,7 +43,7 @@ visits v s =
 
 module _ (stream : RefT (List ℕ)) where
   reads-stands : (i : ℕ) → i ≤ length (commands V1 (now stream)) → steps i (begun stream) ≡ movedTo (begun stream) (placeOf V1 (now stream) i)
-  unfolding steps placeOf spread
+  unfolding steps placeOf concatMap
   reads-stands zero h = refl
   reads-stands (suc i) h =
       ap passed (reads-stands i (omega arith))

@@ -7,7 +7,7 @@ use lib.ListN.{length, take, drop}
 use lib.Seq.{take-append-seam, drop-append-seam}
 use Rattle.lists.specs.Le.{toLe}
 use Rattle.lists.proofs.Le.{length-toLe, toLe-injective}
-use Rattle.drops.specs.Drop.{Scale, celsius, fahrenheit, unitByte}
+use Rattle.text_drops.specs.Drop.{Scale, celsius, fahrenheit, unitByte}
 use Rattle.texts.specs.Text.{TextStep, words, temperature, section, Section, done, _then_, stepCount, stepBytes, stepsBytes, sectionBytes, StepWithin, StepsWithin, SectionWithin}
 
 -- Two lists of one length, each with more behind it, are equal where the whole is.

@@ -11,10 +11,27 @@ use Rattle.lists.specs.Le.{le, toLe}
 use Rattle.lists.proofs.Parts.{drop-left, length-part}
 use Rattle.lists.proofs.Le.{length-toLe, toLe-le, le-part-bound}
 use Rattle.lists.proofs.Bytes.{Bytes-part}
-use Rattle.drops.specs.Drop.{Scale, celsius, fahrenheit, unitByte}
-use Rattle.texts.specs.Text.{TextStep, words, temperature, section, Section, done, _then_, stepCount, stepBytes, stepsBytes, sectionBytes, StepWithin, StepsWithin, SectionWithin, WellFormedText, deepest}
+use Rattle.text_drops.specs.Drop.{Scale, celsius, fahrenheit, unitByte}
+use Rattle.texts.specs.Text.{
+  TextStep,
+  words,
+  temperature,
+  section,
+  Section,
+  done,
+  _then_,
+  stepCount,
+  stepBytes,
+  stepsBytes,
+  sectionBytes,
+  StepWithin,
+  StepsWithin,
+  SectionWithin,
+  WellFormedText,
+  deepest,
+}
 use Rattle.texts.proofs.Once.{never, step-once, section-once}
-use Rattle.texts.specs.Read.{Finds, ReadsSection, ReadsStep, ReadsSteps}
+use Rattle.texts.specs.inner.Read.{Finds, ReadsSection, ReadsStep, ReadsSteps}
 use Rattle.texts.specs.declared.inner.read.Extent.{Extent}
 use Rattle.texts.specs.declared.inner.read.Extent.the-variants.{Past, Ill}
 

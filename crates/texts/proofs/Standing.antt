@@ -9,10 +9,10 @@ use Rattle.lists.specs.Parts.{part}
 use Rattle.lists.specs.Le.{le, toLe, field}
 use Rattle.lists.proofs.Le.{length-toLe, le-toLe}
 use Rattle.lists.proofs.Parts.{drop-left}
-use Rattle.drops.specs.Drop.{Scale, unitByte}
+use Rattle.text_drops.specs.Drop.{Scale, unitByte}
 use Rattle.texts.specs.Text.{TextStep, words, temperature, section, Section, _then_, stepCount, stepBytes, stepsBytes, sectionBytes, StepWithin, StepsWithin, SectionWithin}
 use Rattle.texts.proofs.Reading.{two, step-long, out}
-use Rattle.texts.specs.Walk.{SectionThere, StepThere, StepsThere}
+use Rattle.texts.specs.inner.Walk.{SectionThere, StepThere, StepsThere}
 
 -- The byte that a step begins with.
 abbrev pub kind : TextStep → ℕ
@@ -112,7 +112,8 @@ module _ (l : List ℕ) (at : ℕ) where
         let here : drop at l ≡ stepBytes (words w) ++ drop (at + length (stepBytes (words w))) l = stands .here in
         (cc, omega (arith, long-enough (stepBytes (words w)) (drop (at + length (stepBytes (words w))) l) (stands .here) (omega arith)))
 
-    pub drop-here : (u : Scale) (t : ℕ) → StepThere l at n (temperature u t) → (getD l (at + 1) 0 ≡ unitByte u) × (field (at + 2) 2 l ≡ t) × (at + 4 ≤ length l) × (length (stepBytes (temperature u t)) ≡ 4)
+    pub drop-here : (u : Scale) (t : ℕ) → StepThere l at n (temperature u t) → (getD l (at + 1) 0 ≡ unitByte u) × (field (at + 2) 2 l ≡ t) ×
+        (at + 4 ≤ length l) × (length (stepBytes (temperature u t)) ≡ 4)
     unfolding stepBytes StepWithin part
     drop-here u t stands =
         let next = at + length (stepBytes (temperature u t)) in

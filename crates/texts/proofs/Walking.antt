@@ -6,10 +6,10 @@ use mathlib.Core.Bool.{Bool, true, false, cond}
 use mathlib.Core.Option.{Option, none, some}
 use mathlib.Core.List.{List}
 use lib.ListN.{length, getD, length-append}
-use Rattle.drops.specs.Drop.{Scale, celsius, fahrenheit, unitByte, scaleOf, dropOf, near}
+use Rattle.text_drops.specs.Drop.{Scale, celsius, fahrenheit, unitByte, scaleOf, dropOf, near}
 use Rattle.texts.specs.Text.{TextStep, words, temperature, section, Section, done, _then_, stepCount, stepBytes, stepsBytes, sectionBytes}
 use Rattle.texts.specs.Agree.{unmatchedStep, unmatched, orElse}
-use Rattle.texts.specs.Walk.{dropThere, walked, TwoSections, TwoRuns, TwoSteps, SectionsWalked, RunsWalked, StepsWalked}
+use Rattle.texts.specs.inner.Walk.{dropThere, walked, TwoSections, TwoRuns, TwoSteps, SectionsWalked, RunsWalked, StepsWalked}
 use Rattle.texts.specs.declared.inner.walk.Walk.{Walk}
 use Rattle.texts.specs.declared.inner.walk.Walk.the-variants.{Same, Differ}
 use Rattle.texts.proofs.Standing.{kind, opened, step-of, rest-of, step-fits, kind-here, words-here, drop-here, section-here, words-end, drop-end}
@@ -91,7 +91,8 @@ module _ (a : List ℕ) (i : ℕ) (b : List ℕ) (j : ℕ) (n : ℕ) where
     unfolding unmatchedStep stepBytes
     pair-words is-2 s t both = go s t both (kinds 2 is-2 s t both)
       where
-        go : (s t : TextStep) → TwoSteps a i b j n s t → (kind s ≡ 2) × (kind t ≡ 2) → Same (i + 2 + getD a (i + 1) 0) (j + 2 + getD b (j + 1) 0) ≡ walked (unmatchedStep s t i) (i + length (stepBytes s)) (j + length (stepBytes t))
+        go : (s t : TextStep) → TwoSteps a i b j n s t → (kind s ≡ 2) × (kind t ≡ 2) → Same (i + 2 + getD a (i + 1) 0)
+            (j + 2 + getD b (j + 1) 0) ≡ walked (unmatchedStep s t i) (i + length (stepBytes s)) (j + length (stepBytes t))
         go (words w) (words v) p e = places (omega (arith, words-here a i n w (p .one) .0)) (omega (arith, words-here b j n v (p .other) .0))
         go (words w) (temperature u t) p e = absurd (omega (arith, e .1))
         go (words w) (section t) p e = absurd (omega (arith, e .1))
@@ -120,7 +121,8 @@ module _ (a : List ℕ) (i : ℕ) (b : List ℕ) (j : ℕ) (n : ℕ) where
     unfolding unmatchedStep
     pair-drops r is-3 e s t both = e ∙ go s t both (kinds 3 is-3 s t both)
       where
-        go : (s t : TextStep) → TwoSteps a i b j n s t → (kind s ≡ 3) × (kind t ≡ 3) → cond nearHere (Same (i + 4) (j + 4)) (Differ i) ≡ walked (unmatchedStep s t i) (i + length (stepBytes s)) (j + length (stepBytes t))
+        go : (s t : TextStep) → TwoSteps a i b j n s t → (kind s ≡ 3) × (kind t ≡ 3) → cond nearHere (Same (i + 4) (j + 4)) (Differ i) ≡ walked
+            (unmatchedStep s t i) (i + length (stepBytes s)) (j + length (stepBytes t))
         go (words w) (words v) p e = absurd (omega (arith, e .0))
         go (words w) (temperature u t) p e = absurd (omega (arith, e .0))
         go (words w) (section t) p e = absurd (omega (arith, e .0))
@@ -153,7 +155,8 @@ module _ (a : List ℕ) (i : ℕ) (b : List ℕ) (j : ℕ) (n : ℕ) where
       unfolding unmatchedStep stepBytes
       pair-sections r w s t both = go s t both (λ e. x2 (here-one s t both ∙ e)) (λ e. x3 (here-one s t both ∙ e)) (sym (here-other s t both) ∙ sym alike ∙ here-one s t both)
         where
-          go : (s t : TextStep) → TwoSteps a i b j n s t → (kind s ≡ 2 → ⊥) → (kind s ≡ 3 → ⊥) → kind t ≡ kind s → r ≡ walked (unmatchedStep s t i) (i + length (stepBytes s)) (j + length (stepBytes t))
+          go : (s t : TextStep) → TwoSteps a i b j n s t → (kind s ≡ 2 → ⊥) → (kind s ≡ 3 → ⊥) → kind t ≡ kind s → r ≡ walked (unmatchedStep s t i)
+              (i + length (stepBytes s)) (j + length (stepBytes t))
           go (words w) t p y2 y3 e = absurd (y2 refl)
           go (temperature u t) t′ p y2 y3 e = absurd (y3 refl)
           go (section s) (words v) p y2 y3 e = absurd (omega (arith, e))
@@ -268,7 +271,8 @@ module _ (a : List ℕ) (i : ℕ) (b : List ℕ) (j : ℕ) (n : ℕ) where
           go s t f =
               let g = gone (f .one) (f .other) (f .pair) in
               let x′ : k + length (stepsBytes (f .ones)) ≡ i + length (stepsBytes (f .one then f .ones)) = omega (arith, g .one, length-append (stepBytes (f .one)) (stepsBytes (f .ones))) in
-              let y′ : m + length (stepsBytes (f .others)) ≡ j + length (stepsBytes (f .other then f .others)) = omega (arith, g .other, length-append (stepBytes (f .other)) (stepsBytes (f .others))) in
+              let y′ : m + length (stepsBytes (f .others)) ≡ j + length (stepsBytes (f .other then f .others)) = omega
+              (arith, g .other, length-append (stepBytes (f .other)) (stepsBytes (f .others))) in
               let o : unmatched (f .ones) (f .others) k ≡ unmatched (f .one then f .ones) (f .other then f .others) i =
               ap (unmatched (f .ones) (f .others)) (g .one) ∙ ap (λ (q : Option ℕ). orElse q (unmatched (f .ones) (f .others) (i + length (stepBytes (f .one))))) (sym (g .matched)) in
               rw (f .first-is, f .second-is) (v (f .ones) (f .others) (moved-steps s t f) ∙ moved o x′ y′)

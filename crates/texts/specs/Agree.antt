@@ -6,10 +6,11 @@ use mathlib.Core.Bool.{Bool, true, false, cond, _&&_}
 use mathlib.Core.List.{List}
 use mathlib.Core.Option.{Option, none, some}
 use lib.ListN.{length}
-use Rattle.drops.specs.Drop.{dropOf, near}
+use Rattle.text_drops.specs.Drop.{dropOf, near}
 use Rattle.texts.specs.Text.{TextStep, words, temperature, section, Section, done, _then_, stepBytes, Says, WellFormedText}
 use Rattle.texts.specs.declared.Agreement.{Agreement}
 use Rattle.texts.specs.declared.Agreement.the-variants.{Agree, FirstIll, SecondIll, Unmatched}
+use Rattle.numbers.specs.Numbers.{FIRST-ILL, SECOND-ILL, UNMATCHED}
 
 -- Two sections agree: as many steps, each of the same kind as its partner, sections in turn, and each two drops near. Words may be any (rule 12.8).
 unfoldable mutual
@@ -63,16 +64,6 @@ pub record Verdict : Type 0 where
 
 abbrev pub verdict : ℕ → ℕ → Verdict
 verdict number place = record { number = number; place = place }
-
--- The numbers of the rows (rule 12.9): the first text is ill formed, the second is, they do not agree.
-abbrev pub FIRST-ILL : ℕ
-FIRST-ILL = 18
-
-abbrev pub SECOND-ILL : ℕ
-SECOND-ILL = 19
-
-abbrev pub UNMATCHED : ℕ
-UNMATCHED = 20
 
 -- The number and the place of each case of the code's answer.
 abbrev pub told : Agreement → Verdict

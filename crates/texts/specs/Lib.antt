@@ -1,4 +1,3 @@
 pub mod Text
 pub mod Agree
-pub mod Read
-pub mod Walk
+pub mod inner

@@ -5,7 +5,7 @@ use mathlib.Core.Path.{_≡_}
 use mathlib.Core.List.{List, [], _∷_, _++_}
 use lib.ListN.{length}
 use Rattle.lists.specs.Le.{toLe}
-use Rattle.drops.specs.Drop.{Scale, unitByte}
+use Rattle.text_drops.specs.Drop.{Scale, unitByte}
 
 infixr 20 _then_
 -- A step is words, a drop (a scale and tenths of a degree) or a section; a section is steps, one after another.

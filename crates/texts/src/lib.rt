@@ -12,13 +12,6 @@ use inner::walk::Walk;
 // How deep sections nest at most, the outer one counted.
 pub const DEEPEST: usize = 8;
 
-// The numbers of a comparison that finds the first text ill formed, the second, or a step without a match.
-pub const FIRST_ILL: u8 = 18;
-
-pub const SECOND_ILL: u8 = 19;
-
-pub const UNMATCHED: u8 = 20;
-
 // Two texts agree; the first is ill formed; the second is; or the place in the first where they differ.
 pub enum Agreement {
     Agree,

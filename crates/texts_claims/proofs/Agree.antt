@@ -7,7 +7,7 @@ use mathlib.Core.Option.{Option, none, some}
 use lib.ListN.{length, length-append}
 use lib.Dec.{T}
 use Rattle.lists.proofs.Tests.{to-T, from-T}
-use Rattle.drops.specs.Drop.{dropOf, near}
+use Rattle.text_drops.specs.Drop.{dropOf, near}
 use Rattle.texts.specs.Text.{TextStep, words, temperature, section, Section, done, _then_, stepBytes, stepsBytes}
 use Rattle.texts.specs.Agree.{agreeStep, agreeSteps, orElse, unmatchedStep, unmatched}
 use Rattle.texts_claims.specs.Claims.{MatchedAgree, PlaceInside}

@@ -9,18 +9,38 @@ use Rattle.lists.proofs.Every.{every-out}
 use Rattle.lists.proofs.Tests.{and-left, and-right}
 use Rattle.lists.specs.Le.{le as leNumber, toLe}
 use Rattle.floats.specs.Numbers.{wholeFloat, half}
-use Rattle.drops.specs.Drop.{degreesOf, dropOf, inFahrenheit, near}
+use Rattle.text_drops.specs.Drop.{degreesOf, dropOf, inFahrenheit, near}
 use Rattle.texts.specs.Text.{stepCount, stepBytes}
 use Rattle.texts.specs.Agree.{unmatchedStep, verdict}
 use Rattle.texts_claims.specs.Cases.{times, around, sample, textCases, TextsWorked, SampleWorked, PlacesWorked}
-use Rattle.texts_claims.proofs.Deciding.{gotten, compared, all-gotten, each-compared, gets, reading, whole, saysSo, sameVerdict, alike, stepFits, readSection, readSteps, readStep, byKind, readDrop, ofScale, readWords}
+use Rattle.texts_claims.proofs.Deciding.{
+  gotten,
+  compared,
+  all-gotten,
+  each-compared,
+  gets,
+  reading,
+  whole,
+  saysSo,
+  sameVerdict,
+  alike,
+  stepFits,
+  readSection,
+  readSteps,
+  readStep,
+  byKind,
+  readDrop,
+  ofScale,
+  readWords,
+}
 
 -- The sample cut before a byte, as the first text and as the second.
 abbrev cut-refused : ℕ → Bool
 cut-refused k = gotten (take k sample) sample (verdict 18 0) && gotten sample (take k sample) (verdict 19 0)
 
 computed : (all-gotten textCases && (every cut-refused 20 && gotten sample sample (verdict 0 0))) ≡ true
-unfolding all-gotten gotten gets reading whole saysSo sameVerdict alike stepFits readSection readSteps readStep byKind readDrop ofScale readWords times around unmatchedStep stepCount stepBytes toLe add sub mul div neg le ofInt wholeFloat half degreesOf dropOf inFahrenheit near leNumber every
+unfolding all-gotten gotten gets reading whole saysSo sameVerdict alike stepFits readSection readSteps readStep byKind readDrop ofScale readWords
+    times around unmatchedStep stepCount stepBytes toLe add sub mul div neg le ofInt wholeFloat half degreesOf dropOf inFahrenheit near leNumber every
 computed = refl
 
 pub texts-worked : TextsWorked

@@ -12,8 +12,26 @@ use borrow.Author.Tests.{eqb-true, ltb-true, le-leb}
 use Rattle.lists.specs.Le.{le, toLe}
 use Rattle.lists.proofs.Le.{le-toLe}
 use Rattle.lists.proofs.Tests.{and-left, and-right, never-both}
-use Rattle.drops.specs.Drop.{Scale, celsius, fahrenheit, unitByte}
-use Rattle.texts.specs.Text.{TextStep, words, temperature, section, Section, done, _then_, stepCount, stepBytes, stepsBytes, sectionBytes, StepWithin, StepsWithin, SectionWithin, deepest, Says, WellFormedText}
+use Rattle.text_drops.specs.Drop.{Scale, celsius, fahrenheit, unitByte}
+use Rattle.texts.specs.Text.{
+  TextStep,
+  words,
+  temperature,
+  section,
+  Section,
+  done,
+  _then_,
+  stepCount,
+  stepBytes,
+  stepsBytes,
+  sectionBytes,
+  StepWithin,
+  StepsWithin,
+  SectionWithin,
+  deepest,
+  Says,
+  WellFormedText,
+}
 use Rattle.texts.specs.Agree.{unmatched, Verdict, verdict, placed, Compared, firstIll, secondIll, judged}
 use Rattle.texts.proofs.Reading.{out}
 use Rattle.texts_claims.specs.Cases.{TextCase, Each}
@@ -102,7 +120,9 @@ module _ (inner : List ℕ → Option (Found Section)) (n : ℕ) (finds : Finds 
   steps-found done f rest = refl
   steps-found (s then ss) f rest =
       ap (λ (l : List ℕ). readSteps inner (suc (stepCount ss)) l) (append-assoc (stepBytes s) (stepsBytes ss) rest)
-      ∙ ap (λ (o : Option (Found TextStep)). onward o (λ (g : Found TextStep). onward (readSteps inner (stepCount ss) (g .rest)) (λ (h : Found Section). found (g .it then h .it) (h .rest)))) (step-found s (f .0) (stepsBytes ss ++ rest))
+      ∙ ap (λ (o : Option (Found TextStep)). onward o
+      (λ (g : Found TextStep). onward (readSteps inner (stepCount ss) (g .rest)) (λ (h : Found Section). found (g .it then h .it) (h .rest))))
+      (step-found s (f .0) (stepsBytes ss ++ rest))
       ∙ ap (λ (o : Option (Found Section)). onward o (λ (h : Found Section). found (s then h .it) (h .rest))) (steps-found ss (f .1) rest)
 
 section-found : (n : ℕ) → Finds (readSection n) n
@@ -217,7 +237,8 @@ compared a b v e = go (reading a) (reading b) refl refl e
     go (some s) (some t) p q e =
         let last = sameVerdict v (placed (unmatched s t 2)) in
         let rest = and-right (saysSo a s) (saysSo b t && last) e in
-        judged s t (says-so a s (and-left (saysSo a s) (saysSo b t && last) e)) (says-so b t (and-left (saysSo b t) last rest)) (same-verdict v (placed (unmatched s t 2)) (and-right (saysSo b t) last rest))
+        judged s t (says-so a s (and-left (saysSo a s) (saysSo b t && last) e)) (says-so b t (and-left (saysSo b t) last rest))
+        (same-verdict v (placed (unmatched s t 2)) (and-right (saysSo b t) last rest))
 
 unfoldable pub all-gotten : List TextCase → Bool
 all-gotten [] = true

@@ -13,7 +13,7 @@ use lib.Ieee.{Float, nan, inf, fin, Format, binary64, prec, emax, low, up, down,
 use lib.Ieee.Fits.{down-pos, core, round-is}
 use lib.Ieee.Scale.{round-same}
 use Rattle.floats.specs.Numbers.{wholeFloat, half}
-use Rattle.drops.specs.Drop.{dropOf, inFahrenheit, near}
+use Rattle.text_drops.specs.Drop.{dropOf, inFahrenheit, near}
 use Rattle.texts.specs.Text.{TextStep, words, temperature, section, done, _then_}
 use Rattle.texts.specs.Agree.{agreeStep}
 use Rattle.texts_claims.specs.Claims.{NearBothWays, AgreeBothWays}

@@ -8,7 +8,7 @@ use mathlib.Core.Bool.{Bool, true, false, cond}
 use mathlib.Core.Option.{Option, none, some}
 use lib.ListN.{length, take, drop, length-append}
 use lib.Seq.{take-at, drop-at}
-use Rattle.drops.specs.Drop.{dropOf, near}
+use Rattle.text_drops.specs.Drop.{dropOf, near}
 use Rattle.texts.specs.Text.{TextStep, words, temperature, section, Section, done, _then_, stepCount, stepBytes, stepsBytes, sectionBytes, Says}
 use Rattle.texts.specs.Agree.{orElse, unmatchedStep, unmatched}
 use Rattle.texts_claims.specs.Claims.{StepInside, StepBegins, StepEnds, InnerEnds, SectionEnds, BeginsThere, EndsThere}

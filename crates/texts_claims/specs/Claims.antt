@@ -8,8 +8,8 @@ use mathlib.Core.Option.{none, some}
 use lib.Dec.{T}
 use lib.ListN.{length, take, drop}
 use Rattle.lists.specs.Table.{listed}
-use Rattle.drops.specs.Drop.{near}
-use Rattle.drops.specs.declared.Drop.{Drop}
+use Rattle.text_drops.specs.Drop.{near}
+use Rattle.text_drops.specs.declared.Drop.{Drop}
 use Rattle.texts.specs.Text.{TextStep, words, temperature, section, Section, done, _then_, stepBytes, stepsBytes, sectionBytes, Says, WellFormedText}
 use Rattle.texts.specs.Agree.{agreeSteps, unmatched, Verdict, Compared}
 

@@ -17,16 +17,61 @@ use Rattle.commands.specs.Command.{Language, isWrite, writes}
 use Rattle.commands.specs.Bytes.{payload}
 use Rattle.guard.specs.declared.Answer.{Answer}
 use Rattle.image.specs.Image.{Card, Cards, text, encode}
-use Rattle.model.specs.Words.{Sent}
-use Rattle.model.proofs.Machine.{numberOn}
+use Rattle.store_model.specs.Words.{Sent}
+use Rattle.store_model.proofs.Machine.{numberOn}
 use Rattle.redo_log.specs.Log.{LogRecord, recordText, records}
-use Rattle.recovery_model.specs.Recovery.{recordIn}
-use Rattle.recovery_model.specs.Claims.{rewrites, rewritten}
-use Rattle.transactions.specs.System.{OneDesk, Order, Shown, Holding, unknown, held, free, arrive, noOrder, commandIn, expects, leaves, prepares, writesOut, releases, lawful, outcome, heardOf, noting, reachOf, afterStep}
+use Rattle.redo_recovery_model.specs.Recovery.{recordIn}
+use Rattle.redo_recovery_model.specs.Claims.{rewrites, rewritten}
+use Rattle.transactions.specs.System.{
+  OneDesk,
+  Order,
+  Shown,
+  Holding,
+  unknown,
+  held,
+  free,
+  arrive,
+  noOrder,
+  commandIn,
+  expects,
+  leaves,
+  prepares,
+  writesOut,
+  releases,
+  lawful,
+  outcome,
+  heardOf,
+  noting,
+  reachOf,
+  afterStep,
+}
 use Rattle.transactions.proofs.Records.{All, all-map}
 use Rattle.transactions.proofs.Due.{rewritten-none, rewritten-some}
 use Rattle.transactions.proofs.Serving.{at, then, Taken, taken, kept}
-use Rattle.transactions.proofs.Kept.{bears, Clear, Reached, Later, Onward, Stands, cardFor, relies, Ready, Fine, preparing, releasing, writing, Safe, Told, Held, Knows, Kept, safe-raised, told-raised, all-at, all-moved}
+use Rattle.transactions.proofs.Kept.{
+  bears,
+  Clear,
+  Reached,
+  Later,
+  Onward,
+  Stands,
+  cardFor,
+  relies,
+  Ready,
+  Fine,
+  preparing,
+  releasing,
+  writing,
+  Safe,
+  Told,
+  Held,
+  Knows,
+  Kept,
+  safe-raised,
+  told-raised,
+  all-at,
+  all-moved,
+}
 use Rattle.transactions.proofs.Requests.{knows-shown, no-writes, onward-none, number-now, image-now, x-now, mark-shown, good-now, knows-heard, knows-with}
 
 module _ (d : ℕ) (y : OneDesk) (k : Kept d y) (i : ℕ) (h : lawful d y (arrive i) ≡ true) where
@@ -123,7 +168,8 @@ module _ (d : ℕ) (y : OneDesk) (k : Kept d y) (i : ℕ) (h : lawful d y (arriv
             },
             k .told,
           );
-          knows = λ j. subst (λ (m : Cards). Knows d rs (y .orders) (v ∷ y .shown) j (at m j) (noting (c .card) holding (y .holds) j)) same (all-knows knows-refused (λ p q. ap (λ (m : Cards). at m p) same) j);
+          knows = λ j. subst (λ (m : Cards). Knows d rs (y .orders) (v ∷ y .shown) j (at m j) (noting (c .card) holding (y .holds) j)) same
+              (all-knows knows-refused (λ p q. ap (λ (m : Cards). at m p) same) j);
         }
 
   -- ---- it is accepted: every order for the card is stale from now on, and every earlier answer is overtaken
@@ -274,7 +320,9 @@ module _ (d : ℕ) (y : OneDesk) (k : Kept d y) (i : ℕ) (h : lawful d y (arriv
           (λ live e. absurd (never-both e unborne-r))
           (knows-heard d rs (y .orders) (v ∷ y .shown) (c .card) now s a (y .holds (c .card))
           (known (y .holds (c .card)) (k .knows (c .card)) (λ e. inl unborne-r))
-          (λ q e. absurd (never-both (and-right (not (isWrite c)) (eqb (c .expected .desk) 0) (and-left (not (isWrite c) && eqb (c .expected .desk) 0) (leaves d c) q)) (not-none (c .expected .desk) expected-r)))
+          (λ q e. absurd (never-both
+          (and-right (not (isWrite c)) (eqb (c .expected .desk) 0) (and-left (not (isWrite c) && eqb (c .expected .desk) 0) (leaves d c) q))
+          (not-none (c .expected .desk) expected-r)))
           (λ q e. inl unborne-r))
 
     -- A write.
@@ -295,7 +343,8 @@ module _ (d : ℕ) (y : OneDesk) (k : Kept d y) (i : ℕ) (h : lawful d y (arriv
       reach-w = rw (is-write, number-zero)
 
       -- The text in each language: written, or as it was.
-      text-w : (l : Language) → (rewritten rs l (c .card) (length rs) (text l now) ≡ rewritten rs l (c .card) (length rs) (text l old)) × (Later rs l (c .card) (suc (o .line)) ⊎ (rewritten rs l (c .card) (suc (o .line)) (text l now) ≡ text l now))
+      text-w : (l : Language) → (rewritten rs l (c .card) (length rs) (text l now) ≡ rewritten rs l (c .card) (length rs) (text l old)) ×
+          (Later rs l (c .card) (suc (o .line)) ⊎ (rewritten rs l (c .card) (suc (o .line)) (text l now) ≡ text l now))
       unfolding rewritten
       text-w l = go (cases (writes l c))
         where

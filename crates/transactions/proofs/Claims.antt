@@ -9,21 +9,45 @@ use borrow.Author.Tests.{eqb-false, eq-eqb, ne-eqb, le-leb, lt-ltb, ltb-true}
 use lib.ListN.{length, getD, take, replicate, length-replicate}
 use lib.Dec.{eqb, lit<}
 use Rattle.formats.specs.Format.{V1}
-use Rattle.lists.specs.Parts.{Bytes, every, table}
+use Rattle.lists.specs.Parts.{Bytes, every, tabulate}
 use Rattle.lists.proofs.Bytes.{Bytes-replicate}
 use Rattle.lists.proofs.Tests.{cases, never-both, and-left, and-right, from-T, to-T}
 use Rattle.commands.specs.Command.{Language, isWrite}
 use Rattle.commands.specs.Bytes.{payload}
 use Rattle.image.specs.Image.{Cards, text, noCard, encode, decode, sound, fresh, freshCards}
 use Rattle.image_claims.proofs.Claims.{soundReadsBack, goodEncodes, freshSound}
-use Rattle.model.specs.Serve.{Outcome, serve}
-use Rattle.model.proofs.Machine.{numberOn}
-use Rattle.model.specs.Words.{Sent}
+use Rattle.store_model.specs.Serve.{Outcome, serve}
+use Rattle.store_model.proofs.Machine.{numberOn}
+use Rattle.store_model.specs.Words.{Sent}
 use Rattle.redo_log.specs.Log.{LogRecord, bodiesFrom, mostLog, commitKind, recordTransaction, recordCount, goodLog, records}
 use Rattle.redo_log.specs.Append.{appendNumber}
-use Rattle.recovery_model.specs.Claims.{textIn, rewritten, textOf}
-use Rattle.recovery_model.proofs.Texts.{recovered-texts}
-use Rattle.transactions.specs.System.{OneDesk, Order, noOrder, Step, other, order, arrive, append, crash, recover, renew, oneDeskOpening, commandIn, markIn, writtenOut, withUpdates, lawful, outcome, meantAfter, meantLogged, afterStep, afterSteps, lawfulAll}
+use Rattle.redo_recovery_model.specs.Claims.{textIn, rewritten, textOf}
+use Rattle.redo_recovery_model.proofs.Texts.{recovered-texts}
+use Rattle.transactions.specs.System.{
+  OneDesk,
+  Order,
+  noOrder,
+  Step,
+  other,
+  order,
+  arrive,
+  append,
+  crash,
+  recover,
+  renew,
+  oneDeskOpening,
+  commandIn,
+  markIn,
+  writtenOut,
+  withUpdates,
+  lawful,
+  outcome,
+  meantAfter,
+  meantLogged,
+  afterStep,
+  afterSteps,
+  lawfulAll,
+}
 use Rattle.transactions.specs.Claims.{StepBytes, AllSteps, FreshClean, ZerosBlank, Moment, Refines, RecoversMeant, CommitsAtOnce, MeantOnlyThen, ShowsAll, ReadsMeant, OrdersOnce, NeverHalf}
 use Rattle.transactions.proofs.Records.{Ordered, ordered-none}
 use Rattle.transactions.proofs.Due.{rewritten-none}
@@ -130,7 +154,7 @@ none-counted zero = refl
 none-counted (suc size) = refl
 
 pub zeros-blank : ZerosBlank
-unfolding goodLog records every table
+unfolding goodLog records every tabulate
 zeros-blank size low high =
     let zeros : List ℕ = replicate size 0 in
     let long : length zeros ≡ size = length-replicate size 0 in

@@ -12,8 +12,8 @@ use Rattle.lists.specs.Search.{any}
 use Rattle.lists.proofs.Tests.{cases, never-both, and-left, and-right, and-in}
 use Rattle.commands.specs.Command.{Language}
 use Rattle.redo_log.specs.Log.{LogRecord, updateKind, commitKind, syncedKind, recordCard, recordSide, recordText, recordTransaction, opened}
-use Rattle.recovery_model.specs.Recovery.{recordIn, transactionIn, commitsTo, syncsFrom, due}
-use Rattle.recovery_model.specs.Claims.{sideIs, rewrites, rewritten}
+use Rattle.redo_recovery_model.specs.Recovery.{recordIn, transactionIn, commitsTo, syncsFrom, due}
+use Rattle.redo_recovery_model.specs.Claims.{sideIs, rewrites, rewritten}
 use Rattle.transactions.specs.System.{updateIn, changesText, withUpdates}
 use Rattle.transactions.proofs.Records.{any-more, none-of, more, length-more, in-old, in-new, transaction-old, due-past, closing, Below, Ordered, Followed, kind-not}
 
@@ -124,7 +124,8 @@ module _ (rs : List LogRecord) (r : LogRecord) where
         go i h (inl e) =
             ap (λ (b : Bool). b && (eqb (card i) k && sideIs l (recordSide (recordIn rs i))))
             (due-old i h
-            ∙ unmoved (eqb (recordIn rs i .kind) updateKind) (committed (transactionIn rs i)) (synced (card i) (transactionIn rs i)) (commitsTo (transactionIn rs i) r) (syncsFrom (card i) (transactionIn rs i) r)
+            ∙ unmoved (eqb (recordIn rs i .kind) updateKind) (committed (transactionIn rs i)) (synced (card i) (transactionIn rs i))
+            (commitsTo (transactionIn rs i) r) (syncsFrom (card i) (transactionIn rs i) r)
             (rw c)
             (subst (λ (j : ℕ). syncsFrom j (transactionIn rs i) r ≡ false) (sym (eqb-true (card i) k e)) (rw s))
             ∙ sym (due-here i))
@@ -145,8 +146,10 @@ module _ (rs : List LogRecord) (r : LogRecord) where
             let e' : (due (more rs r) i && (eqb (card i) k && sideIs l (recordSide (recordIn rs i)))) ≡ true = sym (rewrites-old i h) ∙ e in
             let d : due (more rs r) i ≡ true = and-left (due (more rs r) i) (eqb (card i) k && sideIs l (recordSide (recordIn rs i))) e' in
             let none : commitsTo (transactionIn rs i) r ≡ false = rw c in
-            let d' : (eqb (recordIn rs i .kind) updateKind && (committed (transactionIn rs i) || false) && not (synced (card i) (transactionIn rs i) || syncsFrom (card i) (transactionIn rs i) r)) ≡ true =
-            ap (λ (b : Bool). eqb (recordIn rs i .kind) updateKind && (committed (transactionIn rs i) || b) && not (synced (card i) (transactionIn rs i) || syncsFrom (card i) (transactionIn rs i) r)) (sym none)
+            let d' : (eqb (recordIn rs i .kind) updateKind && (committed (transactionIn rs i) || false) && not
+            (synced (card i) (transactionIn rs i) || syncsFrom (card i) (transactionIn rs i) r)) ≡ true =
+            ap (λ (b : Bool). eqb (recordIn rs i .kind) updateKind && (committed (transactionIn rs i) || b) && not
+            (synced (card i) (transactionIn rs i) || syncsFrom (card i) (transactionIn rs i) r)) (sym none)
             ∙ sym (due-old i h) ∙ d in
             and-in (due-here i ∙ fewer (eqb (recordIn rs i .kind) updateKind) (committed (transactionIn rs i)) (synced (card i) (transactionIn rs i)) (syncsFrom (card i) (transactionIn rs i) r) d')
             (and-right (due (more rs r) i) (eqb (card i) k && sideIs l (recordSide (recordIn rs i))) e')
@@ -285,9 +288,12 @@ module _ (rs : List LogRecord) (r : LogRecord) (o : Ordered rs) (f : Followed (t
         simple false c s x y p q z w = (refl, refl)
 
         two : ((updates i && any (commitsTo (transactionIn rs i)) rs && not (any (syncsFrom (recordCard (recordIn rs i)) (transactionIn rs i)) rs)) ≡ false)
-            × ((updates i && (any (commitsTo (transactionIn rs i)) rs || commitsTo (transactionIn rs i) r) && not (any (syncsFrom (recordCard (recordIn rs i)) (transactionIn rs i)) rs || syncsFrom (recordCard (recordIn rs i)) (transactionIn rs i) r)) ≡ (updates i && true))
+            × ((updates i && (any (commitsTo (transactionIn rs i)) rs || commitsTo (transactionIn rs i) r) && not
+            (any (syncsFrom (recordCard (recordIn rs i)) (transactionIn rs i)) rs || syncsFrom (recordCard (recordIn rs i))
+            (transactionIn rs i) r)) ≡ (updates i && true))
         two =
-            simple (updates i) (any (commitsTo (transactionIn rs i)) rs) (any (syncsFrom (recordCard (recordIn rs i)) (transactionIn rs i)) rs) (commitsTo (transactionIn rs i) r) (syncsFrom (recordCard (recordIn rs i)) (transactionIn rs i) r)
+            simple (updates i) (any (commitsTo (transactionIn rs i)) rs) (any (syncsFrom (recordCard (recordIn rs i)) (transactionIn rs i)) rs)
+            (commitsTo (transactionIn rs i) r) (syncsFrom (recordCard (recordIn rs i)) (transactionIn rs i) r)
             no unsynced now apart
 
         before : rewrites rs l k i ≡ false
@@ -313,7 +319,9 @@ module _ (rs : List LogRecord) (r : LogRecord) (o : Ordered rs) (f : Followed (t
             rewrites-old rs r o f l k i h
             ∙ ap (λ (b : Bool). b && own i)
             (due-old rs r i h
-            ∙ unmoved rs r o f l k (updates i) (any (commitsTo (transactionIn rs i)) rs) (any (syncsFrom (recordCard (recordIn rs i)) (transactionIn rs i)) rs) (commitsTo (transactionIn rs i) r) (syncsFrom (recordCard (recordIn rs i)) (transactionIn rs i) r) no apart
+            ∙ unmoved rs r o f l k (updates i) (any (commitsTo (transactionIn rs i)) rs)
+            (any (syncsFrom (recordCard (recordIn rs i)) (transactionIn rs i)) rs) (commitsTo (transactionIn rs i) r)
+            (syncsFrom (recordCard (recordIn rs i)) (transactionIn rs i) r) no apart
             ∙ sym (due-here rs r i))
 
     applied-none : (n : ℕ) (s : List ℕ) → ((i : ℕ) → i < n → changesText rs t l k i ≡ false) → withUpdates rs t l k n s ≡ s

@@ -18,19 +18,63 @@ use Rattle.commands.specs.Command.{Language, isWrite, writes}
 use Rattle.commands.specs.Bytes.{payload, formed}
 use Rattle.image.specs.Image.{Card, Cards, GoodCards, text, encode, decode, sound}
 use Rattle.image_claims.proofs.Claims.{soundReadsBack, goodEncodes}
-use Rattle.model.specs.Serve.{Outcome, serve}
-use Rattle.model.specs.Words.{Sent}
-use Rattle.model.specs.Claims.{SentBytes}
-use Rattle.model.proofs.Machine.{numberOn}
-use Rattle.model.proofs.Simulation.{good-more, same-image}
+use Rattle.store_model.specs.Serve.{Outcome, serve}
+use Rattle.store_model.specs.Words.{Sent}
+use Rattle.store_model.specs.Claims.{SentBytes}
+use Rattle.store_model.proofs.Machine.{numberOn}
+use Rattle.store_model.proofs.Simulation.{good-more, same-image}
 use Rattle.redo_log.specs.Log.{LogRecord, goodLog, records}
 use Rattle.redo_log.specs.Append.{appendNumber, appended}
 use Rattle.redo_log_claims.specs.Life.{renewed}
-use Rattle.recovery_model.specs.Recovery.{Pairs, FitsPairs, recovering}
-use Rattle.recovery_model.specs.Claims.{rewritten}
-use Rattle.transactions.specs.System.{OneDesk, Order, Shown, Holding, unknown, held, free, Step, other, order, arrive, append, crash, recover, renew, noOrder, commandIn, expects, leaves, lawful, meantAfter, meantLogged, afterStep}
+use Rattle.redo_recovery_model.specs.Recovery.{Pairs, FitsPairs, recovering}
+use Rattle.redo_recovery_model.specs.Claims.{rewritten}
+use Rattle.transactions.specs.System.{
+  OneDesk,
+  Order,
+  Shown,
+  Holding,
+  unknown,
+  held,
+  free,
+  Step,
+  other,
+  order,
+  arrive,
+  append,
+  crash,
+  recover,
+  renew,
+  noOrder,
+  commandIn,
+  expects,
+  leaves,
+  lawful,
+  meantAfter,
+  meantLogged,
+  afterStep,
+}
 use Rattle.transactions.specs.Claims.{StepBytes}
-use Rattle.transactions.specs.Desks.{Part, Desks, seenBy, partOf, desksOpening, DeskStep, outside, own, ownStep, lawfulDeskStep, afterDeskStep, afterDeskSteps, lawfulDeskSteps, DeskStepBytes, AllDeskSteps, DesksMoment, DesksCommitAtOnce, DesksMeantOnlyThen, DesksReadsMeant}
+use Rattle.transactions.specs.Desks.{
+  Part,
+  Desks,
+  seenBy,
+  partOf,
+  desksOpening,
+  DeskStep,
+  outside,
+  own,
+  ownStep,
+  lawfulDeskStep,
+  afterDeskStep,
+  afterDeskSteps,
+  lawfulDeskSteps,
+  DeskStepBytes,
+  AllDeskSteps,
+  DesksMoment,
+  DesksCommitAtOnce,
+  DesksMeantOnlyThen,
+  DesksReadsMeant,
+}
 use Rattle.transactions.proofs.Records.{All, all-map, Ordered, ordered-none}
 use Rattle.transactions.proofs.Serving.{at, then, Taken, taken, kept, number-is, shown-text}
 use Rattle.transactions.proofs.Kept.{bears, Stands, cardFor, Fine, preparing, releasing, writing, Safe, Told, Knows, Kept, decoded, safe-raised, told-raised, all-at}
@@ -180,7 +224,8 @@ module _ (ruled : ℕ → Bool) (y : Desks) (j : Joint ruled y) (s : Sent) where
     good-out = subst (GoodCards V1) (sym decode-then) good-then
 
   -- For a desk under the rules whose mark it neither expects nor leaves it is somebody else's.
-  side-other : (b : SentBytes s) (e : ℕ) → ruled e ≡ true → (formed V1 (s .command) ≡ true → (expects e c ≡ false) × (leaves e c ≡ false)) → Side e (out .image) (partOf (afterStep e (seenBy e y) (other s)))
+  side-other : (b : SentBytes s) (e : ℕ) → ruled e ≡ true → (formed V1 (s .command) ≡ true → (expects e c ≡ false) × (leaves e c ≡ false)) → Side e
+      (out .image) (partOf (afterStep e (seenBy e y) (other s)))
   unfolding afterStep
   side-other b e r f = side-of e (afterStep e (alone e y) (other s)) (kept-other e (alone e y) (kept-alone ruled y j e r) s b (rule (cases (formed V1 (s .command)))))
     where
@@ -206,7 +251,8 @@ module _ (ruled : ℕ → Bool) (y : Desks) (j : Joint ruled y) (s : Sent) (b : 
   unruled : formed V1 (s .command) ≡ true → (ruled (cmd .expected .desk) ≡ false) × (ruled (cmd .next .desk) ≡ false)
   unruled f = go (or-cases (not (formed V1 (s .command))) (not (ruled (cmd .expected .desk)) && not (ruled (cmd .next .desk))) h)
     where
-      go : (not (formed V1 (s .command)) ≡ true) ⊎ ((not (ruled (cmd .expected .desk)) && not (ruled (cmd .next .desk))) ≡ true) → (ruled (cmd .expected .desk) ≡ false) × (ruled (cmd .next .desk) ≡ false)
+      go : (not (formed V1 (s .command)) ≡ true) ⊎ ((not (ruled (cmd .expected .desk)) && not (ruled (cmd .next .desk))) ≡ true) →
+          (ruled (cmd .expected .desk) ≡ false) × (ruled (cmd .next .desk) ≡ false)
       go (inl n) = absurd (never-both f (not-true (formed V1 (s .command)) n))
       go (inr p) = (
         not-true (ruled (cmd .expected .desk)) (and-left (not (ruled (cmd .expected .desk))) (not (ruled (cmd .next .desk))) p),
@@ -217,7 +263,8 @@ module _ (ruled : ℕ → Bool) (y : Desks) (j : Joint ruled y) (s : Sent) (b : 
   not-of e n r q = ne-eqb n e (λ z. never-both r (subst (λ (m : ℕ). ruled m ≡ false) z q))
 
   stand-outside : (k : ℕ) → Stand ruled (λ (e : ℕ). y .part e .log) (meantAfter (got .answer .number) s (y .meant) k) k (at (decode V1 (got .image)) k)
-  stand-outside k = subst (λ (m : Cards). Stand ruled (λ (e : ℕ). y .part e .log) (meantAfter (got .answer .number) s (y .meant) k) k (at m k)) (sym (decode-then ruled y j s b)) (go (numberOn V1 was s) refl)
+  stand-outside k = subst (λ (m : Cards). Stand ruled (λ (e : ℕ). y .part e .log) (meantAfter (got .answer .number) s (y .meant) k) k (at m k))
+      (sym (decode-then ruled y j s b)) (go (numberOn V1 was s) refl)
     where
       Stands-so : Cards → Type 0
       Stands-so m = Stand ruled (λ (e : ℕ). y .part e .log) (meantAfter (got .answer .number) s (y .meant) k) k (at m k)
@@ -227,7 +274,8 @@ module _ (ruled : ℕ → Bool) (y : Desks) (j : Joint ruled y) (s : Sent) (b : 
           let number : got .answer .number ≡ suc n = number-then ruled y j s ∙ e in
           let nothing : eqb (got .answer .number) 0 ≡ false = ne-eqb (got .answer .number) 0 (λ z. omega arith) in
           subst Stands-so (sym (kept was s (j .good) n e))
-          (stand-as ruled (λ (i : ℕ). y .part i .log) (λ (i : ℕ). y .part i .log) (y .meant k) (meantAfter (got .answer .number) s (y .meant) k) k (at was k) (λ i. refl) (λ l. rw nothing) (j .texts k))
+          (stand-as ruled (λ (i : ℕ). y .part i .log) (λ (i : ℕ). y .part i .log) (y .meant k) (meantAfter (got .answer .number) s (y .meant) k) k
+          (at was k) (λ i. refl) (λ l. rw nothing) (j .texts k))
       go zero e = by (cases (eqb (cmd .card) k))
         where
           t : Taken was s
@@ -245,7 +293,8 @@ module _ (ruled : ℕ → Bool) (y : Desks) (j : Joint ruled y) (s : Sent) (b : 
           by : (eqb (cmd .card) k ≡ true) ⊎ (eqb (cmd .card) k ≡ false) → Stands-so (then was s)
           by (inr q) =
               subst (Stand ruled (λ (i : ℕ). y .part i .log) (meantAfter (got .answer .number) s (y .meant) k) k) (sym (t .others k q))
-              (stand-as ruled (λ (i : ℕ). y .part i .log) (λ (i : ℕ). y .part i .log) (y .meant k) (meantAfter (got .answer .number) s (y .meant) k) k (at was k) (λ i. refl) (λ l. rw (number, q)) (j .texts k))
+              (stand-as ruled (λ (i : ℕ). y .part i .log) (λ (i : ℕ). y .part i .log) (y .meant k) (meantAfter (got .answer .number) s (y .meant) k) k
+              (at was k) (λ i. refl) (λ l. rw (number, q)) (j .texts k))
           by (inl q) =
               subst (λ (i : ℕ). Stand ruled (λ (e : ℕ). y .part e .log) (meantAfter (got .answer .number) s (y .meant) i) i (at (then was s) i)) (eqb-true (cmd .card) k q)
               (record {
@@ -377,7 +426,8 @@ module _ (ruled : ℕ → Bool) (y : Desks) (j : Joint ruled y) (d : ℕ) (r : r
         }
 
   -- A mark of the desk, or none, is what the desk alone sees.
-  stand-own : (k : ℕ) (card : Card) (m : Language → List ℕ) → (card .mark .desk ≡ 0) ⊎ (card .mark .desk ≡ d) → Stands d (records (y .part d .log)) m k card → Stand ruled (λ (e : ℕ). y .part e .log) m k card
+  stand-own : (k : ℕ) (card : Card) (m : Language → List ℕ) → (card .mark .desk ≡ 0) ⊎ (card .mark .desk ≡ d) → Stands d
+      (records (y .part d .log)) m k card → Stand ruled (λ (e : ℕ). y .part e .log) m k card
   stand-own k card m (inl z) w =
       let free : ruled (card .mark .desk) ≡ false = subst (λ (n : ℕ). ruled n ≡ false) (sym z) (j .nobody) in
       record {
@@ -494,10 +544,12 @@ module _ (ruled : ℕ → Bool) (y : Desks) (j : Joint ruled y) (d : ℕ) (r : r
           log-bytes = w .log-bytes;
           ordered = w .ordered;
           sent =
-              all-map (λ (o : Order). Safe e (records (y .part e .log)) (cardFor o) (at before (cardFor o)) o) (λ (o : Order). Safe e (records (y .part e .log)) (cardFor o) (at (decode V1 left) (cardFor o)) o) (y .part e .orders)
+              all-map (λ (o : Order). Safe e (records (y .part e .log)) (cardFor o) (at before (cardFor o)) o)
+              (λ (o : Order). Safe e (records (y .part e .log)) (cardFor o) (at (decode V1 left) (cardFor o)) o) (y .part e .orders)
               (λ o q. safe-there o (raised-here (cardFor o)) q) (w .sent);
           told =
-              all-map (λ (v : Shown). Told e (records (y .part e .log)) (v .card) (at before (v .card)) v) (λ (v : Shown). Told e (records (y .part e .log)) (v .card) (at (decode V1 left) (v .card)) v) (y .part e .shown)
+              all-map (λ (v : Shown). Told e (records (y .part e .log)) (v .card) (at before (v .card)) v)
+              (λ (v : Shown). Told e (records (y .part e .log)) (v .card) (at (decode V1 left) (v .card)) v) (y .part e .shown)
               (λ v q. told-there v (raised-here (v .card)) q) (w .told);
           knows = λ k. knows-there k (raised-here k) (y .part e .holds k) (w .knows k);
         }
@@ -508,15 +560,19 @@ module _ (ruled : ℕ → Bool) (y : Desks) (j : Joint ruled y) (d : ℕ) (r : r
         away : (k : ℕ) (card : Card) → bears d card ≡ true → bears e card ≡ false
         away k card b = ne-eqb (card .mark .desk) e (λ f. eqb-false e d x (sym f ∙ eqb-true (card .mark .desk) d b))
 
-        safe-there : (o : Order) → Raised d (at before (cardFor o)) (at (decode V1 left) (cardFor o)) → Safe e (records (y .part e .log)) (cardFor o) (at before (cardFor o)) o → Safe e (records (y .part e .log)) (cardFor o) (at (decode V1 left) (cardFor o)) o
+        safe-there : (o : Order) → Raised d (at before (cardFor o)) (at (decode V1 left) (cardFor o)) → Safe e (records (y .part e .log)) (cardFor o)
+            (at before (cardFor o)) o → Safe e (records (y .part e .log)) (cardFor o) (at (decode V1 left) (cardFor o)) o
         safe-there o (stays s) q = subst (λ (c : Card). Safe e (records (y .part e .log)) (cardFor o) c o) (sym s) q
         safe-there o (rises up b m) q = safe-raised e (records (y .part e .log)) (cardFor o) (at before (cardFor o)) (at (decode V1 left) (cardFor o)) up o q
 
-        told-there : (v : Shown) → Raised d (at before (v .card)) (at (decode V1 left) (v .card)) → Told e (records (y .part e .log)) (v .card) (at before (v .card)) v → Told e (records (y .part e .log)) (v .card) (at (decode V1 left) (v .card)) v
+        told-there : (v : Shown) → Raised d (at before (v .card)) (at (decode V1 left) (v .card)) → Told e (records (y .part e .log)) (v .card)
+            (at before (v .card)) v → Told e (records (y .part e .log)) (v .card) (at (decode V1 left) (v .card)) v
         told-there v (stays s) q = subst (λ (c : Card). Told e (records (y .part e .log)) (v .card) c v) (sym s) q
         told-there v (rises up b m) q = told-raised e (records (y .part e .log)) (v .card) (at before (v .card)) (at (decode V1 left) (v .card)) up v q
 
-        knows-there : (k : ℕ) → Raised d (at before k) (at (decode V1 left) k) → (g : Holding) → Knows e (records (y .part e .log)) (y .part e .orders) (y .part e .shown) k (at before k) g → Knows e (records (y .part e .log)) (y .part e .orders) (y .part e .shown) k (at (decode V1 left) k) g
+        knows-there : (k : ℕ) → Raised d (at before k) (at (decode V1 left) k) → (g : Holding) → Knows e (records (y .part e .log))
+            (y .part e .orders) (y .part e .shown) k (at before k) g → Knows e (records (y .part e .log)) (y .part e .orders) (y .part e .shown) k
+            (at (decode V1 left) k) g
         knows-there k (stays s) g q = subst (λ (c : Card). Knows e (records (y .part e .log)) (y .part e .orders) (y .part e .shown) k c g) (sym s) q
         knows-there k (rises up b m) unknown q = tt
         knows-there k (rises up b m) held q = absurd (never-both (q .bearing) (away k (at before k) b))
@@ -530,7 +586,9 @@ module _ (ruled : ℕ → Bool) (y : Desks) (j : Joint ruled y) (d : ℕ) (r : r
           same = image-of d after-recover own-recovered;
           good = good-of d after-recover own-recovered;
           texts = λ k.
-              stand-as ruled (λ (e : ℕ). y .part e .log) (λ (e : ℕ). (cond (eqb e d) (partOf (afterStep d (seenBy d y) (recover pairs lines))) (y .part e)) .log) (y .meant k) (y .meant k) k (at (decode V1 left) k)
+              stand-as ruled (λ (e : ℕ). y .part e .log)
+              (λ (e : ℕ). (cond (eqb e d) (partOf (afterStep d (seenBy d y) (recover pairs lines))) (y .part e)) .log) (y .meant k) (y .meant k) k
+              (at (decode V1 left) k)
               (by-desk (λ (e : ℕ) (p : Part). y .part e .log ≡ p .log) (partOf (afterStep d (seenBy d y) (recover pairs lines))) (y .part) refl (λ e x. refl)) (λ l. refl) (stand-recover k);
           side = λ e.
               by-desk (λ (n : ℕ) (p : Part). ruled n ≡ true → Side n left p) (partOf (afterStep d (seenBy d y) (recover pairs lines))) (y .part)
@@ -565,7 +623,9 @@ module _ (ruled : ℕ → Bool) (y : Desks) (j : Joint ruled y) (d : ℕ) (r : r
       where
         go : Fine d (records (y .part d .log)) (cardFor o) (at before (cardFor o)) o → ((cmd-o .expected .desk ≡ 0) ⊎ (cmd-o .expected .desk ≡ d)) × ((cmd-o .next .desk ≡ 0) ⊎ (cmd-o .next .desk ≡ d))
         go (preparing p f) = (
-          inl (eqb-true (cmd-o .expected .desk) 0 (and-right (not (isWrite cmd-o)) (eqb (cmd-o .expected .desk) 0) (and-left (not (isWrite cmd-o) && eqb (cmd-o .expected .desk) 0) (leaves d cmd-o) p))),
+          inl (eqb-true (cmd-o .expected .desk) 0
+              (and-right (not (isWrite cmd-o)) (eqb (cmd-o .expected .desk) 0)
+              (and-left (not (isWrite cmd-o) && eqb (cmd-o .expected .desk) 0) (leaves d cmd-o) p))),
           inr (eqb-true (cmd-o .next .desk) d (and-right (not (isWrite cmd-o) && eqb (cmd-o .expected .desk) 0) (leaves d cmd-o) p)),
         )
         go (releasing p f) = (
@@ -605,7 +665,8 @@ module _ (ruled : ℕ → Bool) (y : Desks) (j : Joint ruled y) (d : ℕ) (r : r
                 let first : (at before k .mark .desk ≡ 0) ⊎ (at before k .mark .desk ≡ d) =
                 subst (λ (n : ℕ). (at before n .mark .desk ≡ 0) ⊎ (at before n .mark .desk ≡ d)) here (subst (λ (n : ℕ). (n ≡ 0) ⊎ (n ≡ d)) (t .fits) (ends .0)) in
                 let last : (at (then before s) k .mark .desk ≡ 0) ⊎ (at (then before s) k .mark .desk ≡ d) =
-                subst (λ (n : ℕ). (at (then before s) n .mark .desk ≡ 0) ⊎ (at (then before s) n .mark .desk ≡ d)) here (subst (λ (m : Mark). (m .desk ≡ 0) ⊎ (m .desk ≡ d)) (sym (t .mark)) (ends .1)) in
+                subst (λ (n : ℕ). (at (then before s) n .mark .desk ≡ 0) ⊎ (at (then before s) n .mark .desk ≡ d)) here
+                (subst (λ (m : Mark). (m .desk ≡ 0) ⊎ (m .desk ≡ d)) (sym (t .mark)) (ends .1)) in
                 let last-now : (at (decode V1 (got-o .image)) k .mark .desk ≡ 0) ⊎ (at (decode V1 (got-o .image)) k .mark .desk ≡ d) =
                 subst (λ (m : Cards). (at m k .mark .desk ≡ 0) ⊎ (at m k .mark .desk ≡ d)) (sym same-cards) last in
                 stand-as ruled (λ (e : ℕ). y .part e .log) (λ (e : ℕ). y .part e .log) (alone d y .meant k) (y .meant k) k (at (decode V1 (got-o .image)) k) (λ n. refl) (meant-own k first)
@@ -619,8 +680,11 @@ module _ (ruled : ℕ → Bool) (y : Desks) (j : Joint ruled y) (d : ℕ) (r : r
           same = same-then ruled y j s (safe .bytes);
           good = good-out ruled y j s (safe .bytes);
           texts = λ k.
-              stand-as ruled (λ (e : ℕ). y .part e .log) (λ (e : ℕ). (cond (eqb e d) (partOf (afterStep d (seenBy d y) (arrive i))) (partOf (afterStep e (seenBy e y) (other s)))) .log) (y .meant k) (y .meant k) k (at (decode V1 (got-o .image)) k)
-              (by-desk (λ (e : ℕ) (p : Part). y .part e .log ≡ p .log) (partOf (afterStep d (seenBy d y) (arrive i))) (λ e. partOf (afterStep e (seenBy e y) (other s))) refl (λ e x. refl)) (λ l. refl) (stand-arrive k);
+              stand-as ruled (λ (e : ℕ). y .part e .log)
+              (λ (e : ℕ). (cond (eqb e d) (partOf (afterStep d (seenBy d y) (arrive i))) (partOf (afterStep e (seenBy e y) (other s)))) .log)
+              (y .meant k) (y .meant k) k (at (decode V1 (got-o .image)) k)
+              (by-desk (λ (e : ℕ) (p : Part). y .part e .log ≡ p .log) (partOf (afterStep d (seenBy d y) (arrive i)))
+              (λ e. partOf (afterStep e (seenBy e y) (other s))) refl (λ e x. refl)) (λ l. refl) (stand-arrive k);
           side = λ e.
               by-desk (λ (n : ℕ) (p : Part). ruled n ≡ true → Side n (got-o .image) p) (partOf (afterStep d (seenBy d y) (arrive i))) (λ n. partOf (afterStep n (seenBy n y) (other s)))
               (λ x. side-of d (afterStep d (alone d y) (arrive i)) landed)
@@ -629,7 +693,8 @@ module _ (ruled : ℕ → Bool) (y : Desks) (j : Joint ruled y) (d : ℕ) (r : r
 
 -- ---- a run
 
-joint-own : (ruled : ℕ → Bool) (y : Desks) (j : Joint ruled y) (d : ℕ) (m : Step) → StepBytes m → ruled d ≡ true → ownStep m ≡ true → lawful d (seenBy d y) m ≡ true → Joint ruled (afterDeskStep y (own d m))
+joint-own : (ruled : ℕ → Bool) (y : Desks) (j : Joint ruled y) (d : ℕ) (m : Step) → StepBytes m → ruled d ≡ true → ownStep m ≡ true → lawful d
+    (seenBy d y) m ≡ true → Joint ruled (afterDeskStep y (own d m))
 joint-own ruled y j d (other s) b r w h = absurd (never-both refl (sym w))
 joint-own ruled y j d (order s line from) b r w h = joint-order ruled y j d r s line from b h
 joint-own ruled y j d (arrive i) b r w h = joint-arrive ruled y j d r i h

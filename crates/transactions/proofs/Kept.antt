@@ -16,10 +16,10 @@ use Rattle.commands.specs.Command.{Language, writes, verifier, update}
 use Rattle.commands.specs.Bytes.{payload}
 use Rattle.image.specs.Image.{Card, Cards, GoodCards, text, encode, decode}
 use Rattle.image_claims.proofs.Claims.{goodEncodes}
-use Rattle.model.specs.Claims.{SentBytes}
+use Rattle.store_model.specs.Claims.{SentBytes}
 use Rattle.redo_log.specs.Log.{LogRecord, recordText, goodLog, records}
-use Rattle.recovery_model.specs.Recovery.{recordIn}
-use Rattle.recovery_model.specs.Claims.{rewrites, rewritten}
+use Rattle.redo_recovery_model.specs.Recovery.{recordIn}
+use Rattle.redo_recovery_model.specs.Claims.{rewrites, rewritten}
 use Rattle.transactions.specs.System.{OneDesk, Order, Shown, Holding, unknown, held, free, commandIn, prepares, writesOut, releases}
 use Rattle.transactions.proofs.Records.{All, Ordered}
 use Rattle.transactions.proofs.Serving.{at}

@@ -22,9 +22,28 @@ use Rattle.redo_log.proofs.ReadBack.{length-records, record-of}
 use Rattle.redo_log.proofs.Steps.{left-23}
 use Rattle.redo_log_claims.specs.Claims.{appendNumbers}
 use Rattle.redo_log_claims.proofs.Claims.{appends, log-listed}
-use Rattle.recovery_model.specs.Recovery.{recordIn, transactionIn, commitsTo}
-use Rattle.recovery_model.specs.Claims.{rewrites, rewritten}
-use Rattle.transactions.specs.System.{OneDesk, Order, Shown, Holding, unknown, held, free, append, noOrder, noShown, writtenOut, updateIn, withUpdates, isHeld, isFree, lawful, meantLogged, afterStep}
+use Rattle.redo_recovery_model.specs.Recovery.{recordIn, transactionIn, commitsTo}
+use Rattle.redo_recovery_model.specs.Claims.{rewrites, rewritten}
+use Rattle.transactions.specs.System.{
+  OneDesk,
+  Order,
+  Shown,
+  Holding,
+  unknown,
+  held,
+  free,
+  append,
+  noOrder,
+  noShown,
+  writtenOut,
+  updateIn,
+  withUpdates,
+  isHeld,
+  isFree,
+  lawful,
+  meantLogged,
+  afterStep,
+}
 use Rattle.transactions.proofs.Records.{All, more, length-more, in-old, Ordered, Followed, followed, ordered-more}
 use Rattle.transactions.proofs.Due.{same-apart, no-more, rewritten-same, text-same, text-commit, same-commit, applied-away}
 use Rattle.transactions.proofs.Serving.{at}
@@ -89,7 +108,8 @@ module _ (d : ℕ) (rs : List LogRecord) (r : LogRecord) (orders : List Order) (
         done = λ l miss. onward-at e (suc (o .line)) l (q .done l (sym (e l (o .line)) ∙ miss));
       }
 
-  fine-more : (i : ℕ) → i < length orders → cardFor (getD orders i noOrder) ≡ j → Change d rs r meant new j card g → Fine d rs j card (getD orders i noOrder) → Fine d (more rs r) j card (getD orders i noOrder)
+  fine-more : (i : ℕ) → i < length orders → cardFor (getD orders i noOrder) ≡ j → Change d rs r meant new j card g → Fine d rs j card
+      (getD orders i noOrder) → Fine d (more rs r) j card (getD orders i noOrder)
   fine-more i h e (unchanged s m) (preparing p q) = preparing p (λ live. go (q live))
     where
       go : (bears d card ≡ true) ⊎ Clear rs j → (bears d card ≡ true) ⊎ Clear (more rs r) j
@@ -114,7 +134,8 @@ module _ (d : ℕ) (rs : List LogRecord) (r : LogRecord) (orders : List Order) (
       dead (releasing p q) = releasing p (λ live. absurd (omega (arith, live, old)))
       dead (writing p q) = writing p (λ live. absurd (omega (arith, live, old)))
 
-  told-more : (i : ℕ) → i < length shown → getD shown i noShown .card ≡ j → Change d rs r meant new j card g → Told d rs j card (getD shown i noShown) → Told d (more rs r) j card (getD shown i noShown)
+  told-more : (i : ℕ) → i < length shown → getD shown i noShown .card ≡ j → Change d rs r meant new j card g → Told d rs j card
+      (getD shown i noShown) → Told d (more rs r) j card (getD shown i noShown)
   told-more i h e (unchanged s m) t = record { low = t .low; reached = λ live b l. onward-at s (getD shown i noShown .reach) l (t .reached live b l) }
   told-more i h e (unmarked b c m) t = record { low = t .low; reached = λ live a. absurd (never-both a b) }
   told-more i h e (committed c f m) t =

@@ -15,12 +15,32 @@ use Rattle.commands.specs.declared.Command.{Command}
 use Rattle.commands.specs.Command.{Language, original, translation, writes, verifier, update}
 use Rattle.commands.specs.Bytes.{fieldsOf, payload}
 use Rattle.image.specs.Image.{Card, text}
-use Rattle.model.specs.Words.{Sent}
-use Rattle.model.specs.Claims.{SentBytes}
+use Rattle.store_model.specs.Words.{Sent}
+use Rattle.store_model.specs.Claims.{SentBytes}
 use Rattle.redo_log.specs.Log.{LogRecord, recordCard, recordSide, recordText, records}
-use Rattle.recovery_model.specs.Recovery.{recordIn, due}
-use Rattle.recovery_model.specs.Claims.{sideIs, rewrites, rewritten}
-use Rattle.transactions.specs.System.{OneDesk, Order, Shown, unknown, order, noShown, commandIn, prepares, writesOut, releases, dueFor, writtenOut, sameBytes, writesLine, opensAbove, orderly, lawful, noting, afterStep}
+use Rattle.redo_recovery_model.specs.Recovery.{recordIn, due}
+use Rattle.redo_recovery_model.specs.Claims.{sideIs, rewrites, rewritten}
+use Rattle.transactions.specs.System.{
+  OneDesk,
+  Order,
+  Shown,
+  unknown,
+  order,
+  noShown,
+  commandIn,
+  prepares,
+  writesOut,
+  releases,
+  dueFor,
+  writtenOut,
+  sameBytes,
+  writesLine,
+  opensAbove,
+  orderly,
+  lawful,
+  noting,
+  afterStep,
+}
 use Rattle.transactions.proofs.Records.{due-past}
 use Rattle.transactions.proofs.Due.{placed, rewritten-none}
 use Rattle.transactions.proofs.Serving.{at}
@@ -165,10 +185,14 @@ module _ (d : ℕ) (y : OneDesk) (k : Kept d y) (s : Sent) (line from : ℕ) (b 
   logsAll = and-right (ltb from (length (y .shown))) (opensAbove c v) shown-there
 
   same-card : v .card ≡ c .card
-  same-card = eqb-true (v .card) (c .card) (and-left (eqb (v .card) (c .card)) (eqb (verifier c .x) (v .x)) (and-left (eqb (v .card) (c .card) && eqb (verifier c .x) (v .x)) (ltb (v .x) (update c .x)) logsAll))
+  same-card = eqb-true (v .card) (c .card)
+      (and-left (eqb (v .card) (c .card)) (eqb (verifier c .x) (v .x))
+      (and-left (eqb (v .card) (c .card) && eqb (verifier c .x) (v .x)) (ltb (v .x) (update c .x)) logsAll))
 
   same-x : verifier c .x ≡ v .x
-  same-x = eqb-true (verifier c .x) (v .x) (and-right (eqb (v .card) (c .card)) (eqb (verifier c .x) (v .x)) (and-left (eqb (v .card) (c .card) && eqb (verifier c .x) (v .x)) (ltb (v .x) (update c .x)) logsAll))
+  same-x = eqb-true (verifier c .x) (v .x)
+      (and-right (eqb (v .card) (c .card)) (eqb (verifier c .x) (v .x))
+      (and-left (eqb (v .card) (c .card) && eqb (verifier c .x) (v .x)) (ltb (v .x) (update c .x)) logsAll))
 
   higher : v .x < update c .x
   higher = ltb-true (v .x) (update c .x) (and-right (eqb (v .card) (c .card) && eqb (verifier c .x) (v .x)) (ltb (v .x) (update c .x)) logsAll)
@@ -176,7 +200,8 @@ module _ (d : ℕ) (y : OneDesk) (k : Kept d y) (s : Sent) (line from : ℕ) (b 
   told-here : Told d rs (c .card) card v
   told-here =
       subst (λ (j : ℕ). Told d rs j (at (k .cs) j) v) same-card
-      (all-at (λ (w : Shown). Told d rs (w .card) (at (k .cs) (w .card)) w) (y .shown) from noShown (ltb-true from (length (y .shown)) (and-left (ltb from (length (y .shown))) (opensAbove c v) shown-there)) (k .told))
+      (all-at (λ (w : Shown). Told d rs (w .card) (at (k .cs) (w .card)) w) (y .shown) from noShown
+      (ltb-true from (length (y .shown)) (and-left (ltb from (length (y .shown))) (opensAbove c v) shown-there)) (k .told))
 
   reached : card .pair .x ≤ relies o → bears d card ≡ true → Onward rs (c .card) (v .reach) card
   reached live w = told-here .reached (omega (arith, live, same-x)) w
@@ -215,7 +240,8 @@ module _ (d : ℕ) (y : OneDesk) (k : Kept d y) (s : Sent) (line from : ℕ) (b 
   fine = pick (or-cases (pt || rt) (writesOut d c && lt) (and-right (ltb from (length (y .shown)) && opensAbove c v) (orderly d rs s line (v .reach)) h))
     where
       first : (pt ≡ true) ⊎ (rt ≡ true) → Fine d rs (c .card) card o
-      first (inl e) = preparing (and-left (prepares d c) (writtenOut rs (c .card) 0 (length rs)) e) (λ live. inr (out-clear rs (c .card) (and-right (prepares d c) (writtenOut rs (c .card) 0 (length rs)) e)))
+      first (inl e) = preparing (and-left (prepares d c) (writtenOut rs (c .card) 0 (length rs)) e)
+          (λ live. inr (out-clear rs (c .card) (and-right (prepares d c) (writtenOut rs (c .card) 0 (length rs)) e)))
       first (inr e) =
           releasing (and-left (releases d c) (writtenOut rs (c .card) (v .reach) (length rs)) e)
           (λ live w. out-all rs (c .card) (v .reach) card (and-right (releases d c) (writtenOut rs (c .card) (v .reach) (length rs)) e) (reached live w))

@@ -13,7 +13,7 @@ use Rattle.lists.specs.Search.{any}
 use Rattle.lists.proofs.Tests.{cases, never-both, and-left, and-right, or-cases}
 use Rattle.redo_log.specs.Log.{LogRecord, noRecord, beginKind, updateKind, commitKind, syncedKind, recordTransaction, lastBegun, opened, follows}
 use Rattle.redo_log.proofs.Records.{last-ext, opened-ext}
-use Rattle.recovery_model.specs.Recovery.{recordIn, transactionIn, commitsTo, due}
+use Rattle.redo_recovery_model.specs.Recovery.{recordIn, transactionIn, commitsTo, due}
 
 -- ---- lists
 
@@ -131,7 +131,8 @@ followed last running r f =
           (third running x y (eqb (r .kind) updateKind) (eqb (r .kind) syncedKind) (eqb (r .kind) beginKind) (kind-not r beginKind updateKind e refl) (kind-not r beginKind syncedKind e refl) e f);
       committing = λ e.
           let g : y ≡ true =
-          fourth running x y (eqb (r .kind) updateKind) (eqb (r .kind) syncedKind) (eqb (r .kind) beginKind) (kind-not r commitKind updateKind e refl) (kind-not r commitKind syncedKind e refl) (kind-not r commitKind beginKind e refl) f in
+          fourth running x y (eqb (r .kind) updateKind) (eqb (r .kind) syncedKind) (eqb (r .kind) beginKind) (kind-not r commitKind updateKind e refl)
+          (kind-not r commitKind syncedKind e refl) (kind-not r commitKind beginKind e refl) f in
           (and-left running (eqb (recordTransaction r) last) g, eqb-true (recordTransaction r) last (and-right running (eqb (recordTransaction r) last) g));
     }
 

@@ -16,8 +16,8 @@ use Rattle.image.specs.Image.{Card, text}
 use Rattle.redo_log.specs.Log.{LogRecord, recordCard, recordSide, records}
 use Rattle.redo_log_claims.specs.Life.{Renewal}
 use Rattle.redo_log_claims.proofs.Life.{renews}
-use Rattle.recovery_model.specs.Recovery.{recordIn, due}
-use Rattle.recovery_model.specs.Claims.{sideIs, rewrites, rewritten}
+use Rattle.redo_recovery_model.specs.Recovery.{recordIn, due}
+use Rattle.redo_recovery_model.specs.Claims.{sideIs, rewrites, rewritten}
 use Rattle.transactions.specs.System.{OneDesk, Order, Shown, Holding, unknown, held, free, renew, commandIn, expects, leaves, writesOut, lawful, afterStep}
 use Rattle.transactions.proofs.Records.{All, all-map, Ordered, ordered-none}
 use Rattle.transactions.proofs.Due.{rewritten-none}

@@ -17,14 +17,34 @@ use Rattle.commands.proofs.Languages.{none-written}
 use Rattle.commands.specs.Bytes.{payload, formed}
 use Rattle.guard.specs.declared.Answer.{Answer}
 use Rattle.image.specs.Image.{Card, Cards, GoodCards, encode}
-use Rattle.model.specs.Serve.{Outcome, serve}
-use Rattle.model.specs.Words.{Sent}
-use Rattle.model.specs.Claims.{SentBytes}
-use Rattle.model.proofs.Machine.{numberOn}
-use Rattle.model.proofs.Simulation.{good-more, same-image}
+use Rattle.store_model.specs.Serve.{Outcome, serve}
+use Rattle.store_model.specs.Words.{Sent}
+use Rattle.store_model.specs.Claims.{SentBytes}
+use Rattle.store_model.proofs.Machine.{numberOn}
+use Rattle.store_model.proofs.Simulation.{good-more, same-image}
 use Rattle.redo_log.specs.Log.{LogRecord, records}
-use Rattle.recovery_model.specs.Claims.{rewritten}
-use Rattle.transactions.specs.System.{OneDesk, Order, Shown, Holding, unknown, held, free, other, crash, commandIn, expects, leaves, prepares, lawful, outcome, meantAfter, heardOf, noting, afterStep}
+use Rattle.redo_recovery_model.specs.Claims.{rewritten}
+use Rattle.transactions.specs.System.{
+  OneDesk,
+  Order,
+  Shown,
+  Holding,
+  unknown,
+  held,
+  free,
+  other,
+  crash,
+  commandIn,
+  expects,
+  leaves,
+  prepares,
+  lawful,
+  outcome,
+  meantAfter,
+  heardOf,
+  noting,
+  afterStep,
+}
 use Rattle.transactions.proofs.Serving.{at, then, Taken, taken, kept, number-is, shown-x, shown-mark}
 use Rattle.transactions.proofs.Kept.{bears, Clear, Onward, Stands, cardFor, Fine, preparing, releasing, writing, Safe, Told, Knows, Kept, all-moved, stands-as}
 

@@ -19,14 +19,14 @@ use Rattle.commands.specs.declared.Command.{Command}
 use Rattle.commands.specs.Command.{Language, update}
 use Rattle.image.specs.Image.{Card, Cards, GoodCards, text, encode, decode}
 use Rattle.image_claims.proofs.Claims.{goodEncodes}
-use Rattle.model.specs.Words.{Sent}
-use Rattle.model.proofs.Machine.{cardsBy, cardsFrom}
+use Rattle.store_model.specs.Words.{Sent}
+use Rattle.store_model.proofs.Machine.{cardsBy, cardsFrom}
 use Rattle.redo_log.specs.Log.{LogRecord, recordCard, records}
-use Rattle.recovery_model.specs.Recovery.{Pairs, FitsPairs, Recovery, recordIn, due, recoveryPair, writeOf, recovering}
-use Rattle.recovery_model.specs.Claims.{rewritten}
-use Rattle.recovery_model.proofs.Steps.{R, S, Idle, Sends, next}
-use Rattle.recovery_model.proofs.Sending.{FitsRecords, fits-log}
-use Rattle.recovery_model.proofs.Texts.{over-again, cards-good, image-is, decode-is, before-zero, number-here, cards-next, fields-here, texts}
+use Rattle.redo_recovery_model.specs.Recovery.{Pairs, FitsPairs, Recovery, recordIn, due, recoveryPair, writeOf, recovering}
+use Rattle.redo_recovery_model.specs.Claims.{rewritten}
+use Rattle.redo_recovery_model.proofs.Steps.{R, S, Idle, Sends, next}
+use Rattle.redo_recovery_model.proofs.Sending.{FitsRecords, fits-log}
+use Rattle.redo_recovery_model.proofs.Texts.{over-again, cards-good, image-is, decode-is, before-zero, number-here, cards-next, fields-here, texts}
 use Rattle.transactions.specs.System.{OneDesk, Order, Shown, unknown, recover, commandIn, markIn, storedX, dueFor, writtenOut, rewritable, lawful, shownBy, forgetting, afterStep}
 use Rattle.transactions.proofs.Records.{All, all-map}
 use Rattle.transactions.proofs.Due.{placed}
@@ -215,7 +215,8 @@ module _ (d : ℕ) (y : OneDesk) (k : Kept d y) (pairs : Pairs) (lines : ℕ) (f
   ruled : (i j : ℕ) → i < length rs → dueFor rs j i ≡ true → (bears d (at (k .cs) j) ≡ true) × (at (k .cs) j .pair .x < recoveryPair pairs j .x)
   ruled i j g e =
       let here : recordCard (recordIn rs i) ≡ j = eqb-true (recordCard (recordIn rs i)) j (and-right (due rs i) (eqb (recordCard (recordIn rs i)) j) e) in
-      let one : rewritable d (y .image) rs pairs i ≡ true = every-out (rewritable d (y .image) rs pairs) (length rs) (and-right (leb lines (length rs)) (every (rewritable d (y .image) rs pairs) (length rs)) h) i g in
+      let one : rewritable d (y .image) rs pairs i ≡ true = every-out (rewritable d (y .image) rs pairs) (length rs)
+      (and-right (leb lines (length rs)) (every (rewritable d (y .image) rs pairs) (length rs)) h) i g in
       subst (λ (n : ℕ). (bears d (at (k .cs) n) ≡ true) × (at (k .cs) n .pair .x < recoveryPair pairs n .x)) here
       (subst (λ (c : Cards). (bears d (at c (recordCard (recordIn rs i))) ≡ true) × (at c (recordCard (recordIn rs i)) .pair .x < recoveryPair pairs (recordCard (recordIn rs i)) .x)) (decoded d y k)
       (go (or-cases (not (due rs i)) (marks && up) one)))
@@ -238,7 +239,8 @@ module _ (d : ℕ) (y : OneDesk) (k : Kept d y) (pairs : Pairs) (lines : ℕ) (f
   moved-now j = moved pairs rs (k .cs) (k .good) fp fit m in-log (st .clean) j
 
   -- The x of a card that was written.
-  x-new : (i j : ℕ) → i < m → dueFor rs j i ≡ true → at new j .pair .x ≡ max (at (k .cs) j .pair .x) (recoveryPair pairs j .x) → (at (k .cs) j .pair .x < at new j .pair .x) × (at new j .pair .x ≡ recoveryPair pairs j .x)
+  x-new : (i j : ℕ) → i < m → dueFor rs j i ≡ true → at new j .pair .x ≡ max (at (k .cs) j .pair .x) (recoveryPair pairs j .x) →
+      (at (k .cs) j .pair .x < at new j .pair .x) × (at new j .pair .x ≡ recoveryPair pairs j .x)
   x-new i j g e x = let two = ruled i j (omega (arith, g, in-log)) e .1 in (omega (arith, x, two), omega (arith, x, two))
 
   raised-new : (j : ℕ) → Raised d (at (k .cs) j) (at new j)
@@ -292,7 +294,8 @@ module _ (d : ℕ) (y : OneDesk) (k : Kept d y) (pairs : Pairs) (lines : ℕ) (f
     whole : m ≡ lines
     whole = st .whole (sym (ap (λ (r : Recovery). r .number) run-is) ∙ z)
 
-    told-line : (i : ℕ) → i < lines → due rs i ≡ true → Told d rs (recordCard (recordIn rs i)) (at new (recordCard (recordIn rs i))) (record { card = recordCard (recordIn rs i); x = recoveryPair pairs (recordCard (recordIn rs i)) .x; reach = lines })
+    told-line : (i : ℕ) → i < lines → due rs i ≡ true → Told d rs (recordCard (recordIn rs i)) (at new (recordCard (recordIn rs i)))
+        (record { card = recordCard (recordIn rs i); x = recoveryPair pairs (recordCard (recordIn rs i)) .x; reach = lines })
     told-line i g e = go (moved-now j)
       where
         j : ℕ
@@ -309,7 +312,9 @@ module _ (d : ℕ) (y : OneDesk) (k : Kept d y) (pairs : Pairs) (lines : ℕ) (f
             ∙ over-again rs l (recordCard (recordIn rs i)) m m (omega arith) (text l (at (k .cs) (recordCard (recordIn rs i))))
             ∙ sym (texts-new (recordCard (recordIn rs i)) l)))
 
-        go : Moved pairs rs (k .cs) (k .good) fp fit m (recordCard (recordIn rs i)) → Told d rs (recordCard (recordIn rs i)) (at new (recordCard (recordIn rs i))) (record { card = recordCard (recordIn rs i); x = recoveryPair pairs (recordCard (recordIn rs i)) .x; reach = lines })
+        go : Moved pairs rs (k .cs) (k .good) fp fit m (recordCard (recordIn rs i)) → Told d rs (recordCard (recordIn rs i))
+            (at new (recordCard (recordIn rs i)))
+            (record { card = recordCard (recordIn rs i); x = recoveryPair pairs (recordCard (recordIn rs i)) .x; reach = lines })
         go (untouched s f) = absurd (never-both hit (f i (omega (arith, g, whole))))
         go (touched p q f w x) = record { low = omega (arith, x-new p (recordCard (recordIn rs i)) q f x .1); reached = λ live b. onward }
 
@@ -319,7 +324,8 @@ module _ (d : ℕ) (y : OneDesk) (k : Kept d y) (pairs : Pairs) (lines : ℕ) (f
     told-lines (suc i) g = go (due rs i) refl (told-lines i (omega arith))
       where
         go : (b : Bool) → due rs i ≡ b → AllTold (shownBy pairs rs lines i (y .shown))
-            → AllTold (cond b (record { card = recordCard (recordIn rs i); x = recoveryPair pairs (recordCard (recordIn rs i)) .x; reach = lines } ∷ shownBy pairs rs lines i (y .shown)) (shownBy pairs rs lines i (y .shown)))
+            → AllTold (cond b (record { card = recordCard (recordIn rs i); x = recoveryPair pairs (recordCard (recordIn rs i)) .x; reach = lines }
+            ∷ shownBy pairs rs lines i (y .shown)) (shownBy pairs rs lines i (y .shown)))
         go true e rest = (told-line i g e, rest)
         go false e rest = rest
 
@@ -352,10 +358,14 @@ module _ (d : ℕ) (y : OneDesk) (k : Kept d y) (pairs : Pairs) (lines : ℕ) (f
     knows-lines (suc i) g = go (due rs i) refl (knows-lines i (omega arith))
       where
         go : (b : Bool) → due rs i ≡ b → Knows d rs (y .orders) (shownBy pairs rs lines i (y .shown)) j (at (k .cs) j) (y .holds j)
-            → Knows d rs (y .orders) (cond b (record { card = recordCard (recordIn rs i); x = recoveryPair pairs (recordCard (recordIn rs i)) .x; reach = lines } ∷ shownBy pairs rs lines i (y .shown)) (shownBy pairs rs lines i (y .shown))) j (at (k .cs) j) (y .holds j)
+            → Knows d rs (y .orders)
+            (cond b (record { card = recordCard (recordIn rs i); x = recoveryPair pairs (recordCard (recordIn rs i)) .x; reach = lines }
+            ∷ shownBy pairs rs lines i (y .shown)) (shownBy pairs rs lines i (y .shown))) j (at (k .cs) j) (y .holds j)
         go false f rest = rest
         go true f rest =
-            knows-shown d rs (y .orders) (shownBy pairs rs lines i (y .shown)) (record { card = recordCard (recordIn rs i); x = recoveryPair pairs (recordCard (recordIn rs i)) .x; reach = lines }) j (at (k .cs) j) (y .holds j)
+            knows-shown d rs (y .orders) (shownBy pairs rs lines i (y .shown))
+            (record { card = recordCard (recordIn rs i); x = recoveryPair pairs (recordCard (recordIn rs i)) .x; reach = lines }) j (at (k .cs) j)
+            (y .holds j)
             (λ here live. absurd (never-both (and-in f (eq-eqb (recordCard (recordIn rs i)) j here)) (none-due i g))) rest
 
     knows-same : Knows d rs (y .orders) (settled (run .number) (shownBy pairs rs lines lines (y .shown)) (y .shown)) j (at new j) (y .holds j)
@@ -368,7 +378,8 @@ module _ (d : ℕ) (y : OneDesk) (k : Kept d y) (pairs : Pairs) (lines : ℕ) (f
   knows-new : (j : ℕ) → Knows d rs (y .orders) (settled (run .number) (shownBy pairs rs lines lines (y .shown)) (y .shown)) j (at new j) (forgetting rs (y .holds) j)
   knows-new j = go (writtenOut rs j 0 (length rs)) refl
     where
-      go : (b : Bool) → writtenOut rs j 0 (length rs) ≡ b → Knows d rs (y .orders) (settled (run .number) (shownBy pairs rs lines lines (y .shown)) (y .shown)) j (at new j) (cond b (y .holds j) unknown)
+      go : (b : Bool) → writtenOut rs j 0 (length rs) ≡ b → Knows d rs (y .orders)
+          (settled (run .number) (shownBy pairs rs lines lines (y .shown)) (y .shown)) j (at new j) (cond b (y .holds j) unknown)
       go true e = knows-same j e
       go false e = tt
 

@@ -25,12 +25,12 @@ use Rattle.guard.specs.Judge.{raise}
 use Rattle.guard.specs.Replies.{blankReply, readLength, replied}
 use Rattle.guard.specs.declared.Answer.{Answer}
 use Rattle.image.specs.Image.{Card, Cards, GoodCards, view, text, noCard, encode}
-use Rattle.model.specs.Serve.{serve, stepped, textRead, requestRows, answerBy, replyBy}
-use Rattle.model.specs.Words.{Sent, Event}
-use Rattle.model.proofs.Machine.{numberOn, cardsBy, Passed, passed}
-use Rattle.model.proofs.Simulation.{same-event}
-use Rattle.model.proofs.Stepped.{text-step}
-use Rattle.recovery_model.proofs.Texts.{counted}
+use Rattle.store_model.specs.Serve.{serve, stepped, textRead, requestRows, answerBy, replyBy}
+use Rattle.store_model.specs.Words.{Sent, Event}
+use Rattle.store_model.proofs.Machine.{numberOn, cardsBy, Passed, passed}
+use Rattle.store_model.proofs.Simulation.{same-event}
+use Rattle.store_model.proofs.Stepped.{text-step}
+use Rattle.redo_recovery_model.proofs.Texts.{counted}
 use Rattle.transactions.specs.System.{commandIn}
 
 abbrev pub at : Cards → ℕ → Card
@@ -93,7 +93,8 @@ module _ (cs : Cards) (s : Sent) (gc : GoodCards V1 cs) where
         record {
           wellFormed = known .wellFormed;
           fits = eqb-true (c .expected .desk) (stored .mark .desk) (and-left (eqb (c .expected .desk) (stored .mark .desk)) _ (known .judged .mark));
-          fresh = ltb-false (verifier c .x) (stored .pair .x) (or-fails (ltb (verifier c .x) (stored .pair .x)) (eqb (c .mode) exclusive && ltb (verifier c .s) (stored .pair .s)) (known .judged .fresh) .0);
+          fresh = ltb-false (verifier c .x) (stored .pair .x)
+              (or-fails (ltb (verifier c .x) (stored .pair .x)) (eqb (c .mode) exclusive && ltb (verifier c .s) (stored .pair .s)) (known .judged .fresh) .0);
           others = elsewhere;
           mark = ap (λ (k : Card). k .mark) stepped-here ∙ now-mark;
           x = ap (λ (k : Card). k .pair .x) stepped-here ∙ now-x;

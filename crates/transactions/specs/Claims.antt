@@ -11,12 +11,12 @@ use Rattle.lists.specs.Parts.{Bytes}
 use Rattle.commands.specs.Command.{Language, isWrite, reads}
 use Rattle.image.specs.Layout.{shapeOk}
 use Rattle.image.specs.Image.{sound, fresh}
-use Rattle.model.specs.Words.{Sent}
-use Rattle.model.specs.Claims.{SentBytes}
+use Rattle.store_model.specs.Words.{Sent}
+use Rattle.store_model.specs.Claims.{SentBytes}
 use Rattle.redo_log.specs.Log.{LogRecord, bodiesFrom, mostLog, commitKind, recordTransaction, goodLog, records}
 use Rattle.redo_log.specs.Append.{appendNumber}
-use Rattle.recovery_model.specs.Recovery.{Pairs, FitsPairs, recovered}
-use Rattle.recovery_model.specs.Claims.{textIn, textOf}
+use Rattle.redo_recovery_model.specs.Recovery.{Pairs, FitsPairs, recovered}
+use Rattle.redo_recovery_model.specs.Claims.{textIn, textOf}
 use Rattle.transactions.specs.System.{
   OneDesk,
   Step,

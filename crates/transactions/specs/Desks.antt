@@ -11,13 +11,13 @@ use Rattle.formats.specs.Format.{V1}
 use Rattle.commands.specs.Command.{Language, isWrite, reads}
 use Rattle.commands.specs.Bytes.{formed}
 use Rattle.image.specs.Image.{sound}
-use Rattle.model.specs.Serve.{serve}
-use Rattle.model.specs.Words.{Sent}
-use Rattle.model.specs.Claims.{SentBytes}
+use Rattle.store_model.specs.Serve.{serve}
+use Rattle.store_model.specs.Words.{Sent}
+use Rattle.store_model.specs.Claims.{SentBytes}
 use Rattle.redo_log.specs.Log.{LogRecord, commitKind, goodLog, records}
 use Rattle.redo_log.specs.Append.{appendNumber}
-use Rattle.recovery_model.specs.Recovery.{Pairs}
-use Rattle.recovery_model.specs.Claims.{textIn, textOf}
+use Rattle.redo_recovery_model.specs.Recovery.{Pairs}
+use Rattle.redo_recovery_model.specs.Claims.{textIn, textOf}
 use Rattle.transactions.specs.System.{OneDesk, Order, Shown, Holding, unknown, Step, other, order, arrive, append, crash, recover, renew, noOrder, commandIn, markIn, lawful, afterStep}
 use Rattle.transactions.specs.Claims.{StepBytes, Clean, Blank}
 

@@ -20,13 +20,13 @@ use Rattle.commands.specs.Command.{Language, isWrite, writes, verifier, update}
 use Rattle.commands.specs.Bytes.{fieldsOf, payload, formed}
 use Rattle.guard.specs.declared.Answer.{Answer}
 use Rattle.image.specs.Image.{noCard, decode}
-use Rattle.model.specs.Serve.{Outcome, serve}
-use Rattle.model.specs.Words.{Sent}
+use Rattle.store_model.specs.Serve.{Outcome, serve}
+use Rattle.store_model.specs.Words.{Sent}
 use Rattle.redo_log.specs.Log.{LogRecord, updateKind, commitKind, syncedKind, recordCard, recordSide, recordText, recordTransaction, records}
 use Rattle.redo_log.specs.Append.{appendNumber, appended}
 use Rattle.redo_log_claims.specs.Life.{renewed}
-use Rattle.recovery_model.specs.Recovery.{Pairs, recordIn, transactionIn, commitsTo, due, recoveryPair, recovering}
-use Rattle.recovery_model.specs.Claims.{textIn, sideIs}
+use Rattle.redo_recovery_model.specs.Recovery.{Pairs, recordIn, transactionIn, commitsTo, due, recoveryPair, recovering}
+use Rattle.redo_recovery_model.specs.Claims.{textIn, sideIs}
 
 -- ---- what there is
 

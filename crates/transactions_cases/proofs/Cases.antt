@@ -7,15 +7,15 @@ use lib.Dec.{T, ltb, eqb, lit<}
 use Rattle.lists.specs.Parts.{Bytes}
 use Rattle.lists.proofs.Tests.{and-in, and-left, and-right}
 use Rattle.formats.specs.Format.{V1}
-use Rattle.model.specs.Words.{Sent}
-use Rattle.model.specs.Claims.{SentBytes}
+use Rattle.store_model.specs.Words.{Sent}
+use Rattle.store_model.specs.Claims.{SentBytes}
 use Rattle.redo_log_claims.specs.Cases.{commitOf, emptyLog}
 use Rattle.transactions.specs.Claims.{StepBytes, AllSteps, Moment}
 use Rattle.transactions.proofs.Claims.{fresh-clean, zeros-blank}
 use mathlib.Core.Path.{_≡_, refl, sym, ap, _∙_}
 use mathlib.Core.List.{List, [], _∷_, _++_}
 use mathlib.Core.Bool.{Bool, true, false, _&&_}
-use Rattle.lists.specs.Parts.{part, splice, table, spread, every, zeros}
+use Rattle.lists.specs.Parts.{part, splice, tabulate, concatMap, every, zeros}
 use Rattle.lists.specs.Le.{le, toLe}
 use Rattle.lists.specs.Table.{all, allFrom}
 use Rattle.commands.specs.Command.{wellFormed}
@@ -26,15 +26,56 @@ use Rattle.guard.specs.Replies.{replied}
 use Rattle.image.specs.Layout.{shapeOk}
 use Rattle.image.specs.Bytes.{header, entryBytes, pad, readEntry, entryAt}
 use Rattle.image.specs.Image.{bodies, encode, cardAt, decode, tailZero, translationSound, cardSound, headerSound, sound, fresh}
-use Rattle.model.specs.Serve.{stepped, serveBy, serve}
+use Rattle.store_model.specs.Serve.{stepped, serveBy, serve}
 use Rattle.redo_log.specs.Log.{shaped, lastBegun, opened, follows, total, startAt, recordAt, recordOk, goodLog, records}
 use Rattle.redo_log.specs.Append.{stored, puts, lineBytes, stores, appended}
-use Rattle.recovery_model.specs.Recovery.{Pairs, FitsPairs, due, recoverySent, recoveryStep, recovering, recovered}
-use Rattle.recovery_model.specs.Claims.{rewritten}
+use Rattle.redo_recovery_model.specs.Recovery.{Pairs, FitsPairs, due, recoverySent, recoveryStep, recovering, recovered}
+use Rattle.redo_recovery_model.specs.Claims.{rewritten}
 use Rattle.transactions.specs.System.{OneDesk, Step, other, order, arrive, append, crash, recover, renew, lawful, withUpdates, shownBy, afterStep, afterSteps, lawfulAll}
-use Rattle.model.specs.Cases.{text205, text401}
+use Rattle.store_model.specs.Cases.{text205, text401}
 use Rattle.transactions.specs.Desks.{Desks, DeskStep, own, lawfulDeskStep, afterDeskStep, afterDeskSteps, lawfulDeskSteps}
-use Rattle.transactions_cases.specs.Cases.{begins, preparesBoth, commits, Ordinary, Cut, CrashRecovered, Hazard, rewritesHalf, rewritesAll, Rewritten, Renewed, atFirst, agrees, BrokenAt, OrderRulesNeeded, Seen, seeing, text190, text380, text210, logs, bothRuled, twoDesks, bothBegin, sixCommits, sixFinishes, fiveCommits, seeDesks, TwoDesks, writesOut0, releases0, syncs0, finishes1, Shows, readNow, five, see, seenAfter, inOrder, afterAll}
+use Rattle.transactions_cases.specs.Cases.{
+  begins,
+  preparesBoth,
+  commits,
+  Ordinary,
+  Cut,
+  CrashRecovered,
+  Hazard,
+  rewritesHalf,
+  rewritesAll,
+  Rewritten,
+  Renewed,
+  atFirst,
+  agrees,
+  BrokenAt,
+  OrderRulesNeeded,
+  Seen,
+  seeing,
+  text190,
+  text380,
+  text210,
+  logs,
+  bothRuled,
+  twoDesks,
+  bothBegin,
+  sixCommits,
+  sixFinishes,
+  fiveCommits,
+  seeDesks,
+  TwoDesks,
+  writesOut0,
+  releases0,
+  syncs0,
+  finishes1,
+  Shows,
+  readNow,
+  five,
+  see,
+  seenAfter,
+  inOrder,
+  afterAll,
+}
 
 -- Numbers below a bound, by a test of each.
 unfoldable pub belowTest : ℕ → List ℕ → Bool
@@ -108,7 +149,10 @@ unfolding stepsTest stepTest sentTest pairsTest belowTest commandBytes toLe
 are-bytes = refl
 
 are-lawful : lawfulAll 5 atFirst rewriting ≡ true
-unfolding lawfulAll afterSteps afterStep withUpdates rewritten due stored puts lineBytes stores appended shaped lastBegun opened follows total startAt recordAt recordOk goodLog records serve serveBy stepped sound headerSound cardSound translationSound tailZero decode cardAt entryAt readEntry encode bodies pad entryBytes header shapeOk fresh replied raise entrySound commandBytes formed payload fieldsOf wellFormed all allFrom le toLe part splice table spread every zeros recovering recoveryStep recoverySent shownBy
+unfolding lawfulAll afterSteps afterStep withUpdates rewritten due stored puts lineBytes stores appended shaped lastBegun opened follows total startAt
+    recordAt recordOk goodLog records serve serveBy stepped sound headerSound cardSound translationSound tailZero decode cardAt entryAt readEntry
+    encode bodies pad entryBytes header shapeOk fresh replied raise entrySound commandBytes formed payload fieldsOf wellFormed all allFrom le toLe
+    part splice tabulate concatMap every zeros recovering recoveryStep recoverySent shownBy
 are-lawful = refl
 
 five-apart : eqb 0 5 ≡ false
@@ -172,7 +216,8 @@ parts-are y (part ∷ parts) =
     let rest = parts-are z parts in
     record {
       end-is = ap (λ (w : OneDesk). afterAll w parts) (sym (a .0)) ∙ rest .end-is;
-      rules-are = ap (λ (b : Bool). b && inOrder (afterSteps 5 y part) parts) (sym (a .1)) ∙ ap (λ (w : OneDesk). walk y part .rules && inOrder w parts) (sym (a .0)) ∙ ap (λ (b : Bool). walk y part .rules && b) (rest .rules-are);
+      rules-are = ap (λ (b : Bool). b && inOrder (afterSteps 5 y part) parts) (sym (a .1)) ∙ ap
+          (λ (w : OneDesk). walk y part .rules && inOrder w parts) (sym (a .0)) ∙ ap (λ (b : Bool). walk y part .rules && b) (rest .rules-are);
       sees-are = ap (λ (w : OneDesk). see w ∷ seenAfter w parts) (sym (a .0)) ∙ ap (λ (l : List Seen). see z ∷ l) (rest .sees-are);
     }
 
@@ -203,14 +248,20 @@ toldWhole = (
 )
 
 walked-whole : told (walkParts atFirst wholeRun) ≡ toldWhole
-unfolding walkParts walk lawfulAll afterSteps afterStep withUpdates rewritten due stored puts lineBytes stores appended shaped lastBegun opened follows total startAt recordAt recordOk goodLog records serve serveBy stepped sound headerSound cardSound translationSound tailZero decode cardAt entryAt readEntry encode bodies pad entryBytes header shapeOk fresh replied raise entrySound commandBytes formed payload fieldsOf wellFormed all allFrom le toLe part splice table spread every zeros
+unfolding walkParts walk lawfulAll afterSteps afterStep withUpdates rewritten due stored puts lineBytes stores appended shaped lastBegun opened
+    follows total startAt recordAt recordOk goodLog records serve serveBy stepped sound headerSound cardSound translationSound tailZero decode cardAt
+    entryAt readEntry encode bodies pad entryBytes header shapeOk fresh replied raise entrySound commandBytes formed payload fieldsOf wellFormed all
+    allFrom le toLe part splice tabulate concatMap every zeros
 walked-whole = refl
 
 abbrev readBetween : Shows × Shows
 readBetween = (record { number = 0; text = text205 }, record { number = 4; text = [] })
 
 walked-between : readsBetween (walkParts atFirst between .end) ≡ readBetween
-unfolding walkParts walk lawfulAll afterSteps afterStep withUpdates rewritten due stored puts lineBytes stores appended shaped lastBegun opened follows total startAt recordAt recordOk goodLog records serve serveBy stepped sound headerSound cardSound translationSound tailZero decode cardAt entryAt readEntry encode bodies pad entryBytes header shapeOk fresh replied raise entrySound commandBytes formed payload fieldsOf wellFormed all allFrom le toLe part splice table spread every zeros
+unfolding walkParts walk lawfulAll afterSteps afterStep withUpdates rewritten due stored puts lineBytes stores appended shaped lastBegun opened
+    follows total startAt recordAt recordOk goodLog records serve serveBy stepped sound headerSound cardSound translationSound tailZero decode cardAt
+    entryAt readEntry encode bodies pad entryBytes header shapeOk fresh replied raise entrySound commandBytes formed payload fieldsOf wellFormed all
+    allFrom le toLe part splice tabulate concatMap every zeros
 walked-between = refl
 
 pub ordinary : Ordinary
@@ -225,23 +276,38 @@ ordinary =
     }
 
 pub cut : Cut
-unfolding lawfulAll afterSteps afterStep withUpdates rewritten due stored puts lineBytes stores appended shaped lastBegun opened follows total startAt recordAt recordOk goodLog records serve serveBy stepped sound headerSound cardSound translationSound tailZero decode cardAt entryAt readEntry encode bodies pad entryBytes header shapeOk fresh replied raise entrySound commandBytes formed payload fieldsOf wellFormed all allFrom le toLe part splice table spread every zeros
+unfolding lawfulAll afterSteps afterStep withUpdates rewritten due stored puts lineBytes stores appended shaped lastBegun opened follows total startAt
+    recordAt recordOk goodLog records serve serveBy stepped sound headerSound cardSound translationSound tailZero decode cardAt entryAt readEntry
+    encode bodies pad entryBytes header shapeOk fresh replied raise entrySound commandBytes formed payload fieldsOf wellFormed all allFrom le toLe
+    part splice tabulate concatMap every zeros
 cut = record { rules = refl; sees15 = refl; freed = refl; rules16 = refl; sees16 = refl }
 
 pub crash-recovered : CrashRecovered
-unfolding lawfulAll afterSteps afterStep withUpdates rewritten due stored puts lineBytes stores appended shaped lastBegun opened follows total startAt recordAt recordOk goodLog records serve serveBy stepped sound headerSound cardSound translationSound tailZero decode cardAt entryAt readEntry encode bodies pad entryBytes header shapeOk fresh replied raise entrySound commandBytes formed payload fieldsOf wellFormed all allFrom le toLe part splice table spread every zeros
+unfolding lawfulAll afterSteps afterStep withUpdates rewritten due stored puts lineBytes stores appended shaped lastBegun opened follows total startAt
+    recordAt recordOk goodLog records serve serveBy stepped sound headerSound cardSound translationSound tailZero decode cardAt entryAt readEntry
+    encode bodies pad entryBytes header shapeOk fresh replied raise entrySound commandBytes formed payload fieldsOf wellFormed all allFrom le toLe
+    part splice tabulate concatMap every zeros
 crash-recovered = record { rules = refl; sees = refl }
 
 pub hazard : Hazard
-unfolding lawfulAll afterSteps afterStep withUpdates rewritten due stored puts lineBytes stores appended shaped lastBegun opened follows total startAt recordAt recordOk goodLog records serve serveBy stepped sound headerSound cardSound translationSound tailZero decode cardAt entryAt readEntry encode bodies pad entryBytes header shapeOk fresh replied raise entrySound commandBytes formed payload fieldsOf wellFormed all allFrom le toLe part splice table spread every zeros recovered recovering recoveryStep recoverySent shownBy
+unfolding lawfulAll afterSteps afterStep withUpdates rewritten due stored puts lineBytes stores appended shaped lastBegun opened follows total startAt
+    recordAt recordOk goodLog records serve serveBy stepped sound headerSound cardSound translationSound tailZero decode cardAt entryAt readEntry
+    encode bodies pad entryBytes header shapeOk fresh replied raise entrySound commandBytes formed payload fieldsOf wellFormed all allFrom le toLe
+    part splice tabulate concatMap every zeros recovered recovering recoveryStep recoverySent shownBy
 hazard = record { rules = refl; sees = refl; before = refl; after = refl }
 
 pub rewritten-twice : Rewritten
-unfolding lawfulAll afterSteps afterStep withUpdates rewritten due stored puts lineBytes stores appended shaped lastBegun opened follows total startAt recordAt recordOk goodLog records serve serveBy stepped sound headerSound cardSound translationSound tailZero decode cardAt entryAt readEntry encode bodies pad entryBytes header shapeOk fresh replied raise entrySound commandBytes formed payload fieldsOf wellFormed all allFrom le toLe part splice table spread every zeros recovering recoveryStep recoverySent shownBy
+unfolding lawfulAll afterSteps afterStep withUpdates rewritten due stored puts lineBytes stores appended shaped lastBegun opened follows total startAt
+    recordAt recordOk goodLog records serve serveBy stepped sound headerSound cardSound translationSound tailZero decode cardAt entryAt readEntry
+    encode bodies pad entryBytes header shapeOk fresh replied raise entrySound commandBytes formed payload fieldsOf wellFormed all allFrom le toLe
+    part splice tabulate concatMap every zeros recovering recoveryStep recoverySent shownBy
 rewritten-twice = record { rules = refl; sees = refl; met = met }
 
 pub renewed-log : Renewed
-unfolding lawfulAll afterSteps afterStep withUpdates rewritten due stored puts lineBytes stores appended shaped lastBegun opened follows total startAt recordAt recordOk goodLog records serve serveBy stepped sound headerSound cardSound translationSound tailZero decode cardAt entryAt readEntry encode bodies pad entryBytes header shapeOk fresh replied raise entrySound commandBytes formed payload fieldsOf wellFormed all allFrom le toLe part splice table spread every zeros
+unfolding lawfulAll afterSteps afterStep withUpdates rewritten due stored puts lineBytes stores appended shaped lastBegun opened follows total startAt
+    recordAt recordOk goodLog records serve serveBy stepped sound headerSound cardSound translationSound tailZero decode cardAt entryAt readEntry
+    encode bodies pad entryBytes header shapeOk fresh replied raise entrySound commandBytes formed payload fieldsOf wellFormed all allFrom le toLe
+    part splice tabulate concatMap every zeros
 renewed-log = record { rules = refl; sees = refl; lines = refl }
 
 after-more : (y : OneDesk) (a b : List Step) → afterSteps 5 y (a ++ b) ≡ afterSteps 5 (afterSteps 5 y a) b
@@ -274,7 +340,10 @@ broken-at lead wrong rest e =
     }
 
 pub rules-needed : OrderRulesNeeded
-unfolding walk lawfulAll afterSteps afterStep withUpdates rewritten due stored puts lineBytes stores appended shaped lastBegun opened follows total startAt recordAt recordOk goodLog records serve serveBy stepped sound headerSound cardSound translationSound tailZero decode cardAt entryAt readEntry encode bodies pad entryBytes header shapeOk fresh replied raise entrySound commandBytes formed payload fieldsOf wellFormed all allFrom le toLe part splice table spread every zeros recovering recoveryStep recoverySent shownBy
+unfolding walk lawfulAll afterSteps afterStep withUpdates rewritten due stored puts lineBytes stores appended shaped lastBegun opened follows total
+    startAt recordAt recordOk goodLog records serve serveBy stepped sound headerSound cardSound translationSound tailZero decode cardAt entryAt
+    readEntry encode bodies pad entryBytes header shapeOk fresh replied raise entrySound commandBytes formed payload fieldsOf wellFormed all allFrom
+    le toLe part splice tabulate concatMap every zeros recovering recoveryStep recoverySent shownBy
 rules-needed =
     record {
       unprepared = broken-at _ _ _ refl;
@@ -314,8 +383,11 @@ desk-steps-more : (y : Desks) (a b : List DeskStep)
 unfolding afterDeskSteps lawfulDeskSteps
 desk-steps-more y [] b = (refl, refl)
 desk-steps-more y (m ∷ a) b =
-    let rest = desk-steps-more (afterDeskStep y m) a b in
-    (rest .0, ap (λ (t : Bool). lawfulDeskStep bothRuled y m && t) (rest .1) ∙ assoc (lawfulDeskStep bothRuled y m) (lawfulDeskSteps bothRuled (afterDeskStep y m) a) (lawfulDeskSteps bothRuled (afterDeskSteps (afterDeskStep y m) a) b))
+    let rest = desk-steps-more (afterDeskStep y m) a b in (
+      rest .0,
+      ap (λ (t : Bool). lawfulDeskStep bothRuled y m && t) (rest .1) ∙ assoc (lawfulDeskStep bothRuled y m)
+          (lawfulDeskSteps bothRuled (afterDeskStep y m) a) (lawfulDeskSteps bothRuled (afterDeskSteps (afterDeskStep y m) a) b),
+    )
   where
     assoc : (p q r : Bool) → (p && (q && r)) ≡ (p && q && r)
     assoc true q r = refl
@@ -332,7 +404,10 @@ desksVerdict =
     (a .rules, (lawfulDeskStep bothRuled (a .desks) (own 5 (logs (commitOf 1))), (b .rules, (c .rules, (seeDesks (b .desks), seeDesks (c .desks))))))
 
 desks-verdict : desksVerdict ≡ (true, (false, (true, (true, (seeing text190 text380 text190 text210, seeing text190 text210 text205 text401)))))
-unfolding lawfulAll afterSteps afterStep withUpdates rewritten due stored puts lineBytes stores appended shaped lastBegun opened follows total startAt recordAt recordOk goodLog records serve serveBy stepped sound headerSound cardSound translationSound tailZero decode cardAt entryAt readEntry encode bodies pad entryBytes header shapeOk fresh replied raise entrySound commandBytes formed payload fieldsOf wellFormed all allFrom le toLe part splice table spread every zeros lawfulDeskSteps afterDeskSteps afterDeskStep walkDesks
+unfolding lawfulAll afterSteps afterStep withUpdates rewritten due stored puts lineBytes stores appended shaped lastBegun opened follows total startAt
+    recordAt recordOk goodLog records serve serveBy stepped sound headerSound cardSound translationSound tailZero decode cardAt entryAt readEntry
+    encode bodies pad entryBytes header shapeOk fresh replied raise entrySound commandBytes formed payload fieldsOf wellFormed all allFrom le toLe
+    part splice tabulate concatMap every zeros lawfulDeskSteps afterDeskSteps afterDeskStep walkDesks
 desks-verdict = refl
 
 pub two-desks : TwoDesks

@@ -13,12 +13,12 @@ use Rattle.stamps.specs.Stamp.{stamp, exclusive, noMark}
 use Rattle.stamps.specs.declared.Mark.{Mark}
 use Rattle.commands.specs.Command.{original}
 use Rattle.image.specs.Image.{fresh}
-use Rattle.model.specs.Words.{Sent}
-use Rattle.model.specs.Cases.{pair, withPairs, sends, markOf, text205, text401, long}
+use Rattle.store_model.specs.Words.{Sent}
+use Rattle.store_model.specs.Cases.{pair, withPairs, sends, markOf, text205, text401, long}
 use Rattle.redo_log.specs.Log.{LogRecord, records}
 use Rattle.redo_log_claims.specs.Cases.{beginOf, updateOf, commitOf, syncedOf, emptyLog}
-use Rattle.recovery_model.specs.Recovery.{Pairs, recovered}
-use Rattle.recovery_model.specs.Claims.{textIn, textOf}
+use Rattle.redo_recovery_model.specs.Recovery.{Pairs, recovered}
+use Rattle.redo_recovery_model.specs.Claims.{textIn, textOf}
 use Rattle.transactions.specs.Claims.{Moment}
 use Rattle.transactions.specs.Desks.{Desks, DeskStep, outside, own, desksOpening, lawfulDeskStep, afterDeskSteps, lawfulDeskSteps}
 use Rattle.transactions.specs.System.{OneDesk, Step, other, order, arrive, append, crash, recover, renew, oneDeskOpening, markIn, sameBytes, lawful, outcome, afterStep, afterSteps, lawfulAll}

@@ -17,7 +17,7 @@ use Rattle.image.specs.Image.{Card, decode}
 use Rattle.redo_log.specs.Log.{LogRecord, commitKind, recordCard, recordTransaction, records}
 use Rattle.redo_log.specs.Append.{appendNumber, appended}
 use Rattle.redo_log_claims.proofs.Claims.{appends}
-use Rattle.recovery_model.specs.Recovery.{recordIn, due}
+use Rattle.redo_recovery_model.specs.Recovery.{recordIn, due}
 use Rattle.transactions.specs.System.{OneDesk, Order, Shown, append, renew, noOrder, noShown, dueFor, updateIn, isHeld, lawful, afterStep}
 use Rattle.transactions.proofs.Records.{all-map, more}
 use Rattle.transactions.proofs.Due.{same-commit}
@@ -39,10 +39,13 @@ use Rattle.transactions_editions.proofs.Steps.{Onwards, Done, Tells, Tu
 data Shift (d : ℕ) (y : OneDesk) (r : LogRecord) (card : Card) (j : ℕ) (old new : Bool) : Type 0 where
   same : ((i : ℕ) → dueFor (more (records (y .log)) r) j i ≡ dueFor (records (y .log)) j i) → new ≡ old → Shift d y r card j old new
   plainly : bears d card ≡ false → new ≡ old → Shift d y r card j old new
-  holding : Held d (y .orders) (y .shown) j card → ((c : Bool) → currentBy (more (records (y .log)) r) j (length (more (records (y .log)) r)) c ≡ currentWith (records (y .log)) (recordTransaction r) j (length (records (y .log))) (currentBy (records (y .log)) j (length (records (y .log))) c))
+  holding : Held d (y .orders) (y .shown) j card →
+      ((c : Bool) → currentBy (more (records (y .log)) r) j (length (more (records (y .log)) r)) c ≡ currentWith (records (y .log))
+      (recordTransaction r) j (length (records (y .log))) (currentBy (records (y .log)) j (length (records (y .log))) c))
       → new ≡ currentWith (records (y .log)) (recordTransaction r) j (length (records (y .log))) old → Shift d y r card j old new
 
-module _ (d : ℕ) (y : OneDesk) (k : Kept d y) (c : ℕ → Bool) (w : Turned d (records (y .log)) (y .orders) (y .shown) c (k .cs)) (budget : ℕ) (r : LogRecord) (rb : Bytes (r .body)) (h : lawful d y (append budget r) ≡ true) where
+module _ (d : ℕ) (y : OneDesk) (k : Kept d y) (c : ℕ → Bool) (w : Turned d (records (y .log)) (y .orders) (y .shown) c (k .cs)) (budget : ℕ)
+    (r : LogRecord) (rb : Bytes (r .body)) (h : lawful d y (append budget r) ≡ true) where
   abbrev rs : List LogRecord
   rs = records (y .log)
 
@@ -85,7 +88,8 @@ module _ (d : ℕ) (y : OneDesk) (k : Kept d y) (c : ℕ → Bool) (w : Turned d
             none : (i : ℕ) → i < length rs → (updateIn rs (recordTransaction r) i && eqb (recordCard (recordIn rs i)) j) ≡ false
             none i g = pick (cases (updateIn rs (recordTransaction r) i))
               where
-                pick : (updateIn rs (recordTransaction r) i ≡ true) ⊎ (updateIn rs (recordTransaction r) i ≡ false) → (updateIn rs (recordTransaction r) i && eqb (recordCard (recordIn rs i)) j) ≡ false
+                pick : (updateIn rs (recordTransaction r) i ≡ true) ⊎ (updateIn rs (recordTransaction r) i ≡ false) →
+                    (updateIn rs (recordTransaction r) i && eqb (recordCard (recordIn rs i)) j) ≡ false
                 pick (inl u) = ap (λ (b : Bool). updateIn rs (recordTransaction r) i && b) (apart d y k budget r rb h z j e q i g u) ∙ and-false (updateIn rs (recordTransaction r) i)
                 pick (inr u) = ap (λ (b : Bool). b && eqb (recordCard (recordIn rs i)) j) u
 
@@ -99,7 +103,8 @@ module _ (d : ℕ) (y : OneDesk) (k : Kept d y) (c : ℕ → Bool) (w : Turned d
     marked-more j (plainly q f) b = absurd (never-both b q)
     marked-more j (holding g e f) b = e (cur (at (k .cs) j)) ∙ ap (currentWith rs (recordTransaction r) j (length rs)) (w .marked j b) ∙ sym f
 
-    done-more : (i : ℕ) (o : Order) → getD (y .orders) i noOrder ≡ o → i < length (y .orders) → Shift d y r (at (k .cs) (cardFor o)) (cardFor o) (c (cardFor o)) (c-now (cardFor o)) → Done d rs (at (k .cs) (cardFor o)) o → Done d longer (at (k .cs) (cardFor o)) o
+    done-more : (i : ℕ) (o : Order) → getD (y .orders) i noOrder ≡ o → i < length (y .orders) → Shift d y r (at (k .cs) (cardFor o)) (cardFor o)
+        (c (cardFor o)) (c-now (cardFor o)) → Done d rs (at (k .cs) (cardFor o)) o → Done d longer (at (k .cs) (cardFor o)) o
     done-more i o e g (same s f) q p live b = by-same-all rs r (cardFor o) s (cur (at (k .cs) (cardFor o))) ∙ q p live b
     done-more i o e g (plainly s f) q p live b = absurd (never-both b s)
     done-more i o e g (holding held s f) q p live b =
@@ -110,7 +115,8 @@ module _ (d : ℕ) (y : OneDesk) (k : Kept d y) (c : ℕ → Bool) (w : Turned d
     onwards-more j n b e (inl later) = inl (later .0, later .1, e (later .0) ∙ later .2)
     onwards-more j n b e (inr q) = inr (by-same rs r j e n b ∙ q)
 
-    tells-more : (i : ℕ) (v : Shown) → getD (y .shown) i noShown ≡ v → i < length (y .shown) → Shift d y r (at (k .cs) (v .card)) (v .card) (c (v .card)) (c-now (v .card)) → Tells d rs (at (k .cs) (v .card)) v → Tells d longer (at (k .cs) (v .card)) v
+    tells-more : (i : ℕ) (v : Shown) → getD (y .shown) i noShown ≡ v → i < length (y .shown) → Shift d y r (at (k .cs) (v .card)) (v .card)
+        (c (v .card)) (c-now (v .card)) → Tells d rs (at (k .cs) (v .card)) v → Tells d longer (at (k .cs) (v .card)) v
     tells-more i v e g (same s f) q live b = onwards-more (v .card) (v .reach) (cur (at (k .cs) (v .card))) s (q live b)
     tells-more i v e g (plainly s f) q live b = absurd (never-both b s)
     tells-more i v e g (holding held s f) q live b =

@@ -19,9 +19,9 @@ use Rattle.commands.proofs.CommandBytes.{language-within}
 use Rattle.guard.specs.Judge.{behind}
 use Rattle.guard.specs.declared.Entry.{Entry}
 use Rattle.image.specs.Image.{view}
-use Rattle.model.specs.Serve.{requestRows}
-use Rattle.model.specs.Words.{Sent}
-use Rattle.model.proofs.Machine.{numberOn, passed}
+use Rattle.store_model.specs.Serve.{requestRows}
+use Rattle.store_model.specs.Words.{Sent}
+use Rattle.store_model.proofs.Machine.{numberOn, passed}
 use Rattle.redo_log.specs.Log.{records}
 use Rattle.transactions.specs.System.{OneDesk, Step, other, order, arrive, append, crash, recover, renew, oneDeskOpening, commandIn, lawful, afterStep, afterSteps, lawfulAll}
 use Rattle.transactions.specs.Claims.{StepBytes, AllSteps, Moment}
@@ -116,8 +116,11 @@ module _ (d : ℕ) (y : OneDesk) (k : Kept d y) (s : Sent) (r : readsTranslation
       let well : formed V1 (s .command) ≡ true = not-false (formed V1 (s .command)) (not-true (not (formed V1 (s .command))) (and-left (not (not (formed V1 (s .command)))) _ above)) in
       let third = and-right (not (not (ltb (c .card) (length (k .cs .cards))))) _ (and-right (not (not (formed V1 (s .command)))) _ above) in
       let fifth = and-right (not (tooFar (entry .pair) (update c))) _ (and-right (not (stale (c .mode) (entry .pair) (verifier c))) _ third) in
-      let fits : markFits (entry .mark) (c .expected) ≡ true = not-false (markFits (entry .mark) (c .expected)) (not-true (not (markFits (entry .mark) (c .expected))) (and-left (not (not (markFits (entry .mark) (c .expected)))) _ fifth)) in
-      let late : behind (entry .edition) (entry .from) ≡ true = and-right (readsTranslation c) (behind (entry .edition) (entry .from)) (one-of (readsTranslation c && behind (entry .edition) (entry .from)) (writesTranslation c && not (eqb (c .edition) (entry .edition))) row (ap (λ (b : Bool). b && not (eqb (c .edition) (entry .edition))) no-write)) in (
+      let fits : markFits (entry .mark) (c .expected) ≡ true = not-false (markFits (entry .mark) (c .expected))
+      (not-true (not (markFits (entry .mark) (c .expected))) (and-left (not (not (markFits (entry .mark) (c .expected)))) _ fifth)) in
+      let late : behind (entry .edition) (entry .from) ≡ true = and-right (readsTranslation c) (behind (entry .edition) (entry .from))
+      (one-of (readsTranslation c && behind (entry .edition) (entry .from)) (writesTranslation c && not (eqb (c .edition) (entry .edition))) row
+      (ap (λ (b : Bool). b && not (eqb (c .edition) (entry .edition))) no-write)) in (
         eqb-true (c .expected .desk) (entry .mark .desk) (and-left (eqb (c .expected .desk) (entry .mark .desk)) _ fits),
         not-true (cur (at (k .cs) (c .card))) (sym (seen well) ∙ late),
       )

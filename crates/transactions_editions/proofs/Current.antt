@@ -14,16 +14,16 @@ use Rattle.commands.specs.Command.{original, isWrite, writes, writesTranslation
 use Rattle.commands.specs.Bytes.{payload}
 use Rattle.commands.proofs.Rules.{CommandRules}
 use Rattle.commands.proofs.CommandBytes.{language-within}
-use Rattle.model.proofs.Formed.{formed-rules}
+use Rattle.store_model.proofs.Formed.{formed-rules}
 use Rattle.guard.specs.Entry.{entrySound}
 use Rattle.guard.specs.Judge.{behind, raise}
 use Rattle.guard.specs.declared.Entry.{Entry}
 use Rattle.image.specs.Image.{Card, Cards, GoodCards, view, translationOf}
-use Rattle.model.specs.Serve.{stepped}
-use Rattle.model.specs.Words.{Sent}
-use Rattle.model.proofs.Machine.{numberOn, Passed, passed}
-use Rattle.model.proofs.Stepped.{from-step}
-use Rattle.recovery_model.proofs.Texts.{counted}
+use Rattle.store_model.specs.Serve.{stepped}
+use Rattle.store_model.specs.Words.{Sent}
+use Rattle.store_model.proofs.Machine.{numberOn, Passed, passed}
+use Rattle.store_model.proofs.Stepped.{from-step}
+use Rattle.redo_recovery_model.proofs.Texts.{counted}
 use Rattle.transactions.specs.System.{commandIn}
 use Rattle.transactions.proofs.Serving.{at, then, stepped-here}
 
@@ -76,10 +76,13 @@ module _ (cs : Cards) (s : Sent) (gc : GoodCards V1 cs) (z : numberOn V1 cs s �
   edition-now = refl
 
   cur-now : cur now ≡ cond (isWrite c) (writesTranslation c) (cur stored)
-  cur-now = ap (λ (n : ℕ). not (behind n (translationOf 0 now .from))) edition-now ∙ ap (λ (n : ℕ). not (behind (cond (writes original c) (stored .edition + 1) (stored .edition)) n)) from-now ∙ go (cases (writes original c)) (cases (writesTranslation c))
+  cur-now = ap (λ (n : ℕ). not (behind n (translationOf 0 now .from))) edition-now ∙ ap
+      (λ (n : ℕ). not (behind (cond (writes original c) (stored .edition + 1) (stored .edition)) n)) from-now ∙ go (cases (writes original c))
+      (cases (writesTranslation c))
     where
       go : (writes original c ≡ true) ⊎ (writes original c ≡ false) → (writesTranslation c ≡ true) ⊎ (writesTranslation c ≡ false)
-          → not (behind (cond (writes original c) (stored .edition + 1) (stored .edition)) (cond (writesTranslation c) (c .edition) (translationOf 0 stored .from))) ≡ cond (isWrite c) (writesTranslation c) (cur stored)
+          → not (behind (cond (writes original c) (stored .edition + 1) (stored .edition))
+          (cond (writesTranslation c) (c .edition) (translationOf 0 stored .from))) ≡ cond (isWrite c) (writesTranslation c) (cur stored)
       go (inl p) (inl q) = absurd (omega (arith, eqb-true (c .act) 3 p, eqb-true (c .act) 4 q))
       go (inl p) (inr q) =
           let newer : eqb (translationOf 0 stored .from) (stored .edition + 1) ≡ false = ne-eqb (translationOf 0 stored .from) (stored .edition + 1) (λ w. omega (arith, source)) in

@@ -11,8 +11,8 @@ use lib.Dec.{eqb, ltb}
 use Rattle.lists.proofs.Tests.{cases, and-left, and-right, and-in}
 use Rattle.commands.specs.Command.{Language, original, translation}
 use Rattle.redo_log.specs.Log.{LogRecord, commitKind, recordCard, recordSide, recordTransaction, opened}
-use Rattle.recovery_model.specs.Recovery.{recordIn, transactionIn, due}
-use Rattle.recovery_model.specs.Claims.{sideIs, rewrites}
+use Rattle.redo_recovery_model.specs.Recovery.{recordIn, transactionIn, due}
+use Rattle.redo_recovery_model.specs.Claims.{sideIs, rewrites}
 use Rattle.transactions.specs.System.{dueFor, updateIn, changesText}
 use Rattle.transactions.proofs.Records.{more, length-more, in-old, due-past, Ordered, Followed}
 use Rattle.transactions.proofs.Due.{placed, outside, hit, miss, earlier}
@@ -47,7 +47,9 @@ due-none rs k i e = due-two rs k i ∙ either (rewrites rs original k i) (rewrit
 
 -- A line that rewrites a text of the card is due for it.
 pub due-of : (rs : List LogRecord) (k i : ℕ) (l : Language) → rewrites rs l k i ≡ true → dueFor rs k i ≡ true
-due-of rs k i l e = and-in (and-left (due rs i) (eqb (recordCard (recordIn rs i)) k && sideIs l (recordSide (recordIn rs i))) e) (and-left (eqb (recordCard (recordIn rs i)) k) (sideIs l (recordSide (recordIn rs i))) (and-right (due rs i) (eqb (recordCard (recordIn rs i)) k && sideIs l (recordSide (recordIn rs i))) e))
+due-of rs k i l e = and-in (and-left (due rs i) (eqb (recordCard (recordIn rs i)) k && sideIs l (recordSide (recordIn rs i))) e)
+    (and-left (eqb (recordCard (recordIn rs i)) k) (sideIs l (recordSide (recordIn rs i)))
+    (and-right (due rs i) (eqb (recordCard (recordIn rs i)) k && sideIs l (recordSide (recordIn rs i))) e))
 
 pub past-due : (rs : List LogRecord) (k i : ℕ) → length rs ≤ i → dueFor rs k i ≡ false
 past-due rs k i h = ap (λ (b : Bool). b && eqb (recordCard (recordIn rs i)) k) (due-past rs i h)
@@ -182,7 +184,8 @@ module _ (rs : List LogRecord) (r : LogRecord) (k : ℕ) where
             let was : dueFor rs k n ≡ false = due-none rs k n (λ l. hit rs r o f commits l k n h e .0) in
             let is : dueFor (more rs r) k n ≡ updates n =
             due-two (more rs r) k n
-            ∙ either (rewrites (more rs r) original k n) (rewrites (more rs r) (translation 0) k n) (changesText rs t original k n) (changesText rs t (translation 0) k n) (hit rs r o f commits original k n h e .1) (hit rs r o f commits (translation 0) k n h e .1)
+            ∙ either (rewrites (more rs r) original k n) (rewrites (more rs r) (translation 0) k n) (changesText rs t original k n)
+            (changesText rs t (translation 0) k n) (hit rs r o f commits original k n h e .1) (hit rs r o f commits (translation 0) k n h e .1)
             ∙ sym (updates-two rs t k n) in
             ap (λ (b : Bool). cond b v (currentWith rs t k n w)) is
             ∙ ap (λ (b : Bool). cond (updates n) v (currentWith rs t k n (cond b v w))) (sym was)

@@ -16,13 +16,13 @@ use Rattle.commands.specs.declared.Command.{Command}
 use Rattle.commands.specs.Command.{isWrite, writesTranslation}
 use Rattle.image.specs.Image.{Card, Cards, GoodCards, encode, decode}
 use Rattle.image_claims.proofs.Claims.{goodEncodes}
-use Rattle.model.specs.Words.{Sent}
-use Rattle.model.proofs.Machine.{cardsFrom}
+use Rattle.store_model.specs.Words.{Sent}
+use Rattle.store_model.proofs.Machine.{cardsFrom}
 use Rattle.redo_log.specs.Log.{LogRecord, recordCard, recordSide, records}
-use Rattle.recovery_model.specs.Recovery.{Pairs, FitsPairs, Recovery, recordIn, due, recoveryPair, recovering}
-use Rattle.recovery_model.proofs.Steps.{Idle, Sends, next}
-use Rattle.recovery_model.proofs.Sending.{FitsRecords}
-use Rattle.recovery_model.proofs.Texts.{before-zero, number-here}
+use Rattle.redo_recovery_model.specs.Recovery.{Pairs, FitsPairs, Recovery, recordIn, due, recoveryPair, recovering}
+use Rattle.redo_recovery_model.proofs.Steps.{Idle, Sends, next}
+use Rattle.redo_recovery_model.proofs.Sending.{FitsRecords}
+use Rattle.redo_recovery_model.proofs.Texts.{before-zero, number-here}
 use Rattle.transactions.specs.System.{OneDesk, Shown, recover, commandIn, dueFor, lawful, shownBy, afterStep}
 use Rattle.transactions.proofs.Records.{All}
 use Rattle.transactions.proofs.Serving.{at, then}
@@ -89,7 +89,8 @@ module _ (pairs : Pairs) (rs : List LogRecord) (cs : Cards) (gc : GoodCards V1 c
 
 -- ---- the step
 
-module _ (d : ℕ) (y : OneDesk) (k : Kept d y) (c : ℕ → Bool) (w : Turned d (records (y .log)) (y .orders) (y .shown) c (k .cs)) (pairs : Pairs) (lines : ℕ) (fp : FitsPairs pairs) (h : lawful d y (recover pairs lines) ≡ true) where
+module _ (d : ℕ) (y : OneDesk) (k : Kept d y) (c : ℕ → Bool) (w : Turned d (records (y .log)) (y .orders) (y .shown) c (k .cs)) (pairs : Pairs)
+    (lines : ℕ) (fp : FitsPairs pairs) (h : lawful d y (recover pairs lines) ≡ true) where
   abbrev lrs : List LogRecord
   lrs = records (y .log)
 
@@ -151,7 +152,8 @@ module _ (d : ℕ) (y : OneDesk) (k : Kept d y) (c : ℕ → Bool) (w : Turned d
     tells-lines (suc i) = go (due lrs i) (tells-lines i)
       where
         go : (b : Bool) → AllTell (shownBy pairs lrs lines i (y .shown))
-            → AllTell (cond b (record { card = recordCard (recordIn lrs i); x = recoveryPair pairs (recordCard (recordIn lrs i)) .x; reach = lines } ∷ shownBy pairs lrs lines i (y .shown)) (shownBy pairs lrs lines i (y .shown)))
+            → AllTell (cond b (record { card = recordCard (recordIn lrs i); x = recoveryPair pairs (recordCard (recordIn lrs i)) .x; reach = lines }
+            ∷ shownBy pairs lrs lines i (y .shown)) (shownBy pairs lrs lines i (y .shown)))
         go true rest = (tells-line (recordCard (recordIn lrs i)) (recoveryPair pairs (recordCard (recordIn lrs i)) .x), rest)
         go false rest = rest
 

@@ -17,13 +17,37 @@ use Rattle.commands.specs.Command.{Language, original, isWrite, writes, writesT
 use Rattle.commands.specs.Bytes.{formed}
 use Rattle.image.specs.Image.{Card, Cards, decode}
 use Rattle.image_claims.proofs.Claims.{goodEncodes}
-use Rattle.model.specs.Words.{Sent}
-use Rattle.model.specs.Claims.{SentBytes}
-use Rattle.model.proofs.Machine.{numberOn}
+use Rattle.store_model.specs.Words.{Sent}
+use Rattle.store_model.specs.Claims.{SentBytes}
+use Rattle.store_model.proofs.Machine.{numberOn}
 use Rattle.redo_log.specs.Log.{LogRecord, recordCard, recordSide, records}
-use Rattle.recovery_model.specs.Recovery.{recordIn, due}
-use Rattle.recovery_model.proofs.Steps.{next}
-use Rattle.transactions.specs.System.{OneDesk, Order, Shown, other, order, arrive, noOrder, noShown, commandIn, expects, leaves, prepares, writesOut, releases, dueFor, writtenOut, opensAbove, orderly, writesLine, lawful, outcome, reachOf, afterStep}
+use Rattle.redo_recovery_model.specs.Recovery.{recordIn, due}
+use Rattle.redo_recovery_model.proofs.Steps.{next}
+use Rattle.transactions.specs.System.{
+  OneDesk,
+  Order,
+  Shown,
+  other,
+  order,
+  arrive,
+  noOrder,
+  noShown,
+  commandIn,
+  expects,
+  leaves,
+  prepares,
+  writesOut,
+  releases,
+  dueFor,
+  writtenOut,
+  opensAbove,
+  orderly,
+  writesLine,
+  lawful,
+  outcome,
+  reachOf,
+  afterStep,
+}
 use Rattle.transactions.proofs.Records.{All}
 use Rattle.transactions.proofs.Serving.{at, then, Taken, taken, kept}
 use Rattle.transactions.proofs.Kept.{bears, Clear, cardFor, relies, Ready, Fine, preparing, releasing, writing, Safe, Told, Kept, all-at}
@@ -78,10 +102,12 @@ module _ (d : ℕ) (y : OneDesk) (k : Kept d y) (new : Cards) (moved : (j : ℕ)
 
   pub sent-moved : All (λ (o : Order). Done d lines (at (k .cs) (cardFor o)) o) (y .orders) → All (λ (o : Order). Done d lines (at new (cardFor o)) o) (y .orders)
   sent-moved w =
-      all-both (λ (o : Order). Safe d lines (cardFor o) (at (k .cs) (cardFor o)) o) (λ (o : Order). Done d lines (at (k .cs) (cardFor o)) o) (λ (o : Order). Done d lines (at new (cardFor o)) o) (y .orders)
+      all-both (λ (o : Order). Safe d lines (cardFor o) (at (k .cs) (cardFor o)) o) (λ (o : Order). Done d lines (at (k .cs) (cardFor o)) o)
+      (λ (o : Order). Done d lines (at new (cardFor o)) o) (y .orders)
       (λ o s q. go o s q (moved (cardFor o))) (k .sent) w
     where
-      go : (o : Order) → Safe d lines (cardFor o) (at (k .cs) (cardFor o)) o → Done d lines (at (k .cs) (cardFor o)) o → Moved d (at (k .cs) (cardFor o)) (at new (cardFor o)) → Done d lines (at new (cardFor o)) o
+      go : (o : Order) → Safe d lines (cardFor o) (at (k .cs) (cardFor o)) o → Done d lines (at (k .cs) (cardFor o)) o → Moved d
+          (at (k .cs) (cardFor o)) (at new (cardFor o)) → Done d lines (at new (cardFor o)) o
       go o s q (still e) = subst (λ (c : Card). Done d lines c o) (sym e) q
       go o s q (up u) = λ r live b. absurd (omega (arith, live, u, s .below))
       go o s q (off n) = λ r live b. absurd (never-both b n)
@@ -91,7 +117,8 @@ module _ (d : ℕ) (y : OneDesk) (k : Kept d y) (new : Cards) (moved : (j : ℕ)
       all-both (λ (v : Shown). Told d lines (v .card) (at (k .cs) (v .card)) v) (λ (v : Shown). Tells d lines (at (k .cs) (v .card)) v) (λ (v : Shown). Tells d lines (at new (v .card)) v) (y .shown)
       (λ v s q. go v s q (moved (v .card))) (k .told) w
     where
-      go : (v : Shown) → Told d lines (v .card) (at (k .cs) (v .card)) v → Tells d lines (at (k .cs) (v .card)) v → Moved d (at (k .cs) (v .card)) (at new (v .card)) → Tells d lines (at new (v .card)) v
+      go : (v : Shown) → Told d lines (v .card) (at (k .cs) (v .card)) v → Tells d lines (at (k .cs) (v .card)) v → Moved d (at (k .cs) (v .card))
+          (at new (v .card)) → Tells d lines (at new (v .card)) v
       go v s q (still e) = subst (λ (c : Card). Tells d lines c v) (sym e) q
       go v s q (up u) = λ live b. absurd (omega (arith, live, u, s .low))
       go v s q (off n) = λ live b. absurd (never-both b n)
@@ -119,7 +146,8 @@ module _ (d : ℕ) (y : OneDesk) (k : Kept d y) (c : ℕ → Bool) (w : Turned d
   c-refused n e j = let no : eqb (outcome y s .answer .number) 0 ≡ false = ne-eqb (outcome y s .answer .number) 0 (λ z. omega (arith, number-now d y k s, e)) in rw no
 
   c-other : (j : ℕ) → eqb (cmd .card) j ≡ false → c-now j ≡ c j
-  c-other j e = ap (λ (t : Bool). cond (t && isWrite cmd) (writesTranslation cmd) (c j)) (ap (λ (t : Bool). eqb (outcome y s .answer .number) 0 && t) e ∙ and-false (eqb (outcome y s .answer .number) 0))
+  c-other j e = ap (λ (t : Bool). cond (t && isWrite cmd) (writesTranslation cmd) (c j))
+      (ap (λ (t : Bool). eqb (outcome y s .answer .number) 0 && t) e ∙ and-false (eqb (outcome y s .answer .number) 0))
 
   turned-refused : (n : ℕ) → numberOn V1 (k .cs) s ≡ suc n → Turned d (records (y .log)) (y .orders) (answered ∷ y .shown) c-now cards
   turned-refused n e =
@@ -173,7 +201,8 @@ module _ (d : ℕ) (y : OneDesk) (k : Kept d y) (c : ℕ → Bool) (w : Turned d
         plain-at j q (inl e) = subst (λ (n : ℕ). cur (at cards n) ≡ c-now n) (eqb-true (cmd .card) j e) cur-here
         plain-at j q (inr e) = ap cur (t .others j e) ∙ w .plain j (subst (λ (card : Card). bears d card ≡ false) (t .others j e) q) ∙ sym (c-other j e)
 
-        marked-at : (j : ℕ) → bears d (at cards j) ≡ true → (eqb (cmd .card) j ≡ true) ⊎ (eqb (cmd .card) j ≡ false) → currentBy (records (y .log)) j (length (records (y .log))) (cur (at cards j)) ≡ c-now j
+        marked-at : (j : ℕ) → bears d (at cards j) ≡ true → (eqb (cmd .card) j ≡ true) ⊎ (eqb (cmd .card) j ≡ false) → currentBy (records (y .log)) j
+            (length (records (y .log))) (cur (at cards j)) ≡ c-now j
         marked-at j q (inl e) = absurd (never-both q (subst (λ (n : ℕ). bears d (at cards n) ≡ false) (eqb-true (cmd .card) j e) is-off))
         marked-at j q (inr e) =
             ap (λ (card : Card). currentBy (records (y .log)) j (length (records (y .log))) (cur card)) (t .others j e)
@@ -215,10 +244,14 @@ module _ (d : ℕ) (y : OneDesk) (c : ℕ → Bool) (w : Holds d y c) (s : Sent)
   opens = and-right (ltb from (length (y .shown))) (opensAbove ocmd v) (and-left first-two (orderly d ors s line (v .reach)) h)
 
   same-card : v .card ≡ ocmd .card
-  same-card = eqb-true (v .card) (ocmd .card) (and-left (eqb (v .card) (ocmd .card)) (eqb (verifier ocmd .x) (v .x)) (and-left (eqb (v .card) (ocmd .card) && eqb (verifier ocmd .x) (v .x)) (ltb (v .x) (update ocmd .x)) opens))
+  same-card = eqb-true (v .card) (ocmd .card)
+      (and-left (eqb (v .card) (ocmd .card)) (eqb (verifier ocmd .x) (v .x))
+      (and-left (eqb (v .card) (ocmd .card) && eqb (verifier ocmd .x) (v .x)) (ltb (v .x) (update ocmd .x)) opens))
 
   same-x : verifier ocmd .x ≡ v .x
-  same-x = eqb-true (verifier ocmd .x) (v .x) (and-right (eqb (v .card) (ocmd .card)) (eqb (verifier ocmd .x) (v .x)) (and-left (eqb (v .card) (ocmd .card) && eqb (verifier ocmd .x) (v .x)) (ltb (v .x) (update ocmd .x)) opens))
+  same-x = eqb-true (verifier ocmd .x) (v .x)
+      (and-right (eqb (v .card) (ocmd .card)) (eqb (verifier ocmd .x) (v .x))
+      (and-left (eqb (v .card) (ocmd .card) && eqb (verifier ocmd .x) (v .x)) (ltb (v .x) (update ocmd .x)) opens))
 
   -- A release is neither a prepare nor a write.
   abbrev pt : Bool
@@ -267,7 +300,8 @@ module _ (d : ℕ) (y : OneDesk) (c : ℕ → Bool) (w : Holds d y c) (s : Sent)
       tells = subst (λ (n : ℕ). at (decode V1 (y .image)) n .pair .x ≤ v .x → bears d (at (decode V1 (y .image)) n) ≡ true → Onwards ors n (v .reach) (cur (at (decode V1 (y .image)) n))) same-card
           (all-at (λ (q : Shown). Tells d ors (at (decode V1 (y .image)) (q .card)) q) (y .shown) from noShown inside (w .told))
 
-      both : currentBy ors (ocmd .card) (v .reach) (cur here) ≡ cur here → (ltb (v .reach) (length ors) ≡ true) ⊎ (ltb (v .reach) (length ors) ≡ false) → currentBy ors (ocmd .card) (length ors) (cur here) ≡ cur here
+      both : currentBy ors (ocmd .card) (v .reach) (cur here) ≡ cur here → (ltb (v .reach) (length ors) ≡ true) ⊎
+          (ltb (v .reach) (length ors) ≡ false) → currentBy ors (ocmd .card) (length ors) (cur here) ≡ cur here
       both e (inl g) = by-none ors (ocmd .card) (v .reach) (length ors) (cur here) (omega (arith, ltb-true (v .reach) (length ors) g)) (λ i p q. out i p) ∙ e
       both e (inr g) = sym (by-none ors (ocmd .card) (length ors) (v .reach) (cur here) (ltb-false (v .reach) (length ors) g) (λ i p q. past-due ors (ocmd .card) i p)) ∙ e
 
@@ -382,7 +416,9 @@ module _ (d : ℕ) (y : OneDesk) (k : Kept d y) (c : ℕ → Bool) (w : Turned d
 
     by-kind : Fine d ars (ac .card) was o → Turned d ars (y .orders) (heard ∷ y .shown) c acards
     by-kind (preparing p f) =
-        arrived (λ e. absurd (never-both borne e)) (λ e. by-clear ars (ac .card) (length ars) (cur is) none-due ∙ stays-so unwritten ∙ w .plain (ac .card) unborne) (says-nothing d ars is heard (reach-unwritten unwritten))
+        arrived (λ e. absurd (never-both borne e))
+        (λ e. by-clear ars (ac .card) (length ars) (cur is) none-due ∙ stays-so unwritten ∙ w .plain (ac .card) unborne)
+        (says-nothing d ars is heard (reach-unwritten unwritten))
       where
         unwritten : isWrite ac ≡ false
         unwritten = not-true (isWrite ac) (and-left (not (isWrite ac)) (eqb (ac .expected .desk) 0) (and-left (not (isWrite ac) && eqb (ac .expected .desk) 0) (leaves d ac) p))
@@ -394,7 +430,8 @@ module _ (d : ℕ) (y : OneDesk) (k : Kept d y) (c : ℕ → Bool) (w : Turned d
         unborne =
             bears-old false
             (ne-eqb (ac .expected .desk) d
-            (λ e. k .some (sym e ∙ eqb-true (ac .expected .desk) 0 (and-right (not (isWrite ac)) (eqb (ac .expected .desk) 0) (and-left (not (isWrite ac) && eqb (ac .expected .desk) 0) (leaves d ac) p)))))
+            (λ e. k .some (sym e ∙ eqb-true (ac .expected .desk) 0
+            (and-right (not (isWrite ac)) (eqb (ac .expected .desk) 0) (and-left (not (isWrite ac) && eqb (ac .expected .desk) 0) (leaves d ac) p)))))
 
         clear : (bears d was ≡ true) ⊎ Clear ars (ac .card) → Clear ars (ac .card)
         clear (inl e) = absurd (never-both e unborne)

@@ -7,7 +7,7 @@ use mathlib.Core.List.{List, [], _∷_, _++_}
 use mathlib.Core.Bool.{true, false}
 use lib.ListN.{take}
 use Rattle.stamps.specs.Stamp.{exclusive, noMark}
-use Rattle.model.specs.Cases.{pair, withPairs, sends, text205, text401, long}
+use Rattle.store_model.specs.Cases.{pair, withPairs, sends, text205, text401, long}
 use Rattle.redo_log.specs.Log.{LogRecord}
 use Rattle.redo_log_claims.specs.Cases.{beginOf, commitOf}
 use Rattle.transactions.specs.System.{OneDesk, Step, other, order, arrive, outcome, afterSteps}

@@ -9,13 +9,14 @@ use mathlib.Core.Bool.{Bool, true, false, cond, not, _&&_}
 use lib.ListN.{length}
 use lib.Dec.{eqb}
 use Rattle.commands.specs.Command.{isWrite, readsTranslation, writesTranslation}
-use Rattle.guard.specs.Judge.{EDITION-WRONG, behind}
-use Rattle.model.specs.Words.{Sent}
+use Rattle.guard.specs.Judge.{behind}
+use Rattle.store_model.specs.Words.{Sent}
 use Rattle.redo_log.specs.Log.{LogRecord, commitKind, recordCard, recordSide, recordTransaction, records}
 use Rattle.redo_log.specs.Append.{appendNumber}
-use Rattle.recovery_model.specs.Recovery.{recordIn, entryFor}
+use Rattle.redo_recovery_model.specs.Recovery.{recordIn, entryFor}
 use Rattle.transactions.specs.System.{OneDesk, Step, other, order, arrive, append, crash, recover, renew, oneDeskOpening, commandIn, markIn, expects, dueFor, updateIn, outcome, afterStep}
 use Rattle.transactions.specs.Claims.{Moment}
+use Rattle.numbers.specs.Numbers.{EDITION-WRONG}
 
 -- ---- what is meant
 

@@ -23,16 +23,16 @@ use Rattle.guard.specs.Entry.{entrySound}
 use Rattle.guard.specs.Judge.{lastEdition, editionsSpent, raise}
 use Rattle.image.specs.Image.{Card, Cards, GoodCards, view, encode, decode, sound}
 use Rattle.image_claims.proofs.Claims.{soundReadsBack, goodEncodes}
-use Rattle.model.specs.Serve.{stepped}
-use Rattle.model.specs.Words.{Sent}
-use Rattle.model.proofs.Machine.{numberOn, count-kept, cardsBy, cardsFrom}
+use Rattle.store_model.specs.Serve.{stepped}
+use Rattle.store_model.specs.Words.{Sent}
+use Rattle.store_model.proofs.Machine.{numberOn, count-kept, cardsBy, cardsFrom}
 use Rattle.redo_log.specs.Log.{LogRecord, recordCard, recordSide, recordText, goodLog, records}
-use Rattle.recovery_model.specs.Recovery.{Pairs, FitsPairs, Recovery, recordIn, due, recoveryPair, entryFor, writeOf, recoverySent, recovering, recovered}
-use Rattle.recovery_model.specs.Claims.{textIn, sideIs, rewrites}
-use Rattle.recovery_model.proofs.Steps.{R, S, Idle, Sends, next}
-use Rattle.recovery_model.proofs.Sending.{FitsRecords, fits-log, fits-here}
-use Rattle.recovery_model.proofs.Never.{fits-itself, right-edition, no-reply}
-use Rattle.recovery_model.proofs.Texts.{cards-good, decode-is, number-here, cards-next, fields-here}
+use Rattle.redo_recovery_model.specs.Recovery.{Pairs, FitsPairs, Recovery, recordIn, due, recoveryPair, entryFor, writeOf, recoverySent, recovering, recovered}
+use Rattle.redo_recovery_model.specs.Claims.{textIn, sideIs, rewrites}
+use Rattle.redo_recovery_model.proofs.Steps.{R, S, Idle, Sends, next}
+use Rattle.redo_recovery_model.proofs.Sending.{FitsRecords, fits-log, fits-here}
+use Rattle.redo_recovery_model.proofs.Never.{fits-itself, right-edition, no-reply}
+use Rattle.redo_recovery_model.proofs.Texts.{cards-good, decode-is, number-here, cards-next, fields-here}
 use Rattle.transactions.specs.System.{commandIn, markIn, storedX, dueFor, writtenOut, rewritable, afterStep}
 use Rattle.transactions.proofs.Serving.{at, then, taken, stepped-here}
 use Rattle.transactions.proofs.Kept.{Kept}
@@ -329,7 +329,13 @@ one-step-finishes d y pairs m fp h can may j l =
         go : (n : ℕ) → n < length (records (y .log)) → (dueFor (records (y .log)) i n ≡ true) ⊎ (dueFor (records (y .log)) i n ≡ false) → (ltb n 0 || not (dueFor (records (y .log)) i n)) ≡ true
         go n q (inr f) = or-right (ltb n 0) (ap not f)
         go n q (inl f) =
-            let here : recordCard (recordIn (records (y .log)) n) ≡ i = eqb-true (recordCard (recordIn (records (y .log)) n)) i (and-right (due (records (y .log)) n) (eqb (recordCard (recordIn (records (y .log)) n)) i) f) in
-            let one = every-out (rewritable d (y .image) (records (y .log)) pairs) (length (records (y .log))) (and-right (leb (length (records (y .log))) (length (records (y .log)))) (every (rewritable d (y .image) (records (y .log)) pairs) (length (records (y .log)))) h) n q in
-            let bearing = and-left (eqb (markIn (y .image) (recordCard (recordIn (records (y .log)) n)) .desk) d) (ltb (storedX (y .image) (recordCard (recordIn (records (y .log)) n))) (recoveryPair pairs (recordCard (recordIn (records (y .log)) n)) .x)) (if-due (due (records (y .log)) n) (and-left (due (records (y .log)) n) (eqb (recordCard (recordIn (records (y .log)) n)) i) f) one) in
+            let here : recordCard (recordIn (records (y .log)) n) ≡ i = eqb-true (recordCard (recordIn (records (y .log)) n)) i
+            (and-right (due (records (y .log)) n) (eqb (recordCard (recordIn (records (y .log)) n)) i) f) in
+            let one = every-out (rewritable d (y .image) (records (y .log)) pairs) (length (records (y .log)))
+            (and-right (leb (length (records (y .log))) (length (records (y .log))))
+            (every (rewritable d (y .image) (records (y .log)) pairs) (length (records (y .log)))) h) n q in
+            let bearing = and-left (eqb (markIn (y .image) (recordCard (recordIn (records (y .log)) n)) .desk) d)
+            (ltb (storedX (y .image) (recordCard (recordIn (records (y .log)) n)))
+            (recoveryPair pairs (recordCard (recordIn (records (y .log)) n)) .x))
+            (if-due (due (records (y .log)) n) (and-left (due (records (y .log)) n) (eqb (recordCard (recordIn (records (y .log)) n)) i) f) one) in
             absurd (never-both (subst (λ (m : ℕ). eqb (markIn (y .image) m .desk) d ≡ true) here bearing) e)

@@ -2,13 +2,29 @@
 use Prim.Native.Nat.{ℕ}
 use mathlib.Core.Path.{_≡_, refl, sym, ap, _∙_, subst}
 use mathlib.Core.List.{List, [], _∷_}
-use mathlib.Core.Bool.{Bool, true, false, cond, not, _&&_}
+use mathlib.Core.Bool.{Bool, true, cond, not, _&&_}
 use borrow.Author.Tests.{eqb-true, eq-eqb}
 use lib.Dec.{eqb}
 use Rattle.lists.proofs.Tests.{and-left, and-right}
-use Rattle.transactions.specs.System.{OneDesk, Holding, unknown, Step, crash, oneDeskOpening, lawful, afterStep, afterSteps, lawfulAll}
-use Rattle.transactions.specs.Claims.{StepBytes, AllSteps, Moment}
-use Rattle.transactions_progress.specs.Holders.{Holders, seenAs, Acting, takes, acts, comes, isAct, lawfulActing, minding, afterActing, afterActings, lawfulActings, ActingBytes, holdersOpening, HoldersAreOne}
+use Rattle.transactions.specs.System.{OneDesk, Holding, unknown, Step, crash, lawful, afterStep, afterSteps, lawfulAll}
+use Rattle.transactions.specs.Claims.{AllSteps}
+use Rattle.transactions_progress.specs.Holders.{
+  Holders,
+  seenAs,
+  Acting,
+  takes,
+  acts,
+  comes,
+  isAct,
+  lawfulActing,
+  minding,
+  afterActing,
+  afterActings,
+  lawfulActings,
+  ActingBytes,
+  holdersOpening,
+  HoldersAreOne,
+}
 
 abbrev stepFor : Acting → Step
 stepFor (takes who) = crash

@@ -18,9 +18,9 @@ use Rattle.commands.specs.Command.{wellFormed, verifier, update}
 use Rattle.commands.specs.Bytes.{fieldsOf, formed}
 use Rattle.guard.specs.Judge.{wrongEdition, editionsSpent, replyShort}
 use Rattle.image.specs.Image.{Cards}
-use Rattle.model.specs.Serve.{requestRows, entryOf}
-use Rattle.model.specs.Words.{Sent}
-use Rattle.model.proofs.Machine.{numberOn}
+use Rattle.store_model.specs.Serve.{requestRows, entryOf}
+use Rattle.store_model.specs.Words.{Sent}
+use Rattle.store_model.proofs.Machine.{numberOn}
 
 -- ---- a request that no row refuses
 
@@ -44,9 +44,28 @@ pub well : (side : Bool) (card : ℕ) (pair : Pair) (mark : Mark) (edition size 
     → wellFormed (writing side card pair mark edition size) ≡ true
 unfolding wellFormed all allFrom
 well true card pair mark edition size p m e =
-    rw (or-true (eqb size 0), all-out (sessionChecks exclusive pair) p 1, all-out (sessionChecks exclusive pair) p 2, all-out (sessionChecks exclusive pair) p 3, le-leb (pair .s) (pair .s) (omega arith), le-leb (pair .x) (pair .x) (omega arith), m)
+    rw (
+      or-true (eqb size 0),
+      all-out (sessionChecks exclusive pair) p 1,
+      all-out (sessionChecks exclusive pair) p 2,
+      all-out
+          (sessionChecks exclusive pair) p 3,
+      le-leb (pair .s) (pair .s) (omega arith),
+      le-leb (pair .x) (pair .x) (omega arith),
+      m,
+    )
 well false card pair mark edition size p m e =
-    rw (e refl, or-true (eqb size 0), all-out (sessionChecks exclusive pair) p 1, all-out (sessionChecks exclusive pair) p 2, all-out (sessionChecks exclusive pair) p 3, le-leb (pair .s) (pair .s) (omega arith), le-leb (pair .x) (pair .x) (omega arith), m)
+    rw (
+      e refl,
+      or-true (eqb size 0),
+      all-out (sessionChecks exclusive pair) p 1,
+      all-out (sessionChecks exclusive pair) p 2,
+      all-out
+          (sessionChecks exclusive pair) p 3,
+      le-leb (pair .s) (pair .s) (omega arith),
+      le-leb (pair .x) (pair .x) (omega arith),
+      m,
+    )
 
 pub taken-by : (cs : Cards) (s : Sent) (c : Command) → fieldsOf V1 (s .command) ≡ c → formed V1 (s .command) ≡ true → ltb (c .card) (length (cs .cards)) ≡ true
     → stale (c .mode) (entryOf V1 cs c .pair) (verifier c) ≡ false

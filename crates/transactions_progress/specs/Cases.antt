@@ -8,11 +8,11 @@ use mathlib.Core.Bool.{Bool, true, false, cond}
 use Rattle.formats.specs.Format.{V1}
 use Rattle.stamps.specs.Stamp.{noPair, noMark}
 use Rattle.image.specs.Image.{encode, fresh}
-use Rattle.model.specs.Cases.{long, text205, text401}
+use Rattle.store_model.specs.Cases.{long, text205, text401}
 use Rattle.redo_log.specs.Log.{LogRecord, records}
 use Rattle.redo_log_claims.specs.Claims.{appendedAll}
 use Rattle.redo_log_claims.specs.Cases.{beginOf, updateOf, commitOf, emptyLog}
-use Rattle.recovery_model.specs.Recovery.{Pairs, recovered}
+use Rattle.redo_recovery_model.specs.Recovery.{Pairs, recovered}
 use Rattle.transactions.specs.System.{Step, lawful}
 use Rattle.transactions_cases.specs.Cases.{five, logs, ready, single}
 use Rattle.transactions_progress.specs.Progress.{canFinish, goodPairs}

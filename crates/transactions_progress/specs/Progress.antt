@@ -15,8 +15,8 @@ use Rattle.commands.specs.Command.{Language, original}
 use Rattle.guard.specs.Judge.{lastEdition}
 use Rattle.image.specs.Image.{decode, sound}
 use Rattle.redo_log.specs.Log.{LogRecord, recordCard, recordSide, recordText, goodLog, records}
-use Rattle.recovery_model.specs.Recovery.{Pairs, FitsPairs, recordIn, due, recoveryPair, entryFor, recovered}
-use Rattle.recovery_model.specs.Claims.{textIn, rewrites}
+use Rattle.redo_recovery_model.specs.Recovery.{Pairs, FitsPairs, recordIn, due, recoveryPair, entryFor, recovered}
+use Rattle.redo_recovery_model.specs.Claims.{textIn, rewrites}
 use Rattle.transactions.specs.System.{OneDesk, recover, lawful, afterStep}
 use Rattle.transactions.specs.Claims.{Moment}
 

@@ -36,13 +36,21 @@ slice-aggregate-print : tie.Need-slice-aggregate-print
 slice-aggregate-print c = search needs
 
 array-share-prefix-out : tie.Need-array-share-prefix-out
-array-share-prefix-out c = prints (take (c .before .before .before .before .before .before .read-full .result) (c .before .before .before .before .before .before .read-full .last .1 .0)) (replicate mostOutput 0) (c .before .before .output .ensures .0) (c .before .before .output .ensures .1) long .within
+array-share-prefix-out c =
+    let at6 = c .before .before .before .before .before .before in
+    prints (take (at6 .read-full .result) (at6 .read-full .last .1 .0)) (replicate mostOutput 0) (c .before .before .output .ensures .0) (c .before .before .output .ensures .1) long .within
 
 slice-aggregate-print-2 : tie.Need-slice-aggregate-print-2
-slice-aggregate-print-2 c = prints (take (c .before .before .before .before .before .before .before .read-full .result) (c .before .before .before .before .before .before .before .read-full .last .1 .0)) (replicate mostOutput 0) (c .before .before .before .output .ensures .0) (c .before .before .before .output .ensures .1) long .lends
+slice-aggregate-print-2 c =
+    let at3 = c .before .before .before in
+    let at7 = at3 .before .before .before .before in
+    prints (take (at7 .read-full .result) (at7 .read-full .last .1 .0)) (replicate mostOutput 0) (at3 .output .ensures .0) (at3 .output .ensures .1) long .lends
 
 print-requires : tie.Need-print-requires
-print-requires c κs = prints (take (c .before .before .before .before .before .before .before .read-full .result) (c .before .before .before .before .before .before .before .read-full .last .1 .0)) (replicate mostOutput 0) (c .before .before .before .output .ensures .0) (c .before .before .before .output .ensures .1) long .text
+print-requires c κs =
+    let at3 = c .before .before .before in
+    let at7 = at3 .before .before .before .before in
+    prints (take (at7 .read-full .result) (at7 .read-full .last .1 .0)) (replicate mostOutput 0) (at3 .output .ensures .0) (at3 .output .ensures .1) long .text
 
 returns : tie.Need-returns
 returns c = search needs

@@ -34,13 +34,20 @@ returns-2 : tie.Need-returns-2
 returns-2 c = sym (parsed-malformed _ _ (not-whole _ _ (c .before .before .before .fields .ensures) (c .before .before .before .before .before .fixed .ensures) (c .if2 .taken)))
 
 sub-all-zero : tie.Need-sub-all-zero
-sub-all-zero c = let n = numbers (formatOf (c .before .before .before .before .before .before .before .args .v)) in omega (arith, c .before .before .blank-at .ensures)
+sub-all-zero c =
+    let at7 = c .before .before .before .before .before .before .before in
+    let n = numbers (formatOf (at7 .args .v)) in omega (arith, c .before .before .blank-at .ensures)
 
 part-all-zero-start : tie.Need-part-all-zero-start
-part-all-zero-start c = let n = numbers (formatOf (c .before .before .before .before .before .before .before .args .v)) in omega (arith, c .before .before .blank-at .ensures)
+part-all-zero-start c =
+    let at7 = c .before .before .before .before .before .before .before in
+    let n = numbers (formatOf (at7 .args .v)) in omega (arith, c .before .before .blank-at .ensures)
 
 part-all-zero-end : tie.Need-part-all-zero-end
-part-all-zero-end c = let n = numbers (formatOf (c .before .before .before .before .before .before .before .args .v)) in omega (arith, c .before .before .before .before .before .fixed .ensures, c .before .before .before .before .if1 .left)
+part-all-zero-end c =
+    let at7 = c .before .before .before .before .before .before .before in
+    let n = numbers (formatOf (at7 .args .v)) in
+    omega (arith, c .before .before .before .before .before .fixed .ensures, c .before .before .before .before .if1 .left)
 
 all-zero-requires : tie.Need-all-zero-requires
 all-zero-requires c κs = search needs
@@ -50,7 +57,10 @@ unfolding part
 returns-3 c =
     let bytes = c .before .before .before .before .before .before .before .before .before .before .args .bytes .now in
     let blank = c .before .all-zero .ensures ∙ ap (λ (n : ℕ). zeros (part n (36 - n) bytes)) (c .before .before .before .before .before .blank-at .ensures) in
-    sym (parsed-malformed _ _ (not-blank _ bytes (c .before .before .before .before .before .before .fields .ensures) (c .before .before .before .before .before .before .before .before .fixed .ensures) (c .before .before .before .if2 .left) blank (not-true _ (c .if3 .taken))))
+    sym (parsed-malformed _ _
+    (not-blank _ bytes (c .before .before .before .before .before .before .fields .ensures)
+    (c .before .before .before .before .before .before .before .before .fixed .ensures) (c .before .before .before .if2 .left) blank
+    (not-true _ (c .if3 .taken))))
 
 well-formed-requires : tie.Need-well-formed-requires
 well-formed-requires c κs = search needs
@@ -60,7 +70,11 @@ unfolding part
 returns-4 c =
     let bytes = c .before .before .before .before .before .before .before .before .before .before .before .before .args .bytes .now in
     let blank = c .before .before .before .all-zero .ensures ∙ ap (λ (n : ℕ). zeros (part n (36 - n) bytes)) (c .before .before .before .before .before .before .before .blank-at .ensures) in
-    sym (parsed-malformed _ _ (by-rules _ bytes (c .before .before .before .before .before .before .before .before .fields .ensures) (c .before .before .before .before .before .before .before .before .before .before .fixed .ensures) (c .before .before .before .before .before .if2 .left) blank (not-false _ (c .before .before .if3 .left)) (c .before .well-formed .ensures) ∙ not-true _ (c .if4 .taken)))
+    sym (parsed-malformed _ _
+    (by-rules _ bytes (c .before .before .before .before .before .before .before .before .fields .ensures)
+    (c .before .before .before .before .before .before .before .before .before .before .fixed .ensures)
+    (c .before .before .before .before .before .if2 .left) blank (not-false _ (c .before .before .if3 .left)) (c .before .well-formed .ensures)
+    ∙ not-true _ (c .if4 .taken)))
 
 returns-5 : tie.Need-returns-5
 unfolding part
@@ -68,7 +82,11 @@ returns-5 c =
     let bytes = c .before .before .before .before .before .before .before .before .before .before .before .before .args .bytes .now in
     let blank = c .before .before .before .all-zero .ensures ∙ ap (λ (n : ℕ). zeros (part n (36 - n) bytes)) (c .before .before .before .before .before .before .before .blank-at .ensures) in
     ap Formed (c .before .before .before .before .before .before .before .before .fields .ensures)
-    ∙ sym (parsed-formed _ _ (by-rules _ bytes (c .before .before .before .before .before .before .before .before .fields .ensures) (c .before .before .before .before .before .before .before .before .before .before .fixed .ensures) (c .before .before .before .before .before .if2 .left) blank (not-false _ (c .before .before .if3 .left)) (c .before .well-formed .ensures) ∙ not-false _ (c .if4 .left)))
+    ∙ sym (parsed-formed _ _
+    (by-rules _ bytes (c .before .before .before .before .before .before .before .before .fields .ensures)
+    (c .before .before .before .before .before .before .before .before .before .before .fixed .ensures)
+    (c .before .before .before .before .before .if2 .left) blank (not-false _ (c .before .before .if3 .left)) (c .before .well-formed .ensures)
+    ∙ not-false _ (c .if4 .left)))
 
 pub parse-spec : {M : Type 1} → statement M
 parse-spec =

@@ -8,19 +8,27 @@ ghost use lib.ListN.{length};
 ghost use Rattle.formats.specs.Format.{V1};
 ghost use Rattle.lists.specs.Parts.{part};
 ghost use Rattle.guard.specs.Judge.{raise, lastEdition};
-ghost use Rattle.guard.specs.Entry.{noEntry};
 ghost use Rattle.stream.specs.Stream.{commands};
 ghost use Rattle.history.specs.WorkedOut.{entryFrom};
 ghost use Rattle.history.specs.Lent.{historySize};
-ghost use Rattle.history.specs.Steps.{writtenBy, Measured};
-use crate::Span;
-use crate::Totals;
+ghost use Rattle.history.specs.inner.Steps.{writtenBy, Measured};
 use commands::Command;
 use formats::FIXED_V1 as FIXED;
 use guard::Entry;
-use stamps::Mark;
-use stamps::Pair;
 use stream::Next;
+
+// Of some bytes: how many commands they hold, how many payload bytes these have in all, and the byte where they end.
+pub struct Totals {
+    pub count: usize,
+    pub payloads: usize,
+    pub end: usize,
+}
+
+// A part of some bytes.
+pub struct Span {
+    pub start: usize,
+    pub end: usize,
+}
 
 // How much some bytes keep.
 pub fn totals_of(kept: &[u8]) -> Totals
@@ -43,23 +51,6 @@ pub fn totals_of(kept: &[u8]) -> Totals
     }
 }
 
-// The entry of a card for which nothing was accepted.
-fn no_entry() -> Entry
-    ensures { λ r. ⌜ r ≡ noEntry ⌝ }
-{
-    Entry {
-        pair: Pair { s: 0, x: 0 },
-        mark: Mark {
-            desk: 0,
-            transaction: 0,
-        },
-        edition: 0,
-        from: 0,
-        original: 0,
-        translation: 0,
-    }
-}
-
 // The entry of a card after one more command, which may be for another card.
 fn taken(e: Entry, c: Command, card: u16) -> Entry
     requires { ⌜ e .edition < lastEdition ⌝ }
@@ -77,7 +68,7 @@ pub fn entry_of(kept: &[u8], card: u16) -> Entry
     ensures { λ r. ⌜ r ≡ entryFrom (reverse (commands V1 (now (kept .entry)))) card ⌝ }
 {
     let mut at = 0;
-    let mut e = no_entry();
+    let mut e = guard::NO_ENTRY;
     loop {
         let Next::Whole(end) = stream::next_at(formats::V1, kept, at) else {
             break e;

@@ -11,22 +11,27 @@ ghost use Rattle.stream.specs.Stream.{commands, endOf};
 ghost use Rattle.history.specs.Engine.{mostKept, mostPayload, readFrom};
 ghost use Rattle.commands.specs.Bytes.{fieldsOf, formed};
 ghost use Rattle.history.specs.Lent.{historySize};
-ghost use Rattle.history.specs.Steps.{writtenBy, weighed, historyCarried};
-use crate::FULL;
+ghost use Rattle.history.specs.inner.Steps.{writtenBy, weighed, historyCarried};
 use crate::HistoryAnswer;
 use crate::MOST_KEPT;
 use crate::MOST_PAYLOAD;
 use crate::SIZE;
-use crate::Totals;
-use crate::Weighed;
+use crate::inner::kept::Totals;
 use crate::inner::kept::entry_of;
 use crate::inner::kept::text_of;
 use crate::inner::kept::totals_of;
 use commands::Command;
 use commands::WRITE_ORIGINAL;
 use commands::WRITE_TRANSLATION;
-use guard::ACCEPTED;
 use guard::Judged;
+use numbers::ACCEPTED;
+use numbers::HISTORY_FULL;
+
+// What an entry says of a command, and the byte where the kept commands end.
+pub struct Weighed {
+    pub judged: Judged,
+    pub end: usize,
+}
 
 // Row 22: one more command with so many payload bytes would pass either limit.
 fn full(x: Totals, length: u16) -> bool
@@ -52,7 +57,7 @@ pub fn weigh(kept: &[u8], c: Command, room: u16, lent: usize) -> Weighed
     }
     if full(x, c.length) {
         let refused = Judged {
-            number: FULL,
+            number: HISTORY_FULL,
             entry: e,
         };
         return Weighed {

@@ -28,7 +28,9 @@ nothing-requires-2 c κs = search needs
 
 returns-2 : tie.Need-returns-2
 returns-2 c =
-    let is : c .before .before .size-of .result ≡ claimed (c .before .before .before .before .before .before .before .args .bytes .now) = c .before .before .size-of .ensures ∙ rw (c .before .before .before .room .ensures, c .before .before .before .before .count .ensures) in
+    let is : c .before .before .size-of .result ≡ claimed
+    (c .before .before .before .before .before .before .before .args .bytes .now) = c .before .before .size-of .ensures ∙ rw
+    (c .before .before .before .room .ensures, c .before .before .before .before .count .ensures) in
     c .nothing2 .ensures ∙ front-none _ (front-cut _ _ is (search needs) (c .before .if2 .taken))
 
 slice-aggregate-sound : tie.Need-slice-aggregate-sound
@@ -42,14 +44,20 @@ nothing-requires-3 c κs = search needs
 
 returns-3 : tie.Need-returns-3
 returns-3 c =
-    let is : c .before .before .before .before .before .size-of .result ≡ claimed (c .before .before .before .before .before .before .before .before .before .before .args .bytes .now) = c .before .before .before .before .before .size-of .ensures ∙ rw (c .before .before .before .before .before .before .room .ensures, c .before .before .before .before .before .before .before .count .ensures) in
+    let is : c .before .before .before .before .before .size-of .result ≡ claimed
+    (c .before .before .before .before .before .before .before .before .before .before .args .bytes .now) =
+    c .before .before .before .before .before .size-of .ensures ∙ rw
+    (c .before .before .before .before .before .before .room .ensures, c .before .before .before .before .before .before .before .count .ensures) in
     c .nothing3 .ensures
     ∙ front-none _
     (front-sound _ _ is (search needs) (search needs) ∙ sym (c .before .before .sound .ensures) ∙ not-true (c .before .before .sound .result) (c .before .if3 .taken))
 
 returns-4 : tie.Need-returns-4
 returns-4 c =
-    let is : c .before .before .before .before .size-of .result ≡ claimed (c .before .before .before .before .before .before .before .before .before .args .bytes .now) = c .before .before .before .before .size-of .ensures ∙ rw (c .before .before .before .before .before .room .ensures, c .before .before .before .before .before .before .count .ensures) in
+    let is : c .before .before .before .before .size-of .result ≡ claimed
+    (c .before .before .before .before .before .before .before .before .before .args .bytes .now) =
+    c .before .before .before .before .size-of .ensures ∙ rw
+    (c .before .before .before .before .before .room .ensures, c .before .before .before .before .before .before .count .ensures) in
     front-there _ _ _ _
     (front-sound _ _ is (search needs) (search needs) ∙ sym (c .before .sound .ensures) ∙ not-false (c .before .sound .result) (c .if3 .left))
     is

@@ -13,7 +13,9 @@ shape-ok-requires : tie.Need-shape-ok-requires
 shape-ok-requires c κs = search needs
 
 returns : tie.Need-returns
-returns c = let refused = not-shaped _ (c .before .before .before .args .cards) (c .before .before .before .args .room) (length (c .before .before .before .args .image .now)) (sym (c .before .shape-ok .ensures) ∙ not-true _ (c .if1 .taken)) in
+returns c =
+    let at3 = c .before .before .before in
+    let refused = not-shaped _ (at3 .args .cards) (at3 .args .room) (length (at3 .args .image .now)) (sym (c .before .shape-ok .ensures) ∙ not-true _ (c .if1 .taken)) in
     (rw refused, rw refused)
 
 cast-n : tie.Need-cast-n
@@ -26,8 +28,12 @@ size-of-requires : tie.Need-size-of-requires
 size-of-requires c κs = search needs
 
 returns-2 : tie.Need-returns-2
-returns-2 c = let refused =
-    not-lent _ (c .before .before .before .before .before .args .cards) (c .before .before .before .before .before .args .room) (length (c .before .before .before .before .before .args .image .now)) (sym (c .before .before .before .shape-ok .ensures) ∙ not-false _ (c .before .before .if1 .left)) (λ e. c .if2 .taken (e ∙ sym (c .before .size-of .ensures))) in
+returns-2 c =
+    let at5 = c .before .before .before .before .before in
+    let refused =
+    not-lent _ (at5 .args .cards) (at5 .args .room) (length (at5 .args .image .now))
+    (sym (c .before .before .before .shape-ok .ensures) ∙ not-false _ (c .before .before .if1 .left))
+    (λ e. c .if2 .taken (e ∙ sym (c .before .size-of .ensures))) in
     (rw refused, rw refused)
 
 fill-requires : tie.Need-fill-requires
@@ -37,7 +43,13 @@ same-length : tie.Need-same-length
 same-length c = search needs
 
 returns-3 : tie.Need-returns-3
-returns-3 c = let accepted = made _ (c .before .before .before .before .before .before .before .before .before .args .cards) (c .before .before .before .before .before .before .before .before .before .args .room) (length (c .before .before .before .before .before .before .before .before .before .args .image .now)) (sym (c .before .before .before .before .before .before .before .shape-ok .ensures) ∙ not-false _ (c .before .before .before .before .before .before .if1 .left)) (c .before .before .before .before .if2 .left ∙ c .before .before .before .before .before .size-of .ensures) in
+returns-3 c =
+    let at6 = c .before .before .before .before .before .before in
+    let at7 = at6 .before in
+    let at9 = at7 .before .before in
+    let accepted = made _ (at9 .args .cards) (at9 .args .room) (length (at9 .args .image .now))
+    (sym (at7 .shape-ok .ensures) ∙ not-false _ (at6 .if1 .left))
+    (c .before .before .before .before .if2 .left ∙ c .before .before .before .before .before .size-of .ensures) in
     (rw accepted, rw accepted (c .before .before .fill .ensures))
 
 pub make-spec : {M : Type 1} → statement M

@@ -7,7 +7,7 @@ ghost use Rattle.formats.specs.Format.{formatOf, translations, entrySize, origi
 ghost use Rattle.image.specs.Layout.{entryPlace, mostRoom};
 ghost use Rattle.commands.specs.Bytes.{pairBytes};
 ghost use Rattle.image.specs.Bytes.{entryMark};
-ghost use Rattle.image.specs.Write.{countsWith, entryWith, overOld};
+ghost use Rattle.image.specs.inner.Write.{countsWith, entryWith, overOld};
 use crate::inner::layout;
 use formats::Version;
 use guard::Entry;

@@ -4,21 +4,21 @@ use native.Mathlib.Omega.{arith}
 use mathlib.Core.Path.{_≡_, sym, ap, subst, _∙_}
 use Rattle.lock_queue.specs.Queue.{State, state, mostPlaces, desk}
 use Rattle.lock_queue.proofs.Checks.{good-count}
-use Rattle.lock_queue.specs.Requests.{joined, asks, onto}
+use Rattle.lock_queue.specs.Requests.{joined, asks, queueJoined}
 use Rattle.lock_queue.proofs.Judged.{not-bad, shown-fits, ask-place, accepted-fits, accepted-outcome, refused-outcome}
 use borrow.Author.Needs.{needs}
 use Rattle.lock_queue.proofs.ask.Statement.{statement}
 use Rattle.lock_queue.proofs.ask.Tie as tie
 
 -- The queue that the entry joins, and the joined one, by what the calls ensure.
-based : (c : tie.After-onto) → let start = c .before .before .before .before .args in
-    state (c .onto .result) ≡ onto (start .new .mode) (desk (start .new)) (state (start .queue))
+based : (c : tie.After-queue-joined) → let start = c .before .before .before .before .args in
+    state (c .queue-joined .result) ≡ queueJoined (start .new .mode) (desk (start .new)) (state (start .queue))
 based c =
     let start = c .before .before .before .before .args in
-    c .onto .ensures ∙ ap (λ (d : ℕ). onto (start .new .mode) d (state (start .queue))) (c .before .before .desk-of .ensures)
+    c .queue-joined .ensures ∙ ap (λ (d : ℕ). queueJoined (start .new .mode) d (state (start .queue))) (c .before .before .desk-of .ensures)
 
 made : (c : tie.After-joined) → let start = c .before .before .before .before .before .args in
-    state (c .joined .result) ≡ joined (start .new) (onto (start .new .mode) (desk (start .new)) (state (start .queue)))
+    state (c .joined .result) ≡ joined (start .new) (queueJoined (start .new .mode) (desk (start .new)) (state (start .queue)))
 made c =
     let start = c .before .before .before .before .before .args in
     c .joined .ensures ∙ ap (joined (start .new)) (based (c .before))
@@ -29,8 +29,8 @@ ask-number-requires c κs = search needs
 desk-of-requires : tie.Need-desk-of-requires
 desk-of-requires c κs = search needs
 
-onto-requires : tie.Need-onto-requires
-onto-requires c κs =
+queue-joined-requires : tie.Need-queue-joined-requires
+queue-joined-requires c κs =
     let start = c .before .before .before .args in
     let e = sym (c .before .before .ask-number .ensures) ∙ c .if1 .taken in
     good-count (start .lent) (state (start .queue)) (not-bad (start .lent) (state (start .queue)) (asks (start .new)) (λ bad. absurd (omega arith)))
@@ -89,7 +89,7 @@ ask-spec =
     (tie.spec
     ask-number-requires
     desk-of-requires
-    onto-requires
+    queue-joined-requires
     joined-requires
     answered-requires
     returns

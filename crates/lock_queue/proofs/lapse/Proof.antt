@@ -15,16 +15,18 @@ leave-requires c κs = search needs
 
 returns : tie.Need-returns
 returns c =
-    accepted-lapse (c .before .before .before .args .lent) (state (c .before .before .before .args .queue)) (c .before .before .before .args .silence) (sym (c .before .before .lapse-number .ensures) ∙ c .before .if1 .taken) (c .leave .ensures .0) (c .leave .ensures .1)
+    accepted-lapse (c .before .before .before .args .lent) (state (c .before .before .before .args .queue)) (c .before .before .before .args .expiry)
+    (sym (c .before .before .lapse-number .ensures) ∙ c .before .if1 .taken) (c .leave .ensures .0) (c .leave .ensures .1)
 
 answered-requires : tie.Need-answered-requires
 answered-requires c κs shown =
-    let fits = shown-fits (c .before .before .args .lent) (state (c .before .before .args .queue)) (lapses (c .before .before .args .silence)) (c .before .lapse-number .ensures) shown in
+    let fits = shown-fits (c .before .before .args .lent) (state (c .before .before .args .queue)) (lapses (c .before .before .args .expiry)) (c .before .lapse-number .ensures) shown in
     (fits, fits)
 
 returns-2 : tie.Need-returns-2
 returns-2 c =
-    refused-outcome (c .before .before .before .args .lent) (state (c .before .before .before .args .queue)) (lapses (c .before .before .before .args .silence)) (c .before .before .lapse-number .ensures) refl (c .before .if1 .left) (c .answered .ensures)
+    refused-outcome (c .before .before .before .args .lent) (state (c .before .before .before .args .queue))
+    (lapses (c .before .before .before .args .expiry)) (c .before .before .lapse-number .ensures) refl (c .before .if1 .left) (c .answered .ensures)
 
 pub lapse-spec : {M : Type 1} → statement M
 lapse-spec =

@@ -4,13 +4,13 @@ ghost use mathlib.Core.List.{_∷_, _++_};
 ghost use Prim.Native.Nat.{_≤_, _<_};
 ghost use lib.ListN.{take, set, drop};
 ghost use Rattle.lock_queue.specs.Queue.{state, mostPlaces, noWaiting, standing, desks, firstPlace};
-ghost use Rattle.lock_queue.specs.Requests.{removed, joined, without, onto};
+ghost use Rattle.lock_queue.specs.Requests.{removed, joined, without, queueJoined};
+use crate::NO_WAITING;
 use crate::Places;
 use crate::Queue;
 use crate::Waiting;
 use crate::inner::state::place;
 use crate::inner::state::upgrading;
-use stamps::Pair;
 
 // The places with this entry at place i.
 pub fn put(places: Places, i: usize, w: Waiting) -> Places
@@ -34,10 +34,7 @@ pub fn closed(places: Places, count: usize, desk: u32) -> Places
         new.at[gap + i] = places.at[gap + i + 1];
         i += 1;
     }
-    new.at[gap + i] = Waiting {
-        mode: 0,
-        pair: Pair { s: 0, x: 0 },
-    };
+    new.at[gap + i] = NO_WAITING;
     new
 }
 
@@ -71,9 +68,9 @@ pub fn without(queue: Queue, desk: u32) -> Queue
 }
 
 // The queue that an accepted entry joins: an upgrade's old entry has left it.
-pub fn onto(queue: Queue, mode: u8, desk: u32) -> Queue
+pub fn queue_joined(queue: Queue, mode: u8, desk: u32) -> Queue
     requires { ⌜ queue .count ≤ mostPlaces ⌝ }
-    ensures { λ r. ⌜ state r ≡ onto mode desk (state queue) ⌝ }
+    ensures { λ r. ⌜ state r ≡ queueJoined mode desk (state queue) ⌝ }
 {
     let stood = queue.places;
     if upgrading(mode, stood, queue.count, desk) {

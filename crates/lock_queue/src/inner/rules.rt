@@ -1,7 +1,8 @@
 // When the lock queue of one card is good. What is sent to a bad one gets 10.
 ghost use mathlib.Core.Path.{_≡_};
 ghost use Rattle.lock_queue.specs.Queue.{state, mostPlaces, noWaiting};
-ghost use Rattle.lock_queue.specs.Good.{good, entriesGood, fitsBehind};
+ghost use Rattle.lock_queue.specs.Good.{good};
+ghost use Rattle.lock_queue.specs.inner.Entries.{entriesGood, fitsBehind};
 ghost use Prim.Native.Nat.{_≤_, _<_};
 ghost use lib.ListN.{take, getD};
 use crate::MOST_PLACES;

@@ -2,10 +2,11 @@
 ghost use mathlib.Core.Path.{_≡_};
 ghost use Prim.Native.Nat.{_+_, _*_, _≤_};
 ghost use lib.ListN.{length};
-ghost use Rattle.lists.specs.Parts.{spread};
+ghost use Rattle.lists.specs.Parts.{concatMap};
 ghost use Rattle.program.specs.Program.{lineBy, firstLine, lastLine, mostLine};
 ghost use Rattle.store.specs.Runs.{perLine};
-ghost use Rattle.program.specs.Text.{spaced, mostDigits, Put};
+ghost use Rattle.program.specs.Text.{spaced, mostDigits};
+ghost use Rattle.program.specs.inner.Put.{Put};
 use crate::inner::text::put_decimal;
 use crate::inner::text::put_spaced;
 use crate::inner::text::put_text;
@@ -14,7 +15,7 @@ use store::inner::run::PER_LINE;
 // The numbers of an answer's line, each behind a space.
 fn put_numbers(out: &mut [u8], at: usize, numbers: &[u64]) -> usize
     requires { ⌜ (at + perLine * (1 + mostDigits) ≤ length (now out)) × (length (now numbers) ≡ perLine) ⌝ }
-    ensures { λ r. ⌜ Put at (perLine * (1 + mostDigits)) (spread spaced (now (numbers .entry))) (now (out .entry)) (now (out .exit)) r ⌝ }
+    ensures { λ r. ⌜ Put at (perLine * (1 + mostDigits)) (concatMap spaced (now (numbers .entry))) (now (out .entry)) (now (out .exit)) r ⌝ }
 {
     let mut to = at;
     let mut i = 0;

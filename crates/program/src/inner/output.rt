@@ -1,8 +1,9 @@
 // The whole output: the image in front of the input taken apart from the stream, and the three cases.
 ghost use Prim.Native.Nat.{_≤_};
 ghost use lib.ListN.{length, take, drop, replicate};
-ghost use Rattle.program.specs.Text.{Put};
-ghost use Rattle.program.specs.Program.{printed, mostPrinted, outputOf, mostOutput, Lent};
+ghost use Rattle.program.specs.inner.Put.{Put};
+ghost use Rattle.program.specs.Program.{printed, mostPrinted, outputOf, mostOutput};
+ghost use Rattle.program.specs.inner.Ready.{Ready};
 use crate::inner::lines;
 use crate::inner::run;
 use crate::inner::text::put_text;
@@ -12,7 +13,7 @@ pub const MOST_INPUT: usize = 65536;
 
 // The lines of the stream behind an image of `size` bytes with this room: as `put_printed`, on a copy of the image and a reply buffer of zeros.
 pub fn answers(input: &[u8], size: usize, room: usize, out: &mut [u8], at: usize) -> usize
-    requires { ⌜ Lent (now input) size room (now out) at ⌝ }
+    requires { ⌜ Ready (now input) size room (now out) at ⌝ }
     ensures { λ r. ⌜ Put at (mostPrinted (drop size (now (input .entry)))) (printed (take size (now (input .entry))) (replicate room 0) (drop size (now (input .entry)))) (now (out .entry)) (now (out .exit)) r ⌝ }
 {
     let mut image = [0u8; image::MOST_BYTES];

@@ -5,7 +5,7 @@ ghost use Prim.Native.Nat.{_+_, _≤_};
 ghost use Rattle.formats.specs.Format.{V1};
 ghost use Rattle.image.specs.Image.{sound};
 ghost use lib.ListN.{length};
-ghost use Rattle.program.specs.Text.{Put};
+ghost use Rattle.program.specs.inner.Put.{Put};
 ghost use Rattle.program.specs.Program.{printed, mostPrinted};
 use crate::inner::lines;
 use store::inner::run::PER_LINE;

@@ -1,7 +1,8 @@
 // Text as bytes: words, and numbers in decimal.
 ghost use Prim.Native.Nat.{_+_, _≤_};
 ghost use lib.ListN.{length};
-ghost use Rattle.program.specs.Text.{decimal, spaced, mostDigits, Put};
+ghost use Rattle.program.specs.Text.{decimal, spaced, mostDigits};
+ghost use Rattle.program.specs.inner.Put.{Put};
 
 // How many digits a number of 64 bits has at most.
 pub const MOST_DIGITS: usize = 20;

@@ -1,8 +1,9 @@
-use native.Mathlib.Omega.{arith}
-use mathlib.Core.Path.{ap, _∙_}
+-- A log that is not good, and one with no such record, have nothing there; else record i is read. Assumes nothing.
+use mathlib.Core.Path.{ap, _∙_, subst}
+use Prim.Native.Nat.{ℕ, _≤_, _<_}
 use Rattle.redo_log.specs.Log.{LogRecord}
-use Rattle.redo_log.proofs.ReadBack.{read-bad, read-past, body-is}
-use Rattle.redo_log.proofs.Records.{checked-good, checked-bad, sizes, place-is, inside}
+use Rattle.redo_log.proofs.ReadBack.{read-bad, read-past, read-is}
+use Rattle.redo_log.proofs.Records.{checked-good, checked-bad}
 use borrow.Author.Needs.{needs}
 use Rattle.redo_log.proofs.body_of.Statement.{statement}
 use Rattle.redo_log.proofs.body_of.Tie as tie
@@ -13,89 +14,37 @@ check-requires c κs = search needs
 slice-aggregate-result : tie.Need-slice-aggregate-result
 slice-aggregate-result c = search needs
 
-returns : tie.Need-returns
-returns c = ap (λ (r : LogRecord). r .body) (read-bad (c .before .before .before .before .args .log .now) (c .before .before .before .before .args .i) (checked-bad (c .before .before .before .before .args .log .now) (c .before .before .check .ensures) (c .before .if1 .taken)))
-
-shared-slice-read-if2 : tie.Need-shared-slice-read-if2
-shared-slice-read-if2 c = omega (arith, sizes (c .before .before .before .before .args .log .now) (checked-good (c .before .before .before .before .args .log .now) (c .before .before .check .ensures) (c .before .if1 .left)))
-
-cast-if2 : tie.Need-cast-if2
-cast-if2 c = omega (arith, c .shared-slice-known2 .given 0)
-
 slice-aggregate-result-2 : tie.Need-slice-aggregate-result-2
 slice-aggregate-result-2 c = search needs
 
+returns : tie.Need-returns
+returns c =
+    let start = c .before .before .before .before in
+    let bad = checked-bad (start .args .log .now) (c .before .before .check .ensures) (c .before .if1 .taken) in
+    ap (λ (r : LogRecord). r .body) (read-bad (start .args .log .now) (start .args .i) bad)
+
+count-requires : tie.Need-count-requires
+count-requires c κs = checked-good (c .before .before .before .args .log .now) (c .before .check .ensures) (c .if1 .left)
+
 returns-2 : tie.Need-returns-2
-returns-2 c = ap (λ (r : LogRecord). r .body) (read-past (c .before .before .before .before .before .before .args .log .now) (c .before .before .before .before .before .before .args .i) (checked-good (c .before .before .before .before .before .before .args .log .now) (c .before .before .before .before .check .ensures) (c .before .before .before .if1 .left)) (c .before .if2 .taken))
+returns-2 c =
+    let start = c .before .before .before .before .before .before in
+    let good = checked-good (start .args .log .now) (c .before .before .before .before .check .ensures) (c .before .before .before .if1 .left) in
+    let past = subst (λ (n : ℕ). n ≤ start .args .i) (c .before .before .count .ensures) (c .before .if2 .taken) in
+    ap (λ (r : LogRecord). r .body) (read-past (start .args .log .now) (start .args .i) good past)
 
-mul-read-u32 : tie.Need-mul-read-u32
-mul-read-u32 c = omega (arith, sizes (c .before .before .before .before .before .args .log .now) (checked-good (c .before .before .before .before .before .args .log .now) (c .before .before .before .check .ensures) (c .before .before .if1 .left)))
-
-add-read-u32 : tie.Need-add-read-u32
-add-read-u32 c = omega (arith, sizes (c .before .before .before .before .before .args .log .now) (checked-good (c .before .before .before .before .before .args .log .now) (c .before .before .before .check .ensures) (c .before .before .if1 .left)))
-
-add-read-u32-2 : tie.Need-add-read-u32-2
-add-read-u32-2 c = omega (arith, sizes (c .before .before .before .before .before .args .log .now) (checked-good (c .before .before .before .before .before .args .log .now) (c .before .before .before .check .ensures) (c .before .before .if1 .left)))
-
-read-u32-requires : tie.Need-read-u32-requires
-read-u32-requires c κs = omega (arith, sizes (c .before .before .before .before .before .args .log .now) (checked-good (c .before .before .before .before .before .args .log .now) (c .before .before .before .check .ensures) (c .before .before .if1 .left)))
-
-cast-at : tie.Need-cast-at
-cast-at c = search needs
-
-mul-read-u16 : tie.Need-mul-read-u16
-mul-read-u16 c = omega (arith, sizes (c .before .before .before .before .before .before .args .log .now) (checked-good (c .before .before .before .before .before .before .args .log .now) (c .before .before .before .before .check .ensures) (c .before .before .before .if1 .left)))
-
-add-read-u16 : tie.Need-add-read-u16
-add-read-u16 c = omega (arith, sizes (c .before .before .before .before .before .before .args .log .now) (checked-good (c .before .before .before .before .before .before .args .log .now) (c .before .before .before .before .check .ensures) (c .before .before .before .if1 .left)))
-
-add-read-u16-2 : tie.Need-add-read-u16-2
-add-read-u16-2 c = omega (arith, sizes (c .before .before .before .before .before .before .args .log .now) (checked-good (c .before .before .before .before .before .before .args .log .now) (c .before .before .before .before .check .ensures) (c .before .before .before .if1 .left)))
-
-read-u16-requires : tie.Need-read-u16-requires
-read-u16-requires c κs = omega (arith, sizes (c .before .before .before .before .before .before .args .log .now) (checked-good (c .before .before .before .before .before .before .args .log .now) (c .before .before .before .before .check .ensures) (c .before .before .before .if1 .left)))
-
-cast-end : tie.Need-cast-end
-cast-end c = search needs
-
-add-end : tie.Need-add-end
-add-end c = search needs
-
-sub-result : tie.Need-sub-result
-sub-result c = search needs
-
-part-result-start : tie.Need-part-result-start
-part-result-start c = search needs
-
-part-result-end : tie.Need-part-result-end
-part-result-end c = omega (arith, (c .before .read-u32 .ensures ∙ place-is (c .before .before .before .before .before .before .before .args .log .now) (c .before .before .before .before .before .before .before .args .i) (checked-good (c .before .before .before .before .before .before .before .args .log .now) (c .before .before .before .before .before .check .ensures) (c .before .before .before .before .if1 .left)) (c .before .before .if2 .left)), c .read-u16 .ensures, inside (c .before .before .before .before .before .before .before .args .log .now) (c .before .before .before .before .before .before .before .args .i) (checked-good (c .before .before .before .before .before .before .before .args .log .now) (c .before .before .before .before .before .check .ensures) (c .before .before .before .before .if1 .left)) (c .before .before .if2 .left))
+body-at-requires : tie.Need-body-at-requires
+body-at-requires c κs =
+    let start = c .before .before .before .before .before in
+    let good = checked-good (start .args .log .now) (c .before .before .before .check .ensures) (c .before .before .if1 .left) in
+    (good, subst (λ (n : ℕ). start .args .i < n) (c .before .count .ensures) (c .if2 .left))
 
 returns-3 : tie.Need-returns-3
-returns-3 c = body-is (c .before .before .before .before .before .before .before .before .args .log .now) (c .before .before .before .before .before .before .before .before .args .i) _ _ (checked-good (c .before .before .before .before .before .before .before .before .args .log .now) (c .before .before .before .before .before .before .check .ensures) (c .before .before .before .before .before .if1 .left)) (c .before .before .before .if2 .left) (c .before .before .read-u32 .ensures ∙ place-is (c .before .before .before .before .before .before .before .before .args .log .now) (c .before .before .before .before .before .before .before .before .args .i) (checked-good (c .before .before .before .before .before .before .before .before .args .log .now) (c .before .before .before .before .before .before .check .ensures) (c .before .before .before .before .before .if1 .left)) (c .before .before .before .if2 .left)) (c .before .read-u16 .ensures)
+returns-3 c =
+    let start = c .before .before .before .before .before .before in
+    let good = checked-good (start .args .log .now) (c .before .before .before .before .check .ensures) (c .before .before .before .if1 .left) in
+    let there = subst (λ (n : ℕ). start .args .i < n) (c .before .before .count .ensures) (c .before .if2 .left) in
+    c .body-at .ensures ∙ ap (λ (r : LogRecord). r .body) (read-is (start .args .log .now) (start .args .i) good there)
 
 pub body-of-spec : {M : Type 1} → statement M
-body-of-spec =
-    tie.close
-    (tie.spec
-    check-requires
-    slice-aggregate-result
-    returns
-    shared-slice-read-if2
-    cast-if2
-    slice-aggregate-result-2
-    returns-2
-    mul-read-u32
-    add-read-u32
-    add-read-u32-2
-    read-u32-requires
-    cast-at
-    mul-read-u16
-    add-read-u16
-    add-read-u16-2
-    read-u16-requires
-    cast-end
-    add-end
-    sub-result
-    part-result-start
-    part-result-end
-    returns-3)
+body-of-spec = tie.close (tie.spec check-requires slice-aggregate-result returns count-requires slice-aggregate-result-2 returns-2 body-at-requires returns-3)

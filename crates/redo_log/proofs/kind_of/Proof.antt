@@ -1,8 +1,9 @@
-use native.Mathlib.Omega.{arith}
-use mathlib.Core.Path.{ap}
+-- A log that is not good, and one with no such record, have nothing there; else record i is read. Assumes nothing.
+use mathlib.Core.Path.{ap, _∙_, subst}
+use Prim.Native.Nat.{ℕ, _≤_, _<_}
 use Rattle.redo_log.specs.Log.{LogRecord}
-use Rattle.redo_log.proofs.ReadBack.{read-bad, read-past, kind-is}
-use Rattle.redo_log.proofs.Records.{checked-good, checked-bad, sizes}
+use Rattle.redo_log.proofs.ReadBack.{read-bad, read-past, read-is}
+use Rattle.redo_log.proofs.Records.{checked-good, checked-bad}
 use borrow.Author.Needs.{needs}
 use Rattle.redo_log.proofs.kind_of.Statement.{statement}
 use Rattle.redo_log.proofs.kind_of.Tie as tie
@@ -11,39 +12,33 @@ check-requires : tie.Need-check-requires
 check-requires c κs = search needs
 
 returns : tie.Need-returns
-returns c = ap (λ (r : LogRecord). r .kind) (read-bad (c .before .before .before .args .log .now) (c .before .before .before .args .i) (checked-bad (c .before .before .before .args .log .now) (c .before .check .ensures) (c .if1 .taken)))
+returns c =
+    let start = c .before .before .before in
+    let bad = checked-bad (start .args .log .now) (c .before .check .ensures) (c .if1 .taken) in
+    ap (λ (r : LogRecord). r .kind) (read-bad (start .args .log .now) (start .args .i) bad)
 
-shared-slice-read-if2 : tie.Need-shared-slice-read-if2
-shared-slice-read-if2 c = omega (arith, sizes (c .before .before .before .before .args .log .now) (checked-good (c .before .before .before .before .args .log .now) (c .before .before .check .ensures) (c .before .if1 .left)))
-
-cast-if2 : tie.Need-cast-if2
-cast-if2 c = omega (arith, c .shared-slice-known2 .given 0)
+count-requires : tie.Need-count-requires
+count-requires c κs = checked-good (c .before .before .before .args .log .now) (c .before .check .ensures) (c .if1 .left)
 
 returns-2 : tie.Need-returns-2
-returns-2 c = ap (λ (r : LogRecord). r .kind) (read-past (c .before .before .before .before .before .args .log .now) (c .before .before .before .before .before .args .i) (checked-good (c .before .before .before .before .before .args .log .now) (c .before .before .before .check .ensures) (c .before .before .if1 .left)) (c .if2 .taken))
+returns-2 c =
+    let start = c .before .before .before .before .before in
+    let good = checked-good (start .args .log .now) (c .before .before .before .check .ensures) (c .before .before .if1 .left) in
+    let past = subst (λ (n : ℕ). n ≤ start .args .i) (c .before .count .ensures) (c .if2 .taken) in
+    ap (λ (r : LogRecord). r .kind) (read-past (start .args .log .now) (start .args .i) good past)
 
-mul-result : tie.Need-mul-result
-mul-result c = omega (arith, sizes (c .before .before .before .before .before .args .log .now) (checked-good (c .before .before .before .before .before .args .log .now) (c .before .before .before .check .ensures) (c .before .before .if1 .left)))
-
-add-result : tie.Need-add-result
-add-result c = omega (arith, sizes (c .before .before .before .before .before .args .log .now) (checked-good (c .before .before .before .before .before .args .log .now) (c .before .before .before .check .ensures) (c .before .before .if1 .left)))
-
-shared-slice-read-result : tie.Need-shared-slice-read-result
-shared-slice-read-result c = omega (arith, sizes (c .before .before .before .before .before .before .args .log .now) (checked-good (c .before .before .before .before .before .before .args .log .now) (c .before .before .before .before .check .ensures) (c .before .before .before .if1 .left)))
+kind-at-requires : tie.Need-kind-at-requires
+kind-at-requires c κs =
+    let start = c .before .before .before .before .before in
+    let good = checked-good (start .args .log .now) (c .before .before .before .check .ensures) (c .before .before .if1 .left) in
+    (good, subst (λ (n : ℕ). start .args .i < n) (c .before .count .ensures) (c .if2 .left))
 
 returns-3 : tie.Need-returns-3
-returns-3 c = kind-is (c .before .before .before .before .before .before .args .log .now) (c .before .before .before .before .before .before .args .i) (checked-good (c .before .before .before .before .before .before .args .log .now) (c .before .before .before .before .check .ensures) (c .before .before .before .if1 .left)) (c .before .if2 .left)
+returns-3 c =
+    let start = c .before .before .before .before .before .before in
+    let good = checked-good (start .args .log .now) (c .before .before .before .before .check .ensures) (c .before .before .before .if1 .left) in
+    let there = subst (λ (n : ℕ). start .args .i < n) (c .before .before .count .ensures) (c .before .if2 .left) in
+    c .kind-at .ensures ∙ ap (λ (r : LogRecord). r .kind) (read-is (start .args .log .now) (start .args .i) good there)
 
 pub kind-of-spec : {M : Type 1} → statement M
-kind-of-spec =
-    tie.close
-    (tie.spec
-    check-requires
-    returns
-    shared-slice-read-if2
-    cast-if2
-    returns-2
-    mul-result
-    add-result
-    shared-slice-read-result
-    returns-3)
+kind-of-spec = tie.close (tie.spec check-requires returns count-requires returns-2 kind-at-requires returns-3)

@@ -3,7 +3,15 @@ ghost use mathlib.Core.Bool.{true, false};
 ghost use Prim.Native.Nat.{_+_, _≤_, _<_};
 ghost use lib.ListN.{length, getD};
 ghost use Rattle.redo_log.specs.Log.{shaped, joins, checksum, startAt, recordAt, lastBegun, opened, recordOk};
-ghost use Rattle.redo_log.specs.Scanned.{scanned};
+ghost use Rattle.redo_log.specs.inner.Scanned.{scanned};
+use crate::BODIES;
+use crate::MOST_LOG;
+use crate::MOST_RECORDS;
+use crate::inner::records::LENGTH;
+use crate::inner::records::LINE;
+use crate::inner::records::PLACE;
+use crate::inner::records::SUM;
+use crate::inner::records::TABLE;
 use slices::inner::fixed_width as le;
 
 pub const BEGIN: u8 = 1;
@@ -83,14 +91,14 @@ fn record_ok(log: &[u8], i: usize, stop: usize, last: u32, running: bool) -> boo
     requires { ⌜ (i < 200) × (2201 ≤ length (now log)) × (length (now log) ≤ 65536) × (stop ≡ startAt (now log) i) × (stop ≤ length (now log)) × (last ≡ lastBegun (recordAt (now log)) i) × (running ≡ opened (recordAt (now log)) i) ⌝ }
     ensures { λ r. ⌜ r ≡ recordOk (now (log .entry)) i ⌝ }
 {
-    let at = 1 + 11 * i;
-    let size = le::read_u16(log, at + 5) as usize;
+    let at = TABLE + LINE * i;
+    let size = le::read_u16(log, at + LENGTH) as usize;
     if log.len() - stop < size {
         return false;
     }
     let end = stop + size;
-    (le::read_u32(log, at + 1) as usize == stop)
-        & (le::read_u32(log, at + 7) == sum_of(&log[stop..end]))
+    (le::read_u32(log, at + PLACE) as usize == stop)
+        & (le::read_u32(log, at + SUM) == sum_of(&log[stop..end]))
         & may_join(log[at], &log[stop..end], last, running)
 }
 
@@ -99,7 +107,7 @@ fn stop_after(log: &[u8], i: usize, stop: usize) -> usize
     requires { ⌜ (i < 200) × (2201 ≤ length (now log)) × (length (now log) ≤ 65536) × (stop ≡ startAt (now log) i) × (recordOk (now log) i ≡ true) ⌝ }
     ensures { λ r. ⌜ (r ≡ startAt (now (log .entry)) (i + 1)) × (r ≤ length (now (log .entry))) ⌝ }
 {
-    stop + (le::read_u16(log, 1 + 11 * i + 5) as usize)
+    stop + (le::read_u16(log, TABLE + LINE * i + LENGTH) as usize)
 }
 
 // The last transaction begun after record i.
@@ -107,7 +115,7 @@ pub fn last_after(log: &[u8], i: usize, stop: usize, last: u32) -> u32
     requires { ⌜ (i < 200) × (2201 ≤ length (now log)) × (length (now log) ≤ 65536) × (stop ≡ startAt (now log) i) × (last ≡ lastBegun (recordAt (now log)) i) × (recordOk (now log) i ≡ true) ⌝ }
     ensures { λ r. ⌜ r ≡ lastBegun (recordAt (now (log .entry))) (i + 1) ⌝ }
 {
-    if log[1 + 11 * i] != BEGIN {
+    if log[TABLE + LINE * i] != BEGIN {
         return last;
     }
     le::read_u32(log, stop)
@@ -118,7 +126,7 @@ fn running_after(log: &[u8], i: usize, running: bool) -> bool
     requires { ⌜ (i < 200) × (2201 ≤ length (now log)) × (running ≡ opened (recordAt (now log)) i) ⌝ }
     ensures { λ r. ⌜ r ≡ opened (recordAt (now (log .entry))) (i + 1) ⌝ }
 {
-    let kind = log[1 + 11 * i];
+    let kind = log[TABLE + LINE * i];
     (kind == BEGIN) | running & !(kind == COMMIT)
 }
 
@@ -138,14 +146,14 @@ fn no_scan() -> Scan
 pub fn scan_of(log: &[u8]) -> Scan
     ensures { λ r. ⌜ r ≡ scanned (now (log .entry)) ⌝ }
 {
-    if (log.len() < 2201) | (65536 < log.len()) {
+    if (log.len() < BODIES) | (MOST_LOG < log.len()) {
         return no_scan();
     }
     let count = log[0] as usize;
-    if 200 < count {
+    if MOST_RECORDS < count {
         return no_scan();
     }
-    let mut stop: usize = 2201;
+    let mut stop: usize = BODIES;
     let mut last: u32 = 0;
     let mut running = false;
     let mut i: usize = 0;

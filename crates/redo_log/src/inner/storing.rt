@@ -4,8 +4,14 @@ ghost use lib.ListN.{length, take};
 ghost use Rattle.lists.specs.Parts.{splice};
 ghost use Rattle.lists.specs.Le.{toLe};
 ghost use Rattle.redo_log.specs.Log.{startAt, recordCount};
-ghost use Rattle.redo_log.specs.Append.{lineBytes, stored, stores, Admitted};
+ghost use Rattle.redo_log.specs.Append.{lineBytes, stored, stores};
+ghost use Rattle.redo_log.specs.inner.Admitted.{Admitted};
 use crate::inner::reading;
+use crate::inner::records::LENGTH;
+use crate::inner::records::LINE;
+use crate::inner::records::PLACE;
+use crate::inner::records::SUM;
+use crate::inner::records::TABLE;
 
 // What is left of a budget.
 fn left(budget: usize, used: usize) -> usize
@@ -49,14 +55,14 @@ fn put_line(log: &mut [u8], at: usize, kind: u8, place: usize, body: &[u8], budg
     ensures { λ _. ⌜ now (log .exit) ≡ splice at (take budget (lineBytes place (record { kind = kind; body = now (body .entry) }))) (now (log .entry)) ⌝ }
 {
     put_number(log, at, 1, kind as u64, budget);
-    put_number(log, at + 1, 4, place as u64, left(budget, 1));
-    put_number(log, at + 5, 2, body.len() as u64, left(budget, 5));
+    put_number(log, at + PLACE, 4, place as u64, left(budget, PLACE));
+    put_number(log, at + LENGTH, 2, body.len() as u64, left(budget, LENGTH));
     put_number(
         log,
-        at + 7,
+        at + SUM,
         4,
         reading::sum_of(body) as u64,
-        left(budget, 7),
+        left(budget, SUM),
     );
 }
 
@@ -69,11 +75,17 @@ pub fn store(log: &mut [u8], kind: u8, body: &[u8], stop: usize, budget: usize)
     put_bytes(log, stop, body, budget);
     put_line(
         log,
-        1 + 11 * count,
+        TABLE + LINE * count,
         kind,
         stop,
         body,
         left(budget, body.len()),
     );
-    put_number(log, 0, 1, (count + 1) as u64, left(budget, body.len() + 11));
+    put_number(
+        log,
+        0,
+        1,
+        (count + 1) as u64,
+        left(budget, body.len() + LINE),
+    );
 }

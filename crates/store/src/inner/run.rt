@@ -12,8 +12,8 @@ use crate::Ran;
 use crate::inner::step;
 use formats::Version;
 use guard::Answer;
-use guard::UNSOUND;
-use stamps::MALFORMED;
+use numbers::MALFORMED;
+use numbers::UNSOUND;
 use stream::Next;
 
 // How many numbers an answer has: its number and seven fields.

@@ -6,17 +6,17 @@ ghost use Rattle.commands.specs.Command.{wellFormed};
 ghost use Rattle.formats.specs.Format.{formatOf, translations};
 ghost use Rattle.image.specs.Bytes.{countOf};
 ghost use Rattle.image.specs.Image.{sound};
-ghost use Rattle.store.specs.Carried.{carried};
+ghost use Rattle.store.specs.inner.Carried.{carried};
 ghost use Rattle.store.specs.Runs.{numbersOf, ServesTo};
 use crate::inner::effects;
 use commands::Command;
 use commands::Parsed;
 use formats::Version;
-use guard::ACCEPTED;
 use guard::Answer;
-use guard::NO_CARD;
-use guard::UNSOUND;
-use stamps::MALFORMED;
+use numbers::ACCEPTED;
+use numbers::MALFORMED;
+use numbers::NO_CARD;
+use numbers::UNSOUND;
 
 // A well-formed command for an existing card, on a sound image: its entry judges, and an accepted command is carried out.
 pub fn carry(v: Version, image: &mut [u8], c: Command, text: &[u8], reply: &mut [u8]) -> Answer

@@ -3,7 +3,7 @@ use mathlib.Core.Path.{refl, subst}
 use borrow.Author.Needs.{needs}
 use borrow.Author.Tests.{eqb-true, eq-eqb}
 use Rattle.lists.proofs.Tests.{never-both}
-use Rattle.texts.specs.Read.{ReadsSection}
+use Rattle.texts.specs.inner.Read.{ReadsSection}
 use Rattle.texts.specs.declared.inner.read.Extent.{Extent}
 use Rattle.texts.proofs.Reading.{front-says, front-whole, front-ill}
 use Rattle.texts.proofs.well_formed.Statement.{statement}

@@ -1,7 +1,7 @@
 ghost use mathlib.Core.Path.{_≡_};
 ghost use Prim.Native.Nat.{ℕ, _+_, _≤_};
 ghost use lib.ListN.{length, getD};
-ghost use Rattle.texts.specs.Read.{ReadsSection, ReadsStep, ReadsSteps};
+ghost use Rattle.texts.specs.inner.Read.{ReadsSection, ReadsStep, ReadsSteps};
 
 // What reading at a place finds: the place behind what stands there, or that nothing well formed does.
 pub enum Extent {

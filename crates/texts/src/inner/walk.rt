@@ -3,9 +3,9 @@ ghost use mathlib.Core.Bool.{cond};
 ghost use Prim.Native.Nat.{_+_, _≤_};
 ghost use lib.ListN.{length, getD};
 ghost use Rattle.texts.specs.Text.{TextStep, Section};
-ghost use Rattle.drops.specs.Drop.{near};
-ghost use Rattle.texts.specs.Walk.{dropThere, TwoSections, TwoRuns, TwoSteps, SectionsWalked, RunsWalked, StepsWalked};
-use drops::Drop;
+ghost use Rattle.text_drops.specs.Drop.{near};
+ghost use Rattle.texts.specs.inner.Walk.{dropThere, TwoSections, TwoRuns, TwoSteps, SectionsWalked, RunsWalked, StepsWalked};
+use text_drops::Drop;
 
 // What a walk over two texts finds: the places behind what was walked, or the unmatched place of the first.
 pub enum Walk {
@@ -26,7 +26,7 @@ fn drop_at(text: &[u8], at: usize) -> Drop
     requires { ⌜ at + 4 ≤ length (now text) ⌝ }
     ensures { λ r. ⌜ r ≡ dropThere (now (text .entry)) at ⌝ }
 {
-    drops::inner::drop_of(
+    text_drops::inner::drop_of(
         text[at + 1],
         slices::inner::fixed_width::read_u16(text, at + 2),
     )
@@ -37,7 +37,7 @@ fn degrees<'a>(a: &'a [u8], i: usize, b: &'a [u8], j: usize) -> Walk
     requires { ⌜ (i + 4 ≤ length (now a)) × (j + 4 ≤ length (now b)) ⌝ }
     ensures { λ r. ⌜ r ≡ cond (near (dropThere (now (a .entry)) i) (dropThere (now (b .entry)) j)) (Walk.Same (i + 4) (j + 4)) (Walk.Differ i) ⌝ }
 {
-    if drops::near(drop_at(a, i), drop_at(b, j)) {
+    if text_drops::near(drop_at(a, i), drop_at(b, j)) {
         return Walk::Same(i + 4, j + 4);
     }
     Walk::Differ(i)

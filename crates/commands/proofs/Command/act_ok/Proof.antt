@@ -15,18 +15,23 @@ writes-translation-requires : tie.Need-writes-translation-requires
 writes-translation-requires c κs = search needs
 
 returns-2 : tie.Need-returns-2
-returns-2 c = of-write-translation (c .before .before .before .before .before .before .before .args .self) (sym (c .before .before .before .before .writes-translation .ensures) ∙ c .before .before .before .if2 .taken)
+returns-2 c =
+    let at7 = c .before .before .before .before .before .before .before in
+    of-write-translation (at7 .args .self) (sym (c .before .before .before .before .writes-translation .ensures) ∙ c .before .before .before .if2 .taken)
 
 reads-translation-requires : tie.Need-reads-translation-requires
 reads-translation-requires c κs = search needs
 
 returns-3 : tie.Need-returns-3
-returns-3 c = of-read-translation (c .before .before .before .before .before .before .before .before .before .args .self) (sym (c .before .before .before .before .reads-translation .ensures) ∙ c .before .before .before .if3 .taken)
+returns-3 c =
+    let at9 = c .before .before .before .before .before .before .before .before .before in
+    of-read-translation (at9 .args .self) (sym (c .before .before .before .before .reads-translation .ensures) ∙ c .before .before .before .if3 .taken)
 
 returns-4 : tie.Need-returns-4
 returns-4 c =
     of-others (c .before .before .before .before .before .before .before .before .before .before .before .args .self)
-    (sym (c .before .before .before .before .before .before .before .before .before .before .writes-original .ensures) ∙ c .before .before .before .before .before .before .before .before .before .if1 .left)
+    (sym (c .before .before .before .before .before .before .before .before .before .before .writes-original .ensures)
+    ∙ c .before .before .before .before .before .before .before .before .before .if1 .left)
     (sym (c .before .before .before .before .before .before .before .before .writes-translation .ensures) ∙ c .before .before .before .before .before .before .before .if2 .left)
     (sym (c .before .before .before .before .before .before .reads-translation .ensures) ∙ c .before .before .before .before .before .if3 .left)
 

@@ -1,3 +1,4 @@
+-- Each number is read at its place within the fixed part; the command is made of what the readers ensure. Assumes nothing.
 use borrow.Author.Needs.{needs}
 use Rattle.commands.specs.Bytes.{fieldsOf}
 use Rattle.commands.proofs.inner.fields.Statement.{statement}

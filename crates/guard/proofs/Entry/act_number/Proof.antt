@@ -42,14 +42,28 @@ cast-if5 c = search needs
 returns-4 : tie.Need-returns-4
 returns-4 c =
     let start = c .before .before .before .before .before .before .before .before in
-    let act = eqb-true (c .before .before .before .before .before .before .before .before .args .c .act) 2 (sym (c .before .before .before .before .before .reads-translation .ensures) ∙ c .before .before .before .before .if3 .taken) in
-    sym (rw (read-no-payload (start .args .room) (start .args .c) (start .pre) act refl refl, act, sym (c .before .before .before .behind .ensures) ∙ c .before .before .if4 .left, lt-ltb _ _ (c .if5 .taken)))
+    let act = eqb-true (c .before .before .before .before .before .before .before .before .args .c .act) 2
+    (sym (c .before .before .before .before .before .reads-translation .ensures) ∙ c .before .before .before .before .if3 .taken) in
+    sym (rw (
+      read-no-payload (start .args .room) (start .args .c) (start .pre) act refl refl,
+      act,
+      sym (c .before .before .before .behind .ensures)
+          ∙ c .before .before .if4 .left,
+      lt-ltb _ _ (c .if5 .taken),
+    ))
 
 returns-5 : tie.Need-returns-5
 returns-5 c =
     let start = c .before .before .before .before .before .before .before .before in
-    let act = eqb-true (c .before .before .before .before .before .before .before .before .args .c .act) 2 (sym (c .before .before .before .before .before .reads-translation .ensures) ∙ c .before .before .before .before .if3 .taken) in
-    sym (rw (read-no-payload (start .args .room) (start .args .c) (start .pre) act refl refl, act, sym (c .before .before .before .behind .ensures) ∙ c .before .before .if4 .left, le-ltb _ _ (c .if5 .left)))
+    let act = eqb-true (c .before .before .before .before .before .before .before .before .args .c .act) 2
+    (sym (c .before .before .before .before .before .reads-translation .ensures) ∙ c .before .before .before .before .if3 .taken) in
+    sym (rw (
+      read-no-payload (start .args .room) (start .args .c) (start .pre) act refl refl,
+      act,
+      sym (c .before .before .before .behind .ensures)
+          ∙ c .before .before .if4 .left,
+      le-ltb _ _ (c .if5 .left),
+    ))
 
 returns-6 : tie.Need-returns-6
 returns-6 c = sym (rw (lt-ltb _ _ (c .if6 .taken)))
@@ -58,22 +72,64 @@ writes-original-requires : tie.Need-writes-original-requires
 writes-original-requires c κs = search needs
 
 returns-7 : tie.Need-returns-7
-returns-7 c = sym (rw (le-ltb _ _ (c .before .before .before .before .if6 .left), eqb-true (c .before .before .before .before .before .before .before .before .before .before .args .c .act) 3 (sym (c .before .before .before .writes-original .ensures) ∙ c .before .before .if7 .taken), eq-eqb _ _ (c .if8 .taken)))
+returns-7 c =
+    let at10 = c .before .before .before .before .before .before .before .before .before .before in
+    sym (rw (
+      le-ltb _ _ (c .before .before .before .before .if6 .left),
+      eqb-true (at10 .args .c .act) 3
+          (sym (c .before .before .before .writes-original .ensures) ∙ c .before .before .if7 .taken),
+      eq-eqb _ _ (c .if8 .taken),
+    ))
 
 returns-8 : tie.Need-returns-8
-returns-8 c = sym (rw (le-ltb _ _ (c .before .before .before .before .if6 .left), eqb-true (c .before .before .before .before .before .before .before .before .before .before .args .c .act) 3 (sym (c .before .before .before .writes-original .ensures) ∙ c .before .before .if7 .taken), ne-eqb _ _ (c .if8 .left)))
+returns-8 c =
+    let at10 = c .before .before .before .before .before .before .before .before .before .before in
+    sym (rw (
+      le-ltb _ _ (c .before .before .before .before .if6 .left),
+      eqb-true (at10 .args .c .act) 3
+          (sym (c .before .before .before .writes-original .ensures) ∙ c .before .before .if7 .taken),
+      ne-eqb _ _ (c .if8 .left),
+    ))
 
 writes-translation-requires : tie.Need-writes-translation-requires
 writes-translation-requires c κs = search needs
 
 returns-9 : tie.Need-returns-9
-returns-9 c = sym (rw (le-ltb _ _ (c .before .before .before .before .before .before .before .if6 .left), eqb-true (c .before .before .before .before .before .before .before .before .before .before .before .before .before .args .c .act) 4 (sym (c .before .before .before .before .writes-translation .ensures) ∙ c .before .before .before .if9 .taken), ne-eqb _ _ (c .if10 .taken)))
+returns-9 c =
+    let at7 = c .before .before .before .before .before .before .before in
+    let at13 = at7 .before .before .before .before .before .before in
+    sym (rw (
+      le-ltb _ _ (at7 .if6 .left),
+      eqb-true (at13 .args .c .act) 4
+          (sym (c .before .before .before .before .writes-translation .ensures) ∙ c .before .before .before .if9 .taken),
+      ne-eqb _ _ (c .if10 .taken),
+    ))
 
 returns-10 : tie.Need-returns-10
-returns-10 c = sym (rw (le-ltb _ _ (c .before .before .before .before .before .before .before .if6 .left), eqb-true (c .before .before .before .before .before .before .before .before .before .before .before .before .before .args .c .act) 4 (sym (c .before .before .before .before .writes-translation .ensures) ∙ c .before .before .before .if9 .taken), eq-eqb _ _ (c .if10 .left)))
+returns-10 c =
+    let at7 = c .before .before .before .before .before .before .before in
+    let at13 = at7 .before .before .before .before .before .before in
+    sym (rw (
+      le-ltb _ _ (at7 .if6 .left),
+      eqb-true (at13 .args .c .act) 4
+          (sym (c .before .before .before .before .writes-translation .ensures) ∙ c .before .before .before .if9 .taken),
+      eq-eqb _ _ (c .if10 .left),
+    ))
 
 returns-11 : tie.Need-returns-11
-returns-11 c = sym (rw (le-ltb _ _ (c .before .before .before .before .if6 .left), sym (c .before .writes-translation .ensures) ∙ c .if9 .left, sym (c .before .before .before .writes-original .ensures) ∙ c .before .before .if7 .left, sym (c .before .before .before .before .before .before .before .reads-translation .ensures) ∙ c .before .before .before .before .before .before .if3 .left, sym (c .before .before .before .before .before .before .before .before .before .reads-original .ensures) ∙ c .before .before .before .before .before .before .before .before .if1 .left))
+returns-11 c =
+    let at6 = c .before .before .before .before .before .before in
+    let at7 = at6 .before in
+    let at8 = at7 .before in
+    let at9 = at8 .before in
+    sym (rw (
+      le-ltb _ _ (c .before .before .before .before .if6 .left),
+      sym (c .before .writes-translation .ensures) ∙ c .if9 .left,
+      sym
+          (c .before .before .before .writes-original .ensures) ∙ c .before .before .if7 .left,
+      sym (at7 .reads-translation .ensures) ∙ at6 .if3 .left,
+      sym (at9 .reads-original .ensures) ∙ at8 .if1 .left,
+    ))
 
 pub act-number-spec : {M : Type 1} → statement M
 act-number-spec =

@@ -14,7 +14,8 @@ writes-original-requires c κs = search needs
 
 add-result : tie.Need-add-result
 add-result c =
-    let unspent : eqb (c .before .before .before .args .self .edition) 65535 ≡ false = rw (sym (c .before .before .writes-original .ensures) ∙ c .before .if1 .taken) at (c .before .before .before .pre) in
+    let unspent : eqb (c .before .before .before .args .self .edition) 65535 ≡ false = rw
+    (sym (c .before .before .writes-original .ensures) ∙ c .before .if1 .taken) at (c .before .before .before .pre) in
     omega (arith, c .struct-known .given, eqb-false (c .before .before .before .args .self .edition) 65535 unspent)
 
 returns : tie.Need-returns

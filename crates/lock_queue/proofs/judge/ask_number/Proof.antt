@@ -43,7 +43,9 @@ upgrading-requires c κs =
 already-requires : tie.Need-already-requires
 already-requires c κs =
     let start = c .before .before .before .before .before .before .before .before .args in
-    good-count (start .lent) (state (start .queue)) (sym (c .before .before .before .before .before .before .before .good2 .ensures) ∙ not-false _ (c .before .before .before .before .before .before .if1 .left))
+    good-count (start .lent) (state (start .queue))
+    (sym (c .before .before .before .before .before .before .before .good2 .ensures) ∙ not-false _
+    (c .before .before .before .before .before .before .if1 .left))
 
 returns-3 : tie.Need-returns-3
 unfolding number

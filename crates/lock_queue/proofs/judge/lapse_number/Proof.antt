@@ -15,14 +15,14 @@ returns : tie.Need-returns
 unfolding number
 returns c = rw (← c .before .good2 .ensures, c .if1 .taken)
 
-fair-requires : tie.Need-fair-requires
-fair-requires c κs = search needs
+valid-term-requires : tie.Need-valid-term-requires
+valid-term-requires c κs = search needs
 
-timed-requires : tie.Need-timed-requires
-timed-requires c κs = search needs
+valid-time-requires : tie.Need-valid-time-requires
+valid-time-requires c κs = search needs
 
-timed-requires-2 : tie.Need-timed-requires-2
-timed-requires-2 c κs = search needs
+valid-time-requires-2 : tie.Need-valid-time-requires-2
+valid-time-requires-2 c κs = search needs
 
 returns-2 : tie.Need-returns-2
 unfolding number
@@ -30,16 +30,18 @@ returns-2 c =
     rw (
       ← c .before .before .before .before .before .before .good2 .ensures,
       c .before .before .before .before .before .if1 .left,
-      ← c .before .before .before .fair .ensures,
-      ← c .before .before .timed .ensures,
-      ← c .before .timed2 .ensures,
+      ← c .before .before .before .valid-term .ensures,
+      ← c .before .before .valid-time .ensures,
+      ← c .before .valid-time2 .ensures,
       c .if2 .taken,
     )
 
 stands-requires : tie.Need-stands-requires
 stands-requires c κs =
     let start = c .before .before .before .before .before .before .before .before .args in
-    good-count (start .lent) (state (start .queue)) (sym (c .before .before .before .before .before .before .before .good2 .ensures) ∙ not-false _ (c .before .before .before .before .before .before .if1 .left))
+    good-count (start .lent) (state (start .queue))
+    (sym (c .before .before .before .before .before .before .before .good2 .ensures) ∙ not-false _
+    (c .before .before .before .before .before .before .if1 .left))
 
 returns-3 : tie.Need-returns-3
 unfolding number
@@ -47,16 +49,16 @@ returns-3 c =
     rw (
       ← c .before .before .before .before .before .before .before .before .before .good2 .ensures,
       c .before .before .before .before .before .before .before .before .if1 .left,
-      ← c .before .before .before .before .before .before .fair .ensures,
-      ← c .before .before .before .before .before .timed .ensures,
-      ← c .before .before .before .before .timed2 .ensures,
+      ← c .before .before .before .before .before .before .valid-term .ensures,
+      ← c .before .before .before .before .before .valid-time .ensures,
+      ← c .before .before .before .before .valid-time2 .ensures,
       c .before .before .before .if2 .left,
       ← c .before .stands .ensures,
       c .if3 .taken,
     )
 
-over-requires : tie.Need-over-requires
-over-requires c κs = search needs
+expired-requires : tie.Need-expired-requires
+expired-requires c κs = search needs
 
 returns-4 : tie.Need-returns-4
 unfolding number
@@ -64,13 +66,13 @@ returns-4 c =
     rw (
       ← c .before .before .before .before .before .before .before .before .before .before .before .good2 .ensures,
       c .before .before .before .before .before .before .before .before .before .before .if1 .left,
-      ← c .before .before .before .before .before .before .before .before .fair .ensures,
-      ← c .before .before .before .before .before .before .before .timed .ensures,
-      ← c .before .before .before .before .before .before .timed2 .ensures,
+      ← c .before .before .before .before .before .before .before .before .valid-term .ensures,
+      ← c .before .before .before .before .before .before .before .valid-time .ensures,
+      ← c .before .before .before .before .before .before .valid-time2 .ensures,
       c .before .before .before .before .before .if2 .left,
       ← c .before .before .before .stands .ensures,
       c .before .before .if3 .left,
-      ← c .before .over .ensures,
+      ← c .before .expired .ensures,
       c .if4 .taken,
     )
 
@@ -80,13 +82,13 @@ returns-5 c =
     rw (
       ← c .before .before .before .before .before .before .before .before .before .before .before .good2 .ensures,
       c .before .before .before .before .before .before .before .before .before .before .if1 .left,
-      ← c .before .before .before .before .before .before .before .before .fair .ensures,
-      ← c .before .before .before .before .before .before .before .timed .ensures,
-      ← c .before .before .before .before .before .before .timed2 .ensures,
+      ← c .before .before .before .before .before .before .before .before .valid-term .ensures,
+      ← c .before .before .before .before .before .before .before .valid-time .ensures,
+      ← c .before .before .before .before .before .before .valid-time2 .ensures,
       c .before .before .before .before .before .if2 .left,
       ← c .before .before .before .stands .ensures,
       c .before .before .if3 .left,
-      ← c .before .over .ensures,
+      ← c .before .expired .ensures,
       c .if4 .left,
     )
 
@@ -96,12 +98,12 @@ lapse-number-spec =
     (tie.spec
     good-requires
     returns
-    fair-requires
-    timed-requires
-    timed-requires-2
+    valid-term-requires
+    valid-time-requires
+    valid-time-requires-2
     returns-2
     stands-requires
     returns-3
-    over-requires
+    expired-requires
     returns-4
     returns-5)

@@ -25,11 +25,15 @@ array-share-prefix-held : tie.Need-array-share-prefix-held
 array-share-prefix-held c = search needs
 
 slice-aggregate-put-2 : tie.Need-slice-aggregate-put-2
-slice-aggregate-put-2 c = sym (length-take-le _ _ (omega (arith, c .before .before .before .before .before .before .before .before .pre .0)))
+slice-aggregate-put-2 c =
+    let at8 = c .before .before .before .before .before .before .before .before in
+    sym (length-take-le _ _ (omega (arith, at8 .pre .0)))
 
 put-requires-2 : tie.Need-put-requires-2
 put-requires-2 c κs =
-    let whole = ap length (ap (take (length (c .before .before .before .before .before .before .before .before .args .v .now))) (c .before .before .before .put .ensures) ∙ splice-front (c .before .before .before .before .before .before .before .before .args .v .now) _) in
+    let whole = ap length
+    (ap (take (length (c .before .before .before .before .before .before .before .before .args .v .now)))
+    (c .before .before .before .put .ensures) ∙ splice-front (c .before .before .before .before .before .before .before .before .args .v .now) _) in
     omega (arith, whole, c .before .before .before .before .before .before .before .before .pre .1)
 
 same-length : tie.Need-same-length
@@ -39,7 +43,8 @@ returns-2 : tie.Need-returns-2
 returns-2 c =
     let start = c .before .before .before .before .before .before .before .before .before .before .before in
     c .before .before .put2 .ensures
-    ∙ ap (λ (v : List ℕ). splice (start .args .at) v (start .args .s .now)) (ap (take (length (start .args .v .now))) (c .before .before .before .before .before .before .put .ensures) ∙ splice-front (start .args .v .now) _)
+    ∙ ap (λ (v : List ℕ). splice (start .args .at) v (start .args .s .now))
+    (ap (take (length (start .args .v .now))) (c .before .before .before .before .before .before .put .ensures) ∙ splice-front (start .args .v .now) _)
 
 pub put-short-spec : {M : Type 1} → statement M
 put-short-spec =

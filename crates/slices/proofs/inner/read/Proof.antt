@@ -32,13 +32,15 @@ cast-sum : tie.Need-cast-sum Inv-loop μ-loop
 cast-sum c = omega (arith, c .shared-slice-known .given (c .before .before .before .args .at + (c .before .before .loop .left - 1)))
 
 add-sum-2 : tie.Need-add-sum-2 Inv-loop μ-loop
-add-sum-2 c = let small = fewer _ 7 (c .before .before .loop .inv .small) (omega arith) in omega (arith, c .shared-slice-known .given (c .before .before .before .args .at + (c .before .before .loop .left - 1)))
+add-sum-2 c = let small = fewer _ 7 (c .before .before .loop .inv .small) (omega arith) in omega
+    (arith, c .shared-slice-known .given (c .before .before .before .args .at + (c .before .before .loop .left - 1)))
 
 loop-less : tie.Need-loop-less Inv-loop μ-loop
 loop-less c = omega arith
 
 loop-again : tie.Need-loop-again Inv-loop μ-loop
-loop-again c = reading-more _ (omega arith) (omega arith) (omega (arith, c .shared-slice-known .given (c .before .before .before .args .at + (c .before .before .loop .left - 1)))) (c .before .before .loop .inv)
+loop-again c = reading-more _ (omega arith) (omega arith)
+    (omega (arith, c .shared-slice-known .given (c .before .before .before .args .at + (c .before .before .loop .left - 1)))) (c .before .before .loop .inv)
 
 returns : tie.Need-returns Inv-loop μ-loop
 returns c = let none : c .before .loop .left ≡ 0 = omega arith in reading-done _ (rw none at (c .before .loop .inv))

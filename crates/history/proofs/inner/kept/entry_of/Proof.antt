@@ -1,6 +1,6 @@
 -- The loop: what is left to take. The measure is what is left of the bytes. Assumes nothing.
 use Prim.Native.Nat.{_-_}
-use mathlib.Core.Path.{sym, _∙_}
+use mathlib.Core.Path.{refl, sym, _∙_}
 use native.Mathlib.Omega.{arith}
 use borrow.Author.Needs.{needs}
 use lib.ListN.{length}
@@ -15,11 +15,8 @@ Inv-loop kept card at₀ e₀ at e = Entering kept card at e
 abbrev μ-loop : tie.MeasureT-loop
 μ-loop kept card at₀ e₀ at e = length kept - at
 
-no-entry-requires : tie.Need-no-entry-requires Inv-loop μ-loop
-no-entry-requires c κs = search needs
-
 loop-holds : tie.Need-loop-holds Inv-loop μ-loop
-loop-holds c = entering-none _ _ _ (c .before .before .pre) (c .no-entry .ensures)
+loop-holds c = entering-none _ _ _ (c .before .pre) refl
 
 next-at-requires : tie.Need-next-at-requires Inv-loop μ-loop
 next-at-requires c κs = search needs
@@ -46,11 +43,16 @@ taken-requires : tie.Need-taken-requires Inv-loop μ-loop
 taken-requires c κs = entering-low _ _ _ _ (c .before .before .before .before .before .before .loop .inv)
 
 loop-less : tie.Need-loop-less Inv-loop μ-loop
-loop-less c = less _ _ _ (sym (c .before .before .before .before .before .before .next-at .ensures) ∙ c .before .before .before .before .end .given .1)
+loop-less c =
+    let at6 = c .before .before .before .before .before .before in
+    less _ _ _ (sym (at6 .next-at .ensures) ∙ c .before .before .before .before .end .given .1)
 
 loop-again : tie.Need-loop-again Inv-loop μ-loop
 unfolding part
-loop-again c = entering-more _ _ _ _ (c .before .before .before .before .before .before .before .loop .inv) _ _ (sym (c .before .before .before .before .before .before .next-at .ensures) ∙ c .before .before .before .before .end .given .1) (rw (c .taken .ensures, c .before .fields .ensures))
+loop-again c =
+    let at6 = c .before .before .before .before .before .before in
+    let at7 = at6 .before in
+    entering-more _ _ _ _ (at7 .loop .inv) _ _ (sym (at6 .next-at .ensures) ∙ c .before .before .before .before .end .given .1) (rw (c .taken .ensures, c .before .fields .ensures))
 
 returns : tie.Need-returns Inv-loop μ-loop
 returns c = working-done _ _ _ _ _ (c .before .before .before .loop .inv .working) (sym (c .before .before .next-at .ensures) ∙ c .enum-told .given .1)
@@ -61,7 +63,6 @@ entry-of-spec =
     (tie.spec
     Inv-loop
     μ-loop
-    no-entry-requires
     loop-holds
     next-at-requires
     enum-known-end

@@ -46,11 +46,18 @@ chosen-requires : tie.Need-chosen-requires Inv-loop μ-loop
 chosen-requires c κs = search needs
 
 loop-less : tie.Need-loop-less Inv-loop μ-loop
-loop-less c = less _ _ _ (sym (c .before .before .before .before .before .before .before .before .next-at .ensures) ∙ c .before .before .before .before .before .before .end .given .1)
+loop-less c =
+    let at6 = c .before .before .before .before .before .before in
+    let at8 = at6 .before .before in
+    less _ _ _ (sym (at8 .next-at .ensures) ∙ at6 .end .given .1)
 
 loop-again : tie.Need-loop-again Inv-loop μ-loop
 unfolding part
-loop-again c = finding-more _ _ _ _ _ (c .before .before .before .before .before .before .before .before .before .loop .inv) _ _ (sym (c .before .before .before .before .before .before .before .before .next-at .ensures) ∙ c .before .before .before .before .before .before .end .given .1) (rw (c .chosen .ensures, c .before .before .before .fields .ensures))
+loop-again c =
+    let at6 = c .before .before .before .before .before .before in
+    let at8 = at6 .before .before in
+    let at9 = at8 .before in
+    finding-more _ _ _ _ _ (at9 .loop .inv) _ _ (sym (at8 .next-at .ensures) ∙ at6 .end .given .1) (rw (c .chosen .ensures, c .before .before .before .fields .ensures))
 
 returns : tie.Need-returns Inv-loop μ-loop
 returns c = let f = c .before .before .before .loop .inv in (f .orderly, f .inside, working-done _ _ _ _ _ (f .working) (sym (c .before .before .next-at .ensures) ∙ c .enum-told .given .1))

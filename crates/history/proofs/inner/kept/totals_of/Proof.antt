@@ -27,16 +27,20 @@ enum-told : tie.Need-enum-told Inv-loop μ-loop
 enum-told c = search needs
 
 add-count : tie.Need-add-count Inv-loop μ-loop
-add-count c = let w = extending-within _ _ _ _ (c .before .before .before .before .loop .inv) _ (sym (c .before .before .before .next-at .ensures) ∙ c .before .end .given .1) in omega (arith, w .0, w .1, w .2)
+add-count c = let w = extending-within _ _ _ _ (c .before .before .before .before .loop .inv) _
+    (sym (c .before .before .before .next-at .ensures) ∙ c .before .end .given .1) in omega (arith, w .0, w .1, w .2)
 
 sub-payloads : tie.Need-sub-payloads Inv-loop μ-loop
-sub-payloads c = let w = extending-within _ _ _ _ (c .before .before .before .before .loop .inv) _ (sym (c .before .before .before .next-at .ensures) ∙ c .before .end .given .1) in omega (arith, w .0, w .1, w .2)
+sub-payloads c = let w = extending-within _ _ _ _ (c .before .before .before .before .loop .inv) _
+    (sym (c .before .before .before .next-at .ensures) ∙ c .before .end .given .1) in omega (arith, w .0, w .1, w .2)
 
 sub-payloads-2 : tie.Need-sub-payloads-2 Inv-loop μ-loop
-sub-payloads-2 c = let w = extending-within _ _ _ _ (c .before .before .before .before .loop .inv) _ (sym (c .before .before .before .next-at .ensures) ∙ c .before .end .given .1) in omega (arith, w .0, w .1, w .2)
+sub-payloads-2 c = let w = extending-within _ _ _ _ (c .before .before .before .before .loop .inv) _
+    (sym (c .before .before .before .next-at .ensures) ∙ c .before .end .given .1) in omega (arith, w .0, w .1, w .2)
 
 add-payloads : tie.Need-add-payloads Inv-loop μ-loop
-add-payloads c = let w = extending-within _ _ _ _ (c .before .before .before .before .loop .inv) _ (sym (c .before .before .before .next-at .ensures) ∙ c .before .end .given .1) in omega (arith, w .0, w .1, w .2)
+add-payloads c = let w = extending-within _ _ _ _ (c .before .before .before .before .loop .inv) _
+    (sym (c .before .before .before .next-at .ensures) ∙ c .before .end .given .1) in omega (arith, w .0, w .1, w .2)
 
 loop-less : tie.Need-loop-less Inv-loop μ-loop
 loop-less c = less _ _ _ (sym (c .before .before .before .next-at .ensures) ∙ c .before .end .given .1)

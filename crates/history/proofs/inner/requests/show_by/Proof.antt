@@ -18,7 +18,9 @@ part-put-end : tie.Need-part-put-end
 part-put-end c = search needs
 
 put-requires : tie.Need-put-requires
-put-requires c κs = put-fits _ _ _ _ (c .before .before .before .before .before .args .reply .now) (c .before .before .text-of .ensures .2) (c .before .before .before .before .before .pre)
+put-requires c κs =
+    let at5 = c .before .before .before .before .before in
+    put-fits _ _ _ _ (at5 .args .reply .now) (c .before .before .text-of .ensures .2) (at5 .pre)
 
 same-length : tie.Need-same-length
 same-length c = search needs

@@ -19,7 +19,10 @@ same-length : tie.Need-same-length
 same-length c = search needs
 
 returns : tie.Need-returns
-returns c = rw (c .before .before .clear .ensures, c .before .before .before .before .before .before .write-header .ensures) (fresh-written (formatOf (c .before .before .before .before .before .before .before .before .before .args .v)) (c .before .before .before .before .before .before .before .before .before .args .n) (c .before .before .before .before .before .before .before .before .before .args .c) (c .before .before .before .before .before .before .before .before .before .args .image .now) (omega arith))
+returns c =
+    let at6 = c .before .before .before .before .before .before in
+    let at9 = at6 .before .before .before in
+    rw (c .before .before .clear .ensures, at6 .write-header .ensures) (fresh-written (formatOf (at9 .args .v)) (at9 .args .n) (at9 .args .c) (at9 .args .image .now) (omega arith))
 
 pub fill-spec : {M : Type 1} → statement M
 fill-spec =

@@ -28,14 +28,20 @@ same-length c = search needs
 
 returns : tie.Need-returns
 unfolding toLe
-returns c = rw (
-  c .before .before .write-u163 .ensures,
-  c .before .before .before .before .before .before .write-u162 .ensures,
-  c .before .before .before .before .before .before .before .before .before .before .write-u16 .ensures,
-  c .before .before .before .before .before .before .before .before .before .before .before .before .before .before .write-u32 .ensures,
-  c .before .before .before .before .before .before .before .before .before .before .before .before .before .before .before .before .version .ensures,
-)
-    (splice-four 0 magic (toLe 2 (version (formatOf (c .before .before .before .before .before .before .before .before .before .before .before .before .before .before .before .before .before .before .args .v)))) (toLe 2 (c .before .before .before .before .before .before .before .before .before .before .before .before .before .before .before .before .before .before .args .n)) (toLe 2 (c .before .before .before .before .before .before .before .before .before .before .before .before .before .before .before .before .before .before .args .c)) _ (omega arith))
+returns c =
+    let at6 = c .before .before .before .before .before .before in
+    let at10 = at6 .before .before .before .before in
+    let at14 = at10 .before .before .before .before in
+    let at16 = at14 .before .before in
+    let at18 = at16 .before .before in
+    rw (
+      c .before .before .write-u163 .ensures,
+      at6 .write-u162 .ensures,
+      at10 .write-u16 .ensures,
+      at14 .write-u32 .ensures,
+      at16 .version .ensures,
+    )
+    (splice-four 0 magic (toLe 2 (version (formatOf (at18 .args .v)))) (toLe 2 (at18 .args .n)) (toLe 2 (at18 .args .c)) _ (omega arith))
 
 pub write-header-spec : {M : Type 1} → statement M
 write-header-spec =

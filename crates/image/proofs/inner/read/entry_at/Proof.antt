@@ -1,3 +1,4 @@
+-- The entry lies within the image; what is read of that part is the entry defined. Assumes nothing.
 use Rattle.formats.specs.Format.{formatOf}
 use Rattle.lists.proofs.Parts.{length-part}
 use Prim.Native.Nat.{_+_}
@@ -29,16 +30,21 @@ part-entry-of-end : tie.Need-part-entry-of-end
 part-entry-of-end c = search needs
 
 entry-of-requires : tie.Need-entry-of-requires
-entry-of-requires c κs = let n = numbers (formatOf (c .before .before .before .before .args .v)) in
-    let long = length-part (c .before .before .entry-place .result) (c .before .entry-size .result) (c .before .before .before .before .args .image .now) (omega (arith, c .before .entry-size .ensures, c .before .before .entry-place .ensures)) in
-    let same = cut (c .before .before .entry-place .result) (c .before .entry-size .result) (c .before .before .entry-place .result + c .before .entry-size .result) (c .before .before .before .before .args .image .now) refl in
+entry-of-requires c κs =
+    let at4 = c .before .before .before .before in
+    let n = numbers (formatOf (at4 .args .v)) in
+    let long = length-part (c .before .before .entry-place .result) (c .before .entry-size .result) (at4 .args .image .now)
+    (omega (arith, c .before .entry-size .ensures, c .before .before .entry-place .ensures)) in
+    let same = cut (c .before .before .entry-place .result) (c .before .entry-size .result) (c .before .before .entry-place .result + c .before .entry-size .result) (at4 .args .image .now) refl in
     rw same (omega (arith, n, long, c .before .entry-size .ensures))
 
 returns : tie.Need-returns
 unfolding entryAt
-returns c = let at = c .before .before .before .entry-place .result in
+returns c =
+    let at3 = c .before .before .before in
+    let at = at3 .entry-place .result in
     let size = c .before .before .entry-size .result in
-    rw (c .entry-of .ensures, cut at size (at + size) (c .before .before .before .before .before .args .image .now) refl, c .before .before .entry-size .ensures, c .before .before .before .entry-place .ensures)
+    rw (c .entry-of .ensures, cut at size (at + size) (c .before .before .before .before .before .args .image .now) refl, c .before .before .entry-size .ensures, at3 .entry-place .ensures)
 
 pub entry-at-spec : {M : Type 1} → statement M
 entry-at-spec =

@@ -1,3 +1,4 @@
+-- Each number at its place within the entry; the struct is made of what the readers ensure. Assumes nothing.
 use Rattle.image.specs.Bytes.{readEntry}
 use borrow.Author.Needs.{needs}
 use Rattle.image.proofs.inner.read.entry_of.Statement.{statement}
@@ -38,19 +39,25 @@ read-u16-requires-5 c κs = search needs
 
 returns : tie.Need-returns
 unfolding readEntry
-returns c = rw (
-  c .read-u165 .ensures,
-  c .before .length-place .ensures,
-  c .before .before .read-u164 .ensures,
-  c .before .before .before .original-at .ensures,
-  c .before .before .before .before .read-u163 .ensures,
-  c .before .before .before .before .before .from-place .ensures,
-  c .before .before .before .before .before .before .read-u162 .ensures,
-  c .before .before .before .before .before .before .before .read-u32 .ensures,
-  c .before .before .before .before .before .before .before .before .read-u16 .ensures,
-  c .before .before .before .before .before .before .before .before .before .read-u642 .ensures,
-  c .before .before .before .before .before .before .before .before .before .before .read-u64 .ensures,
-)
+returns c =
+    let at6 = c .before .before .before .before .before .before in
+    let at7 = at6 .before in
+    let at8 = at7 .before in
+    let at9 = at8 .before in
+    let at10 = at9 .before in
+    rw (
+      c .read-u165 .ensures,
+      c .before .length-place .ensures,
+      c .before .before .read-u164 .ensures,
+      c .before .before .before .original-at .ensures,
+      c .before .before .before .before .read-u163 .ensures,
+      c .before .before .before .before .before .from-place .ensures,
+      at6 .read-u162 .ensures,
+      at7 .read-u32 .ensures,
+      at8 .read-u16 .ensures,
+      at9 .read-u642 .ensures,
+      at10 .read-u64 .ensures,
+    )
 
 pub entry-of-spec : {M : Type 1} → statement M
 entry-of-spec =

@@ -24,8 +24,10 @@ read-u16-requires c κs = let n = numbers (formatOf (c .before .before .before .
 
 returns : tie.Need-returns
 unfolding entryAt readEntry
-returns c = rw (c .read-u16 .ensures, c .before .before .entry-place .ensures, c .before .length-place .ensures)
-    (sym (ap le (part-part _ _ _ 2 (c .before .before .before .before .args .image .now) (let n = numbers (formatOf (c .before .before .before .before .args .v)) in omega (arith, n)))))
+returns c =
+    let at4 = c .before .before .before .before in
+    rw (c .read-u16 .ensures, c .before .before .entry-place .ensures, c .before .length-place .ensures)
+    (sym (ap le (part-part _ _ _ 2 (at4 .args .image .now) (let n = numbers (formatOf (at4 .args .v)) in omega (arith, n)))))
 
 pub length-at-spec : {M : Type 1} → statement M
 length-at-spec = tie.close (tie.spec entry-place-requires length-place-requires add-read-u16 read-u16-requires returns)

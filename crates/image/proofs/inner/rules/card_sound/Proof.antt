@@ -18,53 +18,94 @@ room-requires : tie.Need-room-requires
 room-requires c κs = search needs
 
 entry-at-requires : tie.Need-entry-at-requires
-entry-at-requires c κs = let given = c .before .before .before .pre in (entry-lies (formatOf (c .before .before .before .args .v)) (c .before .before .before .args .image .now) (given .0) (given .1), numbers (formatOf (c .before .before .before .args .v)) .some)
+entry-at-requires c κs =
+    let at3 = c .before .before .before in
+    let given = at3 .pre in
+    (entry-lies (formatOf (at3 .args .v)) (at3 .args .image .now) (given .0) (given .1), numbers (formatOf (at3 .args .v)) .some)
 
 entry-sound-requires : tie.Need-entry-sound-requires
 entry-sound-requires c κs = search needs
 
 returns : tie.Need-returns
-returns c = let a = c .before .before .before .before .before .before .args in
+returns c =
+    let at6 = c .before .before .before .before .before .before in
+    let a = at6 .args in
     let fails = sym (c .before .entry-sound .ensures) ∙ not-true _ (c .if1 .taken) in
     sym (entry-fails (formatOf (a .v)) (a .image .now) (a .k) (rw (c .before .before .entry-at .ensures, c .before .before .before .room .ensures) at fails))
 
 field-zero-requires : tie.Need-field-zero-requires
-field-zero-requires c κs = entry-lies (formatOf (c .before .before .before .before .before .before .args .v)) (c .before .before .before .before .before .before .args .image .now) (c .before .before .before .before .before .before .pre .0) (c .before .before .before .before .before .before .pre .1)
+field-zero-requires c κs =
+    let at6 = c .before .before .before .before .before .before in
+    entry-lies (formatOf (at6 .args .v)) (at6 .args .image .now) (at6 .pre .0) (at6 .pre .1)
 
 returns-2 : tie.Need-returns-2
-returns-2 c = sym (field-fails (formatOf (c .before .before .before .before .before .before .before .before .args .v)) (c .before .before .before .before .before .before .before .before .args .image .now) (c .before .before .before .before .before .before .before .before .args .k) (sym (c .before .field-zero .ensures) ∙ not-true _ (c .if2 .taken)))
+returns-2 c =
+    let at8 = c .before .before .before .before .before .before .before .before in
+    sym (field-fails (formatOf (at8 .args .v)) (at8 .args .image .now) (at8 .args .k) (sym (c .before .field-zero .ensures) ∙ not-true _ (c .if2 .taken)))
 
 blank-zero-requires : tie.Need-blank-zero-requires
-blank-zero-requires c κs = entry-lies (formatOf (c .before .before .before .before .before .before .before .before .args .v)) (c .before .before .before .before .before .before .before .before .args .image .now) (c .before .before .before .before .before .before .before .before .pre .0) (c .before .before .before .before .before .before .before .before .pre .1)
+blank-zero-requires c κs =
+    let at8 = c .before .before .before .before .before .before .before .before in
+    entry-lies (formatOf (at8 .args .v)) (at8 .args .image .now) (at8 .pre .0) (at8 .pre .1)
 
 returns-3 : tie.Need-returns-3
-returns-3 c = sym (blank-fails (formatOf (c .before .before .before .before .before .before .before .before .before .before .args .v)) (c .before .before .before .before .before .before .before .before .before .before .args .image .now) (c .before .before .before .before .before .before .before .before .before .before .args .k) (sym (c .before .blank-zero .ensures) ∙ not-true _ (c .if3 .taken)))
+returns-3 c =
+    let at10 = c .before .before .before .before .before .before .before .before .before .before in
+    sym (blank-fails (formatOf (at10 .args .v)) (at10 .args .image .now) (at10 .args .k) (sym (c .before .blank-zero .ensures) ∙ not-true _ (c .if3 .taken)))
 
 body-place-requires : tie.Need-body-place-requires
 body-place-requires c κs = search needs
 
 tail-zero-requires : tie.Need-tail-zero-requires
-tail-zero-requires c κs = let a = c .before .before .before .before .before .before .before .before .before .before .before .args in
-    let given = c .before .before .before .before .before .before .before .before .before .before .before .pre in
-    let l = lengths (c .before .before .before .before .before .before .before .before .room .result) (c .before .before .before .before .before .before .before .entry-at .result) (sym (c .before .before .before .before .before .before .entry-sound .ensures) ∙ not-false _ (c .before .before .before .before .before .if1 .left)) in
-    (l .original, body-lies (formatOf (a .v)) (a .image .now) (c .body-place .ensures) (c .before .before .before .before .before .before .before .before .before .count .ensures) (c .before .before .before .before .before .before .before .before .room .ensures) (given .0) (given .1) (omega arith))
+tail-zero-requires c κs =
+    let at6 = c .before .before .before .before .before .before in
+    let at7 = at6 .before in
+    let at8 = at7 .before in
+    let at9 = at8 .before in
+    let at11 = at9 .before .before in
+    let a = at11 .args in
+    let given = at11 .pre in
+    let l = lengths (at8 .room .result) (at7 .entry-at .result) (sym (at6 .entry-sound .ensures) ∙ not-false _ (c .before .before .before .before .before .if1 .left)) in
+    (l .original, body-lies (formatOf (a .v)) (a .image .now) (c .body-place .ensures) (at9 .count .ensures) (at8 .room .ensures) (given .0) (given .1) (omega arith))
 
 returns-4 : tie.Need-returns-4
 unfolding tailZero
-returns-4 c = let a = c .before .before .before .before .before .before .before .before .before .before .before .before .before .args in
+returns-4 c =
+    let at9 = c .before .before .before .before .before .before .before .before .before in
+    let at10 = at9 .before in
+    let at11 = at10 .before in
+    let at13 = at11 .before .before in
+    let a = at13 .args in
     let fails = sym (c .before .tail-zero .ensures) ∙ not-true _ (c .if4 .taken) in
-    sym (tail-fails (formatOf (a .v)) (a .image .now) (a .k) (rw (c .before .before .body-place .ensures, c .before .before .before .before .before .before .before .before .before .entry-at .ensures, c .before .before .before .before .before .before .before .before .before .before .room .ensures, c .before .before .before .before .before .before .before .before .before .before .before .count .ensures) at fails))
+    sym (tail-fails (formatOf (a .v)) (a .image .now) (a .k) (rw (c .before .before .body-place .ensures, at9 .entry-at .ensures, at10 .room .ensures, at11 .count .ensures) at fails))
 
 translations-sound-requires : tie.Need-translations-sound-requires
-translations-sound-requires c κs = let holds = sym (c .before .before .before .before .before .before .before .before .entry-sound .ensures) ∙ not-false _ (c .before .before .before .before .before .before .before .if1 .left) in
-    (c .before .before .before .before .before .before .before .before .before .before .before .before .before .pre .0, c .before .before .before .before .before .before .before .before .before .before .before .before .before .pre .1, rw (c .before .before .before .before .before .before .before .before .before .entry-at .ensures), to-T (rw (c .before .before .before .before .before .before .before .before .before .entry-at .ensures, c .before .before .before .before .before .before .before .before .before .before .room .ensures) at holds))
+translations-sound-requires c κs =
+    let at7 = c .before .before .before .before .before .before .before in
+    let at8 = at7 .before in
+    let at9 = at8 .before in
+    let at10 = at9 .before in
+    let at13 = at10 .before .before .before in
+    let holds = sym (at8 .entry-sound .ensures) ∙ not-false _ (at7 .if1 .left) in
+    (at13 .pre .0, at13 .pre .1, rw (at9 .entry-at .ensures), to-T (rw (at9 .entry-at .ensures, at10 .room .ensures) at holds))
 
 returns-5 : tie.Need-returns-5
 unfolding tailZero
-returns-5 c = let a = c .before .before .before .before .before .before .before .before .before .before .before .before .before .before .args in
+returns-5 c =
+    let at6 = c .before .before .before .before .before .before in
+    let at7 = at6 .before in
+    let at10 = at7 .before .before .before in
+    let at11 = at10 .before in
+    let at12 = at11 .before in
+    let at14 = at12 .before .before in
+    let a = at14 .args in
     let tail = sym (c .before .before .tail-zero .ensures) ∙ not-false _ (c .before .if4 .left) in
     c .translations-sound .ensures
-    ∙ translations-decide (formatOf (a .v)) (a .image .now) (a .k) (sym (c .before .before .before .before .before .before .before .field-zero .ensures) ∙ not-false _ (c .before .before .before .before .before .before .if2 .left)) (sym (c .before .before .before .before .before .blank-zero .ensures) ∙ not-false _ (c .before .before .before .before .if3 .left)) (rw (c .before .before .before .body-place .ensures, c .before .before .before .before .before .before .before .before .before .before .entry-at .ensures, c .before .before .before .before .before .before .before .before .before .before .before .room .ensures, c .before .before .before .before .before .before .before .before .before .before .before .before .count .ensures) at tail)
+    ∙ translations-decide (formatOf (a .v)) (a .image .now) (a .k) (sym (at7 .field-zero .ensures) ∙ not-false _ (at6 .if2 .left))
+    (sym (c .before .before .before .before .before .blank-zero .ensures) ∙ not-false _ (c .before .before .before .before .if3 .left))
+    (rw (c .before .before .before .body-place .ensures, at10 .entry-at .ensures, at11 .room .ensures, at12 .count .ensures) at tail)
 
 pub card-sound-spec : {M : Type 1} → statement M
-card-sound-spec = tie.close (tie.spec count-requires room-requires entry-at-requires entry-sound-requires returns field-zero-requires returns-2 blank-zero-requires returns-3 body-place-requires tail-zero-requires returns-4 translations-sound-requires returns-5)
+card-sound-spec = tie.close
+    (tie.spec count-requires room-requires entry-at-requires entry-sound-requires returns field-zero-requires returns-2 blank-zero-requires returns-3
+    body-place-requires tail-zero-requires returns-4 translations-sound-requires returns-5)

@@ -1,3 +1,4 @@
+-- Test by test: a header that fails one is not sound, and behind the last test the definition is what is left. Assumes nothing.
 use Rattle.image.specs.Image.{headerSound}
 use Rattle.lists.specs.Le.{le}
 use Rattle.lists.specs.Parts.{part}
@@ -47,16 +48,20 @@ size-of-requires c κs = search needs
 
 returns : tie.Need-returns
 unfolding headerSound all allFrom part le
-returns c = rw (
-  c .size-of .ensures,
-  c .before .all-zero .ensures,
-  c .before .before .before .shape-ok .ensures,
-  c .before .before .before .before .version .ensures,
-  c .before .before .before .before .before .read-u16 .ensures,
-  c .before .before .before .before .before .before .read-u32 .ensures,
-  c .before .before .before .before .before .before .before .room .ensures,
-  c .before .before .before .before .before .before .before .before .count .ensures,
-)
+returns c =
+    let at6 = c .before .before .before .before .before .before in
+    let at7 = at6 .before in
+    let at8 = at7 .before in
+    rw (
+      c .size-of .ensures,
+      c .before .all-zero .ensures,
+      c .before .before .before .shape-ok .ensures,
+      c .before .before .before .before .version .ensures,
+      c .before .before .before .before .before .read-u16 .ensures,
+      at6 .read-u32 .ensures,
+      at7 .room .ensures,
+      at8 .count .ensures,
+    )
 
 pub header-sound-spec : {M : Type 1} → statement M
 header-sound-spec =

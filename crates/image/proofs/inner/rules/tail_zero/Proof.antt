@@ -25,7 +25,9 @@ all-zero-requires : tie.Need-all-zero-requires
 all-zero-requires c κs = search needs
 
 returns : tie.Need-returns
-returns c = rw (c .all-zero .ensures, cut (c .before .before .before .args .at + c .before .before .before .args .count) (c .before .before .before .args .room - c .before .before .before .args .count) (c .before .before .before .args .at + c .before .before .before .args .room) (c .before .before .before .args .image .now) (omega arith))
+returns c =
+    let at3 = c .before .before .before in
+    rw (c .all-zero .ensures, cut (at3 .args .at + at3 .args .count) (at3 .args .room - at3 .args .count) (at3 .args .at + at3 .args .room) (at3 .args .image .now) (omega arith))
 
 pub tail-zero-spec : {M : Type 1} → statement M
 tail-zero-spec =

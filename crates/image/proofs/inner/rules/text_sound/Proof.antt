@@ -26,10 +26,17 @@ returns c = rw (c .if1 .taken, le-leb 0 (c .before .args .edition) (omega arith)
     (none _ _ (λ e. le-leb (c .before .args .count) (c .before .args .room) (omega (arith, eqb-true (c .before .args .count) 0 e))))
 
 returns-2 : tie.Need-returns-2
-returns-2 c = rw (lt-leb (c .before .before .args .from) (c .before .before .args .edition) (c .if2 .taken)) (later (leb (c .before .before .args .count) (c .before .before .args .room)) (not (eqb (c .before .before .args .from) 0) || eqb (c .before .before .args .count) 0))
+returns-2 c = rw (lt-leb (c .before .before .args .from) (c .before .before .args .edition) (c .if2 .taken))
+    (later (leb (c .before .before .args .count) (c .before .before .args .room))
+    (not (eqb (c .before .before .args .from) 0) || eqb (c .before .before .args .count) 0))
 
 returns-3 : tie.Need-returns-3
-returns-3 c = rw (ne-eqb (c .before .before .args .from) 0 (c .before .if1 .left), le-leb (c .before .before .args .from) (c .before .before .args .edition) (c .if2 .left)) (from-one (leb (c .before .before .args .count) (c .before .before .args .room)) (eqb (c .before .before .args .count) 0))
+returns-3 c = rw (
+  ne-eqb (c .before .before .args .from) 0 (c .before .if1 .left),
+  le-leb (c .before .before .args .from)
+      (c .before .before .args .edition) (c .if2 .left),
+)
+    (from-one (leb (c .before .before .args .count) (c .before .before .args .room)) (eqb (c .before .before .args .count) 0))
 
 pub text-sound-spec : {M : Type 1} → statement M
 text-sound-spec = tie.close (tie.spec returns returns-2 returns-3)

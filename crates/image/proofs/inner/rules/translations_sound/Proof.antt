@@ -1,3 +1,4 @@
+-- The loop: the translations before t keep the rules. The measure is how many are left. Assumes nothing.
 use Prim.Native.Nat.{_≤_, _-_}
 use native.Mathlib.Omega.{arith}
 use mathlib.Core.Bool.{true}
@@ -26,7 +27,10 @@ translation-sound-requires : tie.Need-translation-sound-requires Inv-loop μ-loo
 translation-sound-requires c κs = let given = c .before .before .before .before .pre in (given .0, given .1, omega (arith, c .before .before .translations .ensures), given .2, given .3)
 
 returns : tie.Need-returns Inv-loop μ-loop
-returns c = sym (every-fail (translationSound (formatOf (c .before .before .before .before .before .before .args .v)) (c .before .before .before .before .before .before .args .image .now) (c .before .before .before .before .before .before .args .k)) (translations (formatOf (c .before .before .before .before .before .before .args .v))) (c .before .before .before .loop .t) (omega (arith, c .before .before .before .before .translations .ensures))
+returns c =
+    let at6 = c .before .before .before .before .before .before in
+    sym (every-fail (translationSound (formatOf (at6 .args .v)) (at6 .args .image .now) (at6 .args .k)) (translations (formatOf (at6 .args .v)))
+    (c .before .before .before .loop .t) (omega (arith, c .before .before .before .before .translations .ensures))
     (sym (c .before .translation-sound .ensures) ∙ not-true _ (c .if1 .taken)))
 
 add-t : tie.Need-add-t Inv-loop μ-loop
@@ -36,7 +40,13 @@ loop-less : tie.Need-loop-less Inv-loop μ-loop
 loop-less c = omega arith
 
 loop-again : tie.Need-loop-again Inv-loop μ-loop
-loop-again c = (omega arith, every-more (translationSound (formatOf (c .before .before .before .before .before .before .args .v)) (c .before .before .before .before .before .before .args .image .now) (c .before .before .before .before .before .before .args .k)) (c .before .before .before .loop .t) (c .before .before .before .loop .inv .1) (sym (c .before .translation-sound .ensures) ∙ not-false _ (c .if1 .left)))
+loop-again c =
+    let at3 = c .before .before .before in
+    let at6 = at3 .before .before .before in (
+      omega arith,
+      every-more (translationSound (formatOf (at6 .args .v)) (at6 .args .image .now) (at6 .args .k)) (at3 .loop .t) (at3 .loop .inv .1)
+          (sym (c .before .translation-sound .ensures) ∙ not-false _ (c .if1 .left)),
+    )
 
 returns-2 : tie.Need-returns-2 Inv-loop μ-loop
 returns-2 c = let a = c .before .before .before .before .args in

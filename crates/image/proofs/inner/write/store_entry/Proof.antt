@@ -1,7 +1,8 @@
+-- Pair, mark and counts are written one after the other within the entry; together they are the entry defined. Assumes nothing.
 use Rattle.formats.specs.Format.{formatOf}
 use native.Mathlib.Omega.{arith}
 use Rattle.formats.proofs.Numbers.{numbers}
-use Rattle.image.specs.Write.{entryWith}
+use Rattle.image.specs.inner.Write.{entryWith}
 use borrow.Author.Needs.{needs}
 use Rattle.image.proofs.inner.write.store_entry.Statement.{statement}
 use Rattle.image.proofs.inner.write.store_entry.Tie as tie
@@ -16,17 +17,26 @@ add-write-mark : tie.Need-add-write-mark
 add-write-mark c = search needs
 
 write-mark-requires : tie.Need-write-mark-requires
-write-mark-requires c κs = let n = numbers (formatOf (c .before .before .before .before .before .before .before .args .v)) in omega (arith, n, c .before .before .before .before .before .entry-place .ensures)
+write-mark-requires c κs =
+    let at7 = c .before .before .before .before .before .before .before in
+    let n = numbers (formatOf (at7 .args .v)) in omega (arith, n, c .before .before .before .before .before .entry-place .ensures)
 
 write-counts-requires : tie.Need-write-counts-requires
-write-counts-requires c κs = let n = numbers (formatOf (c .before .before .before .before .before .before .before .before .before .before .before .args .v)) in omega (arith, n, c .before .before .before .before .before .before .before .before .before .entry-place .ensures)
+write-counts-requires c κs =
+    let at9 = c .before .before .before .before .before .before .before .before .before in
+    let at11 = at9 .before .before in
+    let n = numbers (formatOf (at11 .args .v)) in omega (arith, n, at9 .entry-place .ensures)
 
 same-length : tie.Need-same-length
 same-length c = search needs
 
 returns : tie.Need-returns
 unfolding entryWith
-returns c = rw (c .before .before .write-counts .ensures, c .before .before .before .before .before .before .write-mark .ensures, c .before .before .before .before .before .before .before .before .before .before .write-pair .ensures, c .before .before .before .before .before .before .before .before .before .before .before .before .entry-place .ensures)
+returns c =
+    let at6 = c .before .before .before .before .before .before in
+    let at10 = at6 .before .before .before .before in
+    let at12 = at10 .before .before in
+    rw (c .before .before .write-counts .ensures, at6 .write-mark .ensures, at10 .write-pair .ensures, at12 .entry-place .ensures)
 
 pub store-entry-spec : {M : Type 1} → statement M
 store-entry-spec =

@@ -25,7 +25,9 @@ same-length : tie.Need-same-length
 same-length c = search needs
 
 returns : tie.Need-returns
-returns c = rw (c .before .before .clear .ensures, c .before .before .before .before .before .before .before .put-short .ensures) (over-longer _ _ _ _ (omega arith))
+returns c =
+    let at7 = c .before .before .before .before .before .before .before in
+    rw (c .before .before .clear .ensures, at7 .put-short .ensures) (over-longer _ _ _ _ (omega arith))
 
 same-length-2 : tie.Need-same-length-2
 same-length-2 c = search needs

@@ -1,3 +1,4 @@
+-- Four numbers, each within the entry; the image after them is the one defined, number by number. Assumes nothing.
 use borrow.Author.Needs.{needs}
 use Rattle.image.proofs.inner.write.write_counts.Statement.{statement}
 use Rattle.image.proofs.inner.write.write_counts.Tie as tie
@@ -39,7 +40,22 @@ same-length : tie.Need-same-length
 same-length c = search needs
 
 returns : tie.Need-returns
-returns c = rw (c .before .before .write-u164 .ensures, c .before .before .before .before .before .before .write-u163 .ensures, c .before .before .before .before .before .before .before .before .before .before .write-u162 .ensures, c .before .before .before .before .before .before .before .before .before .before .before .before .before .before .write-u16 .ensures, c .before .before .before .before .before .before .before .before .before .before .before .before .before .before .before .before .length-place .ensures, c .before .before .before .before .before .before .before .before .before .before .before .before .before .before .before .before .before .from-place .ensures, c .before .before .before .before .before .before .before .before .before .before .before .before .before .before .before .before .before .before .original-at .ensures)
+returns c =
+    let at6 = c .before .before .before .before .before .before in
+    let at10 = at6 .before .before .before .before in
+    let at14 = at10 .before .before .before .before in
+    let at16 = at14 .before .before in
+    let at17 = at16 .before in
+    let at18 = at17 .before in
+    rw (
+      c .before .before .write-u164 .ensures,
+      at6 .write-u163 .ensures,
+      at10 .write-u162 .ensures,
+      at14 .write-u16 .ensures,
+      at16 .length-place .ensures,
+      at17 .from-place .ensures,
+      at18 .original-at .ensures,
+    )
 
 pub write-counts-spec : {M : Type 1} → statement M
 write-counts-spec =

@@ -26,8 +26,12 @@ same-length c = search needs
 
 returns : tie.Need-returns
 unfolding toLe
-returns c = rw (c .before .before .write-u32 .ensures, c .before .before .before .before .before .before .write-u162 .ensures, c .before .before .before .before .before .before .before .before .before .before .write-u16 .ensures)
-    (splice-three _ (toLe 2 (c .before .before .before .before .before .before .before .before .before .before .before .before .before .args .mark .desk)) (toLe 2 0) (toLe 4 (c .before .before .before .before .before .before .before .before .before .before .before .before .before .args .mark .transaction)) _ (omega arith))
+returns c =
+    let at6 = c .before .before .before .before .before .before in
+    let at10 = at6 .before .before .before .before in
+    let at13 = at10 .before .before .before in
+    rw (c .before .before .write-u32 .ensures, at6 .write-u162 .ensures, at10 .write-u16 .ensures)
+    (splice-three _ (toLe 2 (at13 .args .mark .desk)) (toLe 2 0) (toLe 4 (at13 .args .mark .transaction)) _ (omega arith))
 
 pub write-mark-spec : {M : Type 1} → statement M
 write-mark-spec =

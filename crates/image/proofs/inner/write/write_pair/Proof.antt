@@ -20,8 +20,11 @@ same-length c = search needs
 
 returns : tie.Need-returns
 unfolding toLe
-returns c = rw (c .before .before .write-u642 .ensures, c .before .before .before .before .before .before .write-u64 .ensures)
-    (splice-adjacent _ (toLe 8 (c .before .before .before .before .before .before .before .before .before .args .pair .s)) (toLe 8 (c .before .before .before .before .before .before .before .before .before .args .pair .x)) _ (omega arith))
+returns c =
+    let at6 = c .before .before .before .before .before .before in
+    let at9 = at6 .before .before .before in
+    rw (c .before .before .write-u642 .ensures, at6 .write-u64 .ensures)
+    (splice-adjacent _ (toLe 8 (at9 .args .pair .s)) (toLe 8 (at9 .args .pair .x)) _ (omega arith))
 
 pub write-pair-spec : {M : Type 1} → statement M
 write-pair-spec =

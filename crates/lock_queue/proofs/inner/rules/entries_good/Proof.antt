@@ -4,7 +4,8 @@ use native.Mathlib.Omega.{arith}
 use mathlib.Core.Path.{_≡_, refl}
 use lib.ListN.{length, take}
 use Rattle.lock_queue.specs.Queue.{mostPlaces}
-use Rattle.lock_queue.specs.Good.{distinct, entriesGood}
+use Rattle.lock_queue.specs.Good.{distinct}
+use Rattle.lock_queue.specs.inner.Entries.{entriesGood}
 use Rattle.lists.specs.Table.{all, allFrom}
 use Rattle.lock_queue.proofs.Array.{places-long}
 use Rattle.lock_queue.proofs.Standing.{one-more}

@@ -43,8 +43,13 @@ loop-less c = omega arith
 loop-again : tie.Need-loop-again Inv-loop μ-loop
 loop-again c =
     let start = c .before .before .before .before .before in
-    let i = c .before .before .before .before .loop in
-    (i .inv .0, omega arith, passed-more _ _ _ _ (i .inv .2) (from (start .args .count) (start .args .t1 .at) (omega arith) (c .before .before .before .loop-test .taken)) (λ e. c .if1 .left (c .before .desk-of .ensures ∙ e)))
+    let i = c .before .before .before .before .loop in (
+      i .inv .0,
+      omega arith,
+      passed-more _ _ _ _ (i .inv .2)
+          (from (start .args .count) (start .args .t1 .at) (omega arith) (c .before .before .before .loop-test .taken))
+          (λ e. c .if1 .left (c .before .desk-of .ensures ∙ e)),
+    )
 
 returns-2 : tie.Need-returns-2 Inv-loop μ-loop
 returns-2 c = passed-end _ _ _ (c .before .loop .inv .2) (ended _ _ (c .loop-test .left))

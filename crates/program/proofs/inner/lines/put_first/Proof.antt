@@ -27,7 +27,10 @@ same-length c = search needs
 
 returns : tie.Need-returns
 unfolding firstLine quoted
-returns c = put-wide (omega arith) (put-put (omega arith) (put-put (omega arith) (c .before .before .before .before .before .before .before .before .before .before .before .put-text .ensures) (c .before .before .before .before .before .before .before .put-spaced .ensures)) (c .before .before .put-text2 .ensures))
+returns c =
+    let at7 = c .before .before .before .before .before .before .before in
+    let at11 = at7 .before .before .before .before in
+    put-wide (omega arith) (put-put (omega arith) (put-put (omega arith) (at11 .put-text .ensures) (at7 .put-spaced .ensures)) (c .before .before .put-text2 .ensures))
 
 pub put-first-spec : {M : Type 1} → statement M
 put-first-spec =

@@ -41,7 +41,13 @@ same-length-2 c = search needs
 
 returns-2 : tie.Need-returns-2
 unfolding lastLine quoted
-returns-2 c = rw (ne-eqb _ _ (c .before .before .before .before .before .before .before .before .before .before .before .before .before .before .if1 .left)) (put-wide (omega arith) (put-put (omega arith) (put-put (omega arith) (c .before .before .before .before .before .before .before .before .before .before .before .put-text2 .ensures) (c .before .before .before .before .before .before .before .put-spaced .ensures)) (c .before .before .put-text3 .ensures)))
+returns-2 c =
+    let at7 = c .before .before .before .before .before .before .before in
+    let at11 = at7 .before .before .before .before in
+    let at14 = at11 .before .before .before in
+    rw (ne-eqb _ _ (at14 .if1 .left))
+    (put-wide (omega arith)
+    (put-put (omega arith) (put-put (omega arith) (at11 .put-text2 .ensures) (at7 .put-spaced .ensures)) (c .before .before .put-text3 .ensures)))
 
 pub put-last-spec : {M : Type 1} → statement M
 put-last-spec =

@@ -23,7 +23,10 @@ same-length c = search needs
 
 returns : tie.Need-returns
 unfolding quoted
-returns c = put-wide (omega arith) (put-put (omega arith) (put-put (omega arith) (c .before .before .before .before .before .before .before .before .before .before .before .put-decimal .ensures) (c .before .before .before .before .before .before .before .put-numbers .ensures)) (c .before .before .put-text .ensures))
+returns c =
+    let at7 = c .before .before .before .before .before .before .before in
+    let at11 = at7 .before .before .before .before in
+    put-wide (omega arith) (put-put (omega arith) (put-put (omega arith) (at11 .put-decimal .ensures) (at7 .put-numbers .ensures)) (c .before .before .put-text .ensures))
 
 pub put-line-spec : {M : Type 1} → statement M
 put-line-spec =

@@ -2,7 +2,7 @@
 use Prim.Native.Nat.{_+_, _-_, _*_, _≤_, _<_}
 use native.Mathlib.Omega.{arith}
 use lib.ListN.{length, drop}
-use Rattle.lists.specs.Parts.{spread}
+use Rattle.lists.specs.Parts.{concatMap}
 use Rattle.program.specs.Text.{spaced, mostDigits}
 use Rattle.program.proofs.Puts.{Putting, putting-none, putting-more, putting-done}
 use Rattle.store.specs.Runs.{perLine}
@@ -11,7 +11,7 @@ use Rattle.program.proofs.inner.lines.put_numbers.Statement.{statement}
 use Rattle.program.proofs.inner.lines.put_numbers.Tie as tie
 
 abbrev Inv-loop : tie.InvT-loop
-Inv-loop out₀ at numbers to₀ i₀ out to i = Putting at to (spread spaced numbers) (spread spaced (drop i numbers)) out₀ out × (i ≤ perLine) × (to ≤ at + i * (1 + mostDigits))
+Inv-loop out₀ at numbers to₀ i₀ out to i = Putting at to (concatMap spaced numbers) (concatMap spaced (drop i numbers)) out₀ out × (i ≤ perLine) × (to ≤ at + i * (1 + mostDigits))
 
 abbrev μ-loop : tie.MeasureT-loop
 μ-loop out₀ at numbers to₀ i₀ out to i = perLine - i
@@ -36,7 +36,12 @@ loop-less c = omega arith
 
 loop-again : tie.Need-loop-again Inv-loop μ-loop
 loop-again c =
-    let h : c .before .before .before .before .before .before .loop .i < length (c .before .before .before .before .before .before .before .before .before .args .numbers .now) = omega (arith, c .before .before .before .before .before .loop-test .taken, c .before .before .before .before .before .before .before .before .before .pre .1) in
+    let h : c .before .before .before .before .before .before .loop .i < length
+    (c .before .before .before .before .before .before .before .before .before .args .numbers .now) = omega (
+      arith,
+      c .before .before .before .before .before .loop-test .taken,
+      c .before .before .before .before .before .before .before .before .before .pre .1,
+    ) in
     let p = c .before .before .put-spaced .ensures in (
       putting-more _ _ (c .before .before .before .before .before .before .loop .inv .0) (numbers-left _ h) p (omega arith),
       omega arith,

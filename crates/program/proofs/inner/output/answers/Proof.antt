@@ -14,13 +14,17 @@ slice-aggregate-put-2 : tie.Need-slice-aggregate-put-2
 slice-aggregate-put-2 c = sym (length-take-le _ _ (c .before .before .before .before .pre .within))
 
 put-requires : tie.Need-put-requires
-put-requires c κs = let lent = length-take-le (c .before .before .before .before .args .size) (c .before .before .before .before .args .input .now) (c .before .before .before .before .pre .within) in omega (arith, lent, c .before .before .before .before .pre .small)
+put-requires c κs =
+    let at4 = c .before .before .before .before in
+    let lent = length-take-le (at4 .args .size) (at4 .args .input .now) (at4 .pre .within) in omega (arith, lent, at4 .pre .small)
 
 array-borrow-prefix-image : tie.Need-array-borrow-prefix-image
 array-borrow-prefix-image c = search needs
 
 slice-aggregate-put-printed : tie.Need-slice-aggregate-put-printed
-slice-aggregate-put-printed c = sym (length-take-le _ _ (omega (arith, c .before .before .before .before .before .before .before .pre .small)))
+slice-aggregate-put-printed c =
+    let at7 = c .before .before .before .before .before .before .before in
+    sym (length-take-le _ _ (omega (arith, at7 .pre .small)))
 
 sub-put-printed : tie.Need-sub-put-printed
 sub-put-printed c = search needs
@@ -35,20 +39,27 @@ array-borrow-prefix-reply : tie.Need-array-borrow-prefix-reply
 array-borrow-prefix-reply c = search needs
 
 slice-aggregate-put-printed-2 : tie.Need-slice-aggregate-put-printed-2
-slice-aggregate-put-printed-2 c = sym (length-take-le _ _ (omega (arith, c .before .before .before .before .before .before .before .before .before .pre .most)))
+slice-aggregate-put-printed-2 c =
+    let at9 = c .before .before .before .before .before .before .before .before .before in
+    sym (length-take-le _ _ (omega (arith, at9 .pre .most)))
 
 put-printed-requires : tie.Need-put-printed-requires
 put-printed-requires c κs =
     let at10 = c .before .before .before .before .before .before .before .before .before .before in (
       copied-sound (at10 .args .size) (at10 .args .input .now) _ _ (at10 .pre .within) (c .before .before .before .before .before .put .ensures) (at10 .pre .good),
-      rw (back-of (c .before .before .before .before .before .before .before .before .before .before .args .size) (c .before .before .before .before .before .before .before .before .before .before .args .input .now)) (c .before .before .before .before .before .before .before .before .before .before .pre .lines),
+      rw (back-of (c .before .before .before .before .before .before .before .before .before .before .args .size)
+          (c .before .before .before .before .before .before .before .before .before .before .args .input .now))
+          (c .before .before .before .before .before .before .before .before .before .before .pre .lines),
     )
 
 same-length : tie.Need-same-length
 same-length c = search needs
 
 returns : tie.Need-returns
-returns c = answered-by (c .before .before .before .before .before .before .before .before .before .before .before .before .before .before .before .args .size) (c .before .before .before .before .before .before .before .before .before .before .before .before .before .before .before .args .room) (c .before .before .before .before .before .before .before .before .before .before .before .before .before .before .before .args .input .now) _ _ (c .before .before .before .before .before .before .before .before .before .before .before .before .before .before .before .pre .within) (c .before .before .before .before .before .before .before .before .before .before .before .before .before .before .before .pre .most) (c .before .before .before .before .before .before .before .before .before .before .put .ensures) (c .before .before .before .before .put-printed .ensures)
+returns c =
+    let at10 = c .before .before .before .before .before .before .before .before .before .before in
+    let at15 = at10 .before .before .before .before .before in
+    answered-by (at15 .args .size) (at15 .args .room) (at15 .args .input .now) _ _ (at15 .pre .within) (at15 .pre .most) (at10 .put .ensures) (c .before .before .before .before .put-printed .ensures)
 
 pub answers-spec : {M : Type 1} → statement M
 answers-spec =

@@ -33,7 +33,10 @@ same-length-2 c = search needs
 
 returns-2 : tie.Need-returns-2
 unfolding quoted
-returns-2 c = bad-store _ (c .before .before .before .before .before .before .before .if1 .left) _ (c .before .before .before .before .before .before .front .ensures) (c .before .before .before .before .before .if2 .taken) (c .before .before .put-text2 .ensures)
+returns-2 c =
+    let at6 = c .before .before .before .before .before .before in
+    let at7 = at6 .before in
+    bad-store _ (at7 .if1 .left) _ (at6 .front .ensures) (c .before .before .before .before .before .if2 .taken) (c .before .before .put-text2 .ensures)
 
 cast-put-first : tie.Need-cast-put-first
 cast-put-first c = search needs
@@ -46,14 +49,21 @@ cast-answers c = search needs
 
 answers-requires : tie.Need-answers-requires
 answers-requires c κs =
-    lent _ _ (c .before .before .before .before .before .before .before .before .front .ensures) (c .before .before .before .before .before .before .before .if2 .left) _ _ (c .before .before .before .before .before .before .before .before .before .if1 .left) (c .before .before .before .before .put-first .ensures .few) (omega (arith, c .before .before .before .before .before .before .before .before .before .before .before .before .pre))
+    lent _ _ (c .before .before .before .before .before .before .before .before .front .ensures)
+    (c .before .before .before .before .before .before .before .if2 .left) _ _
+    (c .before .before .before .before .before .before .before .before .before .if1 .left)
+    (c .before .before .before .before .put-first .ensures .few)
+    (omega (arith, c .before .before .before .before .before .before .before .before .before .before .before .before .pre))
 
 same-length-3 : tie.Need-same-length-3
 same-length-3 c = search needs
 
 returns-3 : tie.Need-returns-3
 returns-3 c =
-    lines-of _ (c .before .before .before .before .before .before .before .before .before .before .before .before .if1 .left) _ (c .before .before .before .before .before .before .before .before .before .before .before .front .ensures) (c .before .before .before .before .before .before .before .before .before .before .if2 .left) (c .before .before .before .before .before .before .before .put-first .ensures) (c .before .before .answers .ensures)
+    lines-of _ (c .before .before .before .before .before .before .before .before .before .before .before .before .if1 .left) _
+    (c .before .before .before .before .before .before .before .before .before .before .before .front .ensures)
+    (c .before .before .before .before .before .before .before .before .before .before .if2 .left)
+    (c .before .before .before .before .before .before .before .put-first .ensures) (c .before .before .answers .ensures)
 
 pub write-spec : {M : Type 1} → statement M
 write-spec =

@@ -47,23 +47,33 @@ slice-aggregate-one : tie.Need-slice-aggregate-one Inv-loop μ-loop
 slice-aggregate-one c = search needs
 
 one-requires : tie.Need-one-requires Inv-loop μ-loop
-one-requires c κs = (sym (c .before .before .before .before .before .before .loop .inv .1), c .before .before .before .before .before .before .loop .inv .2)
+one-requires c κs =
+    let at6 = c .before .before .before .before .before .before in
+    (sym (at6 .loop .inv .1), at6 .loop .inv .2)
 
 slice-aggregate-put-line : tie.Need-slice-aggregate-put-line Inv-loop μ-loop
 slice-aggregate-put-line c = search needs
 
 put-line-requires : tie.Need-put-line-requires Inv-loop μ-loop
 put-line-requires c κs =
-    let w = running-within (c .before .before .before .before .before .before .before .before .before .before .before .before .before .before .loop .inv .0) _ (went V1 _ _ (c .before .before .before .before .before .before .before .before .before .before .before .before .before .next-from .ensures) (c .before .before .before .before .before .before .before .before .before .before .before .before .if1 .left)) in
+    let w = running-within
+    (c .before .before .before .before .before .before .before .before .before .before .before .before .before .before .loop .inv .0) _
+    (went V1 _ _ (c .before .before .before .before .before .before .before .before .before .before .before .before .before .next-from .ensures)
+    (c .before .before .before .before .before .before .before .before .before .before .before .before .if1 .left)) in
     (omega (arith, w .0, w .1, w .2, w .3), ap length (c .before .before .before .before .before .before .before .one .ensures .0 .0) ∙ per-line _)
 
 add-place : tie.Need-add-place Inv-loop μ-loop
 add-place c =
-    let w = running-within (c .before .before .before .before .before .before .before .before .before .before .before .before .before .before .before .before .before .loop .inv .0) _ (went V1 _ _ (c .before .before .before .before .before .before .before .before .before .before .before .before .before .before .before .before .next-from .ensures) (c .before .before .before .before .before .before .before .before .before .before .before .before .before .before .before .if1 .left)) in
+    let w = running-within
+    (c .before .before .before .before .before .before .before .before .before .before .before .before .before .before .before .before .before .loop .inv .0) _ (went V1 _ _ (c .before .before .before .before .before .before .before .before .before .before .before .before .before .before .before .before .next-from .ensures) (c .before .before .before .before .before .before .before .before .before .before .before .before .before .before .before .if1 .left)) in
     omega (arith, w .0, w .1, w .2, w .3)
 
 loop-less : tie.Need-loop-less Inv-loop μ-loop
-loop-less c = running-less (c .before .before .before .before .before .before .before .before .before .before .before .before .before .before .before .before .before .loop .inv .0) _ (went V1 _ _ (c .before .before .before .before .before .before .before .before .before .before .before .before .before .before .before .before .next-from .ensures) (c .before .before .before .before .before .before .before .before .before .before .before .before .before .before .before .if1 .left))
+loop-less c =
+    let at15 = c .before .before .before .before .before .before .before .before .before .before .before .before .before .before .before in
+    let at16 = at15 .before in
+    let at17 = at16 .before in
+    running-less (at17 .loop .inv .0) _ (went V1 _ _ (at16 .next-from .ensures) (at15 .if1 .left))
 
 loop-again : tie.Need-loop-again Inv-loop μ-loop
 loop-again c =
@@ -89,7 +99,11 @@ same-length-3 : tie.Need-same-length-3 Inv-loop μ-loop
 same-length-3 c = search needs
 
 returns : tie.Need-returns Inv-loop μ-loop
-returns c = running-done (c .before .before .before .before .before .before .loop .inv .0) (stayed V1 _ _ (c .before .before .before .before .before .next-from .ensures) (c .before .before .before .before .if1 .taken)) (search needs) (c .before .before .put-last .ensures)
+returns c =
+    let at6 = c .before .before .before .before .before .before in
+    running-done (at6 .loop .inv .0)
+    (stayed V1 _ _ (c .before .before .before .before .before .next-from .ensures) (c .before .before .before .before .if1 .taken)) (search needs)
+    (c .before .before .put-last .ensures)
 
 pub put-printed-spec : {M : Type 1} → statement M
 put-printed-spec =

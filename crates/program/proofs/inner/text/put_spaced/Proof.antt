@@ -20,7 +20,9 @@ same-length c = search needs
 
 returns : tie.Need-returns
 unfolding quoted
-returns c = put-put (omega arith) (c .before .before .before .before .before .before .put-text .ensures) (c .before .before .put-decimal .ensures)
+returns c =
+    let at6 = c .before .before .before .before .before .before in
+    put-put (omega arith) (at6 .put-text .ensures) (c .before .before .put-decimal .ensures)
 
 pub put-spaced-spec : {M : Type 1} → statement M
 put-spaced-spec =

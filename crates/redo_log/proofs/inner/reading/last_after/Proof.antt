@@ -16,13 +16,19 @@ shared-slice-read-if1 : tie.Need-shared-slice-read-if1
 shared-slice-read-if1 c = search needs
 
 returns : tie.Need-returns
-returns c = c .before .before .before .pre .4 ∙ sym (last-kept (c .before .before .before .args .log .now) (c .before .before .before .args .i) (c .if1 .taken))
+returns c =
+    let at3 = c .before .before .before in
+    at3 .pre .4 ∙ sym (last-kept (at3 .args .log .now) (at3 .args .i) (c .if1 .taken))
 
 read-u32-requires : tie.Need-read-u32-requires
-read-u32-requires c κs = omega (arith, ok-inside (c .before .before .before .args .log .now) (c .before .before .before .args .i) (c .before .before .before .pre .5), begin-length (c .before .before .before .args .log .now) (c .before .before .before .args .i) (c .before .before .before .pre .5) (c .if1 .left))
+read-u32-requires c κs =
+    let at3 = c .before .before .before in
+    omega (arith, ok-inside (at3 .args .log .now) (at3 .args .i) (at3 .pre .5), begin-length (at3 .args .log .now) (at3 .args .i) (at3 .pre .5) (c .if1 .left))
 
 returns-2 : tie.Need-returns-2
-returns-2 c = rw (c .read-u32 .ensures, c .before .before .before .before .pre .3) (sym (last-new (c .before .before .before .before .args .log .now) (c .before .before .before .before .args .i) (c .before .before .before .before .pre .5) (c .before .if1 .left)))
+returns-2 c =
+    let at4 = c .before .before .before .before in
+    rw (c .read-u32 .ensures, at4 .pre .3) (sym (last-new (at4 .args .log .now) (at4 .args .i) (at4 .pre .5) (c .before .if1 .left)))
 
 pub last-after-spec : {M : Type 1} → statement M
 last-after-spec =

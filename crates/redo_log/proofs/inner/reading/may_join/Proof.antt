@@ -23,10 +23,16 @@ read-u32-requires : tie.Need-read-u32-requires
 read-u32-requires c κs = omega (arith, shaped-four _ _ (sym (c .before .before .before .is-shaped .ensures) ∙ not-false _ (c .before .before .if1 .left)) (c .before .if2 .left) (c .if3 .left))
 
 returns-4 : tie.Need-returns-4
-returns-4 c = rw (c .before .read-u32 .ensures) (sym (join-begin _ _ _ _ (sym (c .before .before .before .before .before .is-shaped .ensures) ∙ not-false _ (c .before .before .before .before .if1 .left)) (c .before .before .before .if2 .left) (c .before .before .if3 .left) (c .if4 .taken)))
+returns-4 c = rw (c .before .read-u32 .ensures)
+    (sym (join-begin _ _ _ _
+    (sym (c .before .before .before .before .before .is-shaped .ensures) ∙ not-false _ (c .before .before .before .before .if1 .left))
+    (c .before .before .before .if2 .left) (c .before .before .if3 .left) (c .if4 .taken)))
 
 returns-5 : tie.Need-returns-5
-returns-5 c = rw (c .before .read-u32 .ensures) (sym (join-commit _ _ _ _ (sym (c .before .before .before .before .before .is-shaped .ensures) ∙ not-false _ (c .before .before .before .before .if1 .left)) (c .before .before .before .if2 .left) (c .before .before .if3 .left) (c .if4 .left)))
+returns-5 c = rw (c .before .read-u32 .ensures)
+    (sym (join-commit _ _ _ _
+    (sym (c .before .before .before .before .before .is-shaped .ensures) ∙ not-false _ (c .before .before .before .before .if1 .left))
+    (c .before .before .before .if2 .left) (c .before .before .if3 .left) (c .if4 .left)))
 
 pub may-join-spec : {M : Type 1} → statement M
 may-join-spec =

@@ -1,3 +1,4 @@
+-- The line lies within the table and the body within the log; the three tests are then those defined. Assumes nothing.
 use lib.ListN.{length}
 use mathlib.Core.Path.{_≡_, sym, _∙_}
 use Prim.Native.Nat.{_+_, _-_, _≤_}
@@ -27,7 +28,9 @@ sub-if1 : tie.Need-sub-if1
 sub-if1 c = search needs
 
 returns : tie.Need-returns
-returns c = sym (ok-beyond (c .before .before .before .args .log .now) (c .before .before .before .args .i) (omega (arith, c .before .read-u16 .ensures)))
+returns c =
+    let at3 = c .before .before .before in
+    sym (ok-beyond (at3 .args .log .now) (at3 .args .i) (omega (arith, c .before .read-u16 .ensures)))
 
 add-end : tie.Need-add-end
 add-end c = search needs
@@ -76,9 +79,15 @@ may-join-requires c κs = search needs
 
 returns-2 : tie.Need-returns-2
 unfolding part
-returns-2 c = let count : ((c .before .before .before .before .before .before .before .before .before .before .args .stop) + (c .before .before .before .before .before .before .before .before .read-u16 .result) - (c .before .before .before .before .before .before .before .before .before .before .args .stop)) ≡ (c .before .before .before .before .before .before .before .before .read-u16 .result) = omega arith in
-    let here : (c .before .before .before .before .before .before .before .before .before .before .args .stop) + ((c .before .before .before .before .before .before .before .before .before .before .args .stop) + (c .before .before .before .before .before .before .before .before .read-u16 .result) - (c .before .before .before .before .before .before .before .before .before .before .args .stop)) ≤ length (c .before .before .before .before .before .before .before .before .before .before .args .log .now) = omega arith in
-    ok-code (c .before .before .before .before .before .before .before .before .before .before .args .log .now) (c .before .before .before .before .before .before .before .before .before .before .args .i) _ _ _ ((c .before .before .before .before .before .before .before .before .before .before .args .stop) + (c .before .before .before .before .before .before .before .before .read-u16 .result) - (c .before .before .before .before .before .before .before .before .before .before .args .stop)) _ _ _ _ (count ∙ c .before .before .before .before .before .before .before .before .read-u16 .ensures) here (c .before .before .before .before .before .before .read-u32 .ensures) (c .before .before .before .before .before .read-u322 .ensures) (c .before .before .before .before .before .before .before .before .before .before .pre .3) (c .before .before .before .before .before .before .before .before .before .before .pre .5) (c .before .before .before .before .before .before .before .before .before .before .pre .6) (c .before .before .before .sum-of .ensures) (c .may-join .ensures)
+returns-2 c =
+    let at6 = c .before .before .before .before .before .before in
+    let at8 = at6 .before .before in
+    let at10 = at8 .before .before in
+    let count : ((at10 .args .stop) + (at8 .read-u16 .result) - (at10 .args .stop)) ≡ (at8 .read-u16 .result) = omega arith in
+    let here : (at10 .args .stop) + ((at10 .args .stop) + (at8 .read-u16 .result) - (at10 .args .stop)) ≤ length (at10 .args .log .now) = omega arith in
+    ok-code (at10 .args .log .now) (at10 .args .i) _ _ _ ((at10 .args .stop) + (at8 .read-u16 .result) - (at10 .args .stop)) _ _ _ _
+    (count ∙ at8 .read-u16 .ensures) here (at6 .read-u32 .ensures) (c .before .before .before .before .before .read-u322 .ensures) (at10 .pre .3)
+    (at10 .pre .5) (at10 .pre .6) (c .before .before .before .sum-of .ensures) (c .may-join .ensures)
 
 pub record-ok-spec : {M : Type 1} → statement M
 record-ok-spec =

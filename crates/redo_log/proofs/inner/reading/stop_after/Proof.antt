@@ -1,3 +1,4 @@
+-- The length is read within the table; the next body begins behind this one. Assumes nothing.
 use native.Mathlib.Omega.{arith}
 use Rattle.redo_log.proofs.Reading.{start-plus}
 use Rattle.redo_log.proofs.Records.{ok-inside}
@@ -25,7 +26,10 @@ add-result : tie.Need-add-result
 add-result c = omega (arith, ok-inside (c .before .before .args .log .now) (c .before .before .args .i) (c .before .before .pre .4), c .read-u16 .ensures)
 
 returns : tie.Need-returns
-returns c = (rw (c .read-u16 .ensures, c .before .before .pre .3) (sym (start-plus (c .before .before .args .log .now) (c .before .before .args .i))), omega (arith, ok-inside (c .before .before .args .log .now) (c .before .before .args .i) (c .before .before .pre .4), c .read-u16 .ensures))
+returns c = (
+  rw (c .read-u16 .ensures, c .before .before .pre .3) (sym (start-plus (c .before .before .args .log .now) (c .before .before .args .i))),
+  omega (arith, ok-inside (c .before .before .args .log .now) (c .before .before .args .i) (c .before .before .pre .4), c .read-u16 .ensures),
+)
 
 pub stop-after-spec : {M : Type 1} → statement M
 stop-after-spec =

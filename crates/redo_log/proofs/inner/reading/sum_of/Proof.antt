@@ -1,3 +1,4 @@
+-- The loop: the sum of the bytes so far, far below the limit of its type. The measure is what is left of them. Assumes nothing.
 use native.Mathlib.Omega.{arith}
 use Rattle.redo_log.proofs.Reading.{Summing, summing-none, summing-more, summing-done}
 use lib.ListN.{length}

@@ -20,7 +20,9 @@ same-length : tie.Need-same-length
 same-length c = search needs
 
 returns : tie.Need-returns
-returns c = rw (c .before .before .put .ensures, c .before .before .before .before .before .least .ensures, take-min (c .before .before .before .before .before .before .before .before .args .budget) (c .before .before .before .before .before .before .before .before .args .v .now))
+returns c =
+    let at8 = c .before .before .before .before .before .before .before .before in
+    rw (c .before .before .put .ensures, c .before .before .before .before .before .least .ensures, take-min (at8 .args .budget) (at8 .args .v .now))
 
 pub put-bytes-spec : {M : Type 1} → statement M
 put-bytes-spec =

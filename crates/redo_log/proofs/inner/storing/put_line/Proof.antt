@@ -1,3 +1,4 @@
+-- Kind, place, length and sum, each with what is left of the budget: the first stores of a line. Assumes nothing.
 use native.Mathlib.Omega.{arith}
 use Rattle.redo_log.proofs.Budget.{line-put}
 use borrow.Author.Needs.{needs}
@@ -44,7 +45,24 @@ same-length : tie.Need-same-length
 same-length c = search needs
 
 returns : tie.Need-returns
-returns c = rw (c .before .before .put-number4 .ensures, c .before .before .before .left3 .ensures, c .before .before .before .before .before .before .before .before .put-number3 .ensures, c .before .before .before .before .before .before .before .before .before .left2 .ensures, c .before .before .before .before .before .before .before .before .before .before .before .before .before .put-number2 .ensures, c .before .before .before .before .before .before .before .before .before .before .before .before .before .before .left .ensures, c .before .before .before .before .before .before .before .before .before .before .before .before .before .before .before .before .before .before .put-number .ensures) (line-put (c .before .before .before .before .before .before .before .before .before .before .before .before .before .before .before .before .before .before .before .before .before .before .args .budget) (c .before .before .before .before .before .before .before .before .before .before .before .before .before .before .before .before .before .before .before .before .before .before .args .at) (c .before .before .before .before .before .before .before .before .before .before .before .before .before .before .before .before .before .before .before .before .before .before .args .kind) (c .before .before .before .before .before .before .before .before .before .before .before .before .before .before .before .before .before .before .before .before .before .before .args .place) _ (c .before .before .before .before .before .before .before .before .before .before .before .before .before .before .before .before .before .before .before .before .before .before .args .body .now) (c .before .before .before .before .before .before .before .before .before .before .before .before .before .before .before .before .before .before .before .before .before .before .args .log .now) (c .before .before .before .before .before .before .before .before .before .before .before .before .before .before .before .before .before .before .before .before .before .before .pre .0) (omega (arith, c .before .before .before .before .before .before .before .before .before .before .before .before .before .before .before .before .before .before .before .before .before .before .fits .kind)) (c .before .before .before .before .sum-of .ensures))
+returns c =
+    let at8 = c .before .before .before .before .before .before .before .before in
+    let at9 = at8 .before in
+    let at13 = at9 .before .before .before .before in
+    let at14 = at13 .before in
+    let at18 = at14 .before .before .before .before in
+    let at22 = at18 .before .before .before .before in
+    rw (
+      c .before .before .put-number4 .ensures,
+      c .before .before .before .left3 .ensures,
+      at8 .put-number3 .ensures,
+      at9 .left2 .ensures,
+      at13 .put-number2 .ensures,
+      at14 .left .ensures,
+      at18 .put-number .ensures,
+    )
+    (line-put (at22 .args .budget) (at22 .args .at) (at22 .args .kind) (at22 .args .place) _ (at22 .args .body .now) (at22 .args .log .now)
+    (at22 .pre .0) (omega (arith, at22 .fits .kind)) (c .before .before .before .before .sum-of .ensures))
 
 pub put-line-spec : {M : Type 1} → statement M
 put-line-spec =

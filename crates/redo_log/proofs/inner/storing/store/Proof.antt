@@ -1,3 +1,4 @@
+-- Body, line and count, each with what is left of the budget: the first stores of an append. Assumes nothing.
 use Rattle.redo_log.proofs.Budget.{store-put}
 use mathlib.Core.Path.{refl}
 use borrow.Author.Needs.{needs}
@@ -41,7 +42,20 @@ same-length : tie.Need-same-length
 same-length c = search needs
 
 returns : tie.Need-returns
-returns c = rw (c .before .before .put-number .ensures, c .before .before .before .left2 .ensures, c .before .before .before .before .before .before .before .put-line .ensures, c .before .before .before .before .before .before .before .before .left .ensures, c .before .before .before .before .before .before .before .before .before .before .before .before .put-bytes .ensures) (store-put (c .before .before .before .before .before .before .before .before .before .before .before .before .before .before .before .before .before .args .budget) (c .before .before .before .before .before .before .before .before .before .before .before .before .before .before .before .before .before .args .stop) _ (c .before .before .before .before .before .before .before .before .before .before .before .before .before .before .before .before .before .args .kind) (c .before .before .before .before .before .before .before .before .before .before .before .before .before .before .before .before .before .args .body .now) (c .before .before .before .before .before .before .before .before .before .before .before .before .before .before .before .before .before .args .log .now) (c .before .before .before .before .before .before .before .before .before .before .before .before .before .before .before .before .before .pre .0) refl (c .before .before .before .before .before .before .before .before .before .before .before .before .before .before .before .before .before .pre .1))
+returns c =
+    let at7 = c .before .before .before .before .before .before .before in
+    let at8 = at7 .before in
+    let at12 = at8 .before .before .before .before in
+    let at17 = at12 .before .before .before .before .before in
+    rw (
+      c .before .before .put-number .ensures,
+      c .before .before .before .left2 .ensures,
+      at7 .put-line .ensures,
+      at8 .left .ensures,
+      at12 .put-bytes .ensures,
+    )
+    (store-put (at17 .args .budget) (at17 .args .stop) _ (at17 .args .kind) (at17 .args .body .now) (at17 .args .log .now) (at17 .pre .0) refl
+    (at17 .pre .1))
 
 pub store-spec : {M : Type 1} → statement M
 store-spec =

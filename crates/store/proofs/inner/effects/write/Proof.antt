@@ -35,7 +35,9 @@ writes-translation-requires : tie.Need-writes-translation-requires
 writes-translation-requires c κs = search needs
 
 add-body-at : tie.Need-add-body-at
-add-body-at c = let start = c .before .before .before .before .before .before .before .before in omega (arith, numbers (formatOf (start .args .v)), start .pre)
+add-body-at c =
+    let at8 = c .before .before .before .before .before .before .before .before in
+    let start = at8 in omega (arith, numbers (formatOf (start .args .v)), start .pre)
 
 body-at-requires-2 : tie.Need-body-at-requires-2
 body-at-requires-2 c κs = search needs
@@ -55,7 +57,8 @@ returns-2 c =
     written-translation (formatOf (start .args .v)) (start .args .image .now) (start .pre .0) (start .args .c) (start .pre .1) (start .pre .2) (start .pre .3) (start .args .text .now) (start .pre .4)
     (c .before .before .before .before .body-at2 .ensures)
     (c .before .before .store-text2 .ensures)
-    (sym (c .before .before .before .before .before .before .before .before .before .before .writes-original .ensures) ∙ c .before .before .before .before .before .before .before .before .before .if1 .left)
+    (sym (c .before .before .before .before .before .before .before .before .before .before .writes-original .ensures)
+    ∙ c .before .before .before .before .before .before .before .before .before .if1 .left)
     (sym (c .before .before .before .before .before .before .before .before .writes-translation .ensures) ∙ c .before .before .before .before .before .before .before .if2 .taken)
 
 returns-3 : tie.Need-returns-3

@@ -42,22 +42,30 @@ enum-told c = search needs
 
 add-end : tie.Need-add-end Inv-loop μ-loop
 add-end c =
-    let w = running-within (c .before .before .before .before .before .before .loop .inv .0) _ (rest-whole _ _ _ _ (sym (c .before .before .before .next-at .ensures) ∙ c .before .size .given .1)) (c .before .before .before .before .before .if1 .left) in
+    let w = running-within (c .before .before .before .before .before .before .loop .inv .0) _
+    (rest-whole _ _ _ _ (sym (c .before .before .before .next-at .ensures) ∙ c .before .size .given .1))
+    (c .before .before .before .before .before .if1 .left) in
     omega (arith, w .0, w .1, w .2, w .3, c .before .before .before .before .before .before .before .before .before .before .before .good)
 
 sub-judge : tie.Need-sub-judge Inv-loop μ-loop
 sub-judge c =
-    let w = running-within (c .before .before .before .before .before .before .before .loop .inv .0) _ (rest-whole _ _ _ _ (sym (c .before .before .before .before .next-at .ensures) ∙ c .before .before .size .given .1)) (c .before .before .before .before .before .before .if1 .left) in
+    let w = running-within (c .before .before .before .before .before .before .before .loop .inv .0) _
+    (rest-whole _ _ _ _ (sym (c .before .before .before .before .next-at .ensures) ∙ c .before .before .size .given .1))
+    (c .before .before .before .before .before .before .if1 .left) in
     omega (arith, w .0, w .1, w .2, w .3)
 
 part-judge-start : tie.Need-part-judge-start Inv-loop μ-loop
 part-judge-start c =
-    let w = running-within (c .before .before .before .before .before .before .before .loop .inv .0) _ (rest-whole _ _ _ _ (sym (c .before .before .before .before .next-at .ensures) ∙ c .before .before .size .given .1)) (c .before .before .before .before .before .before .if1 .left) in
+    let w = running-within (c .before .before .before .before .before .before .before .loop .inv .0) _
+    (rest-whole _ _ _ _ (sym (c .before .before .before .before .next-at .ensures) ∙ c .before .before .size .given .1))
+    (c .before .before .before .before .before .before .if1 .left) in
     omega (arith, w .0, w .1, w .2, w .3)
 
 part-judge-end : tie.Need-part-judge-end Inv-loop μ-loop
 part-judge-end c =
-    let w = running-within (c .before .before .before .before .before .before .before .loop .inv .0) _ (rest-whole _ _ _ _ (sym (c .before .before .before .before .next-at .ensures) ∙ c .before .before .size .given .1)) (c .before .before .before .before .before .before .if1 .left) in
+    let w = running-within (c .before .before .before .before .before .before .before .loop .inv .0) _
+    (rest-whole _ _ _ _ (sym (c .before .before .before .before .next-at .ensures) ∙ c .before .before .size .given .1))
+    (c .before .before .before .before .before .before .if1 .left) in
     omega (arith, w .0, w .1, w .2, w .3)
 
 judge-requires : tie.Need-judge-requires Inv-loop μ-loop
@@ -65,22 +73,50 @@ judge-requires c κs = c .before .before .before .before .before .before .before
 
 mul-put-line : tie.Need-mul-put-line Inv-loop μ-loop
 mul-put-line c =
-    let w = running-within (c .before .before .before .before .before .before .before .before .before .before .before .before .before .before .before .loop .inv .0) _ (rest-whole _ _ _ _ (sym (c .before .before .before .before .before .before .before .before .before .before .before .before .next-at .ensures) ∙ c .before .before .before .before .before .before .before .before .before .before .size .given .1)) (c .before .before .before .before .before .before .before .before .before .before .before .before .before .before .if1 .left) in
+    let w = running-within
+    (c .before .before .before .before .before .before .before .before .before .before .before .before .before .before .before .loop .inv .0) _
+    (rest-whole _ _ _ _ (sym (c .before .before .before .before .before .before .before .before .before .before .before .before .next-at .ensures)
+    ∙ c .before .before .before .before .before .before .before .before .before .before .size .given .1))
+    (c .before .before .before .before .before .before .before .before .before .before .before .before .before .before .if1 .left) in
     let long : length (c .before .before .before .before .before .before .before .before .before .before .before .before .before .before .before .loop .lines) ≡ length (c .before .before .before .before .before .before .before .before .before .before .before .before .before .before .before .before .before .before .before .before .args .lines .now) = c .before .before .before .before .before .before .before .before .before .before .before .before .before .before .before .loop .inv .0 .long in
-    omega (arith, w .0, w .1, w .2, w .3, long, c .before .before .before .before .before .before .before .before .before .before .before .before .before .before .before .before .before .before .before .before .good)
+    omega (
+      arith,
+      w .0,
+      w .1,
+      w .2,
+      w .3,
+      long,
+      c .before .before .before .before .before .before .before .before .before .before .before .before .before .before .before .before .before .before .before .before .good,
+    )
 
 put-line-requires : tie.Need-put-line-requires Inv-loop μ-loop
 put-line-requires c κs =
-    let w = running-within (c .before .before .before .before .before .before .before .before .before .before .before .before .before .before .before .loop .inv .0) _ (rest-whole _ _ _ _ (sym (c .before .before .before .before .before .before .before .before .before .before .before .before .next-at .ensures) ∙ c .before .before .before .before .before .before .before .before .before .before .size .given .1)) (c .before .before .before .before .before .before .before .before .before .before .before .before .before .before .if1 .left) in
+    let w = running-within
+    (c .before .before .before .before .before .before .before .before .before .before .before .before .before .before .before .loop .inv .0) _
+    (rest-whole _ _ _ _ (sym (c .before .before .before .before .before .before .before .before .before .before .before .before .next-at .ensures)
+    ∙ c .before .before .before .before .before .before .before .before .before .before .size .given .1))
+    (c .before .before .before .before .before .before .before .before .before .before .before .before .before .before .if1 .left) in
     omega (arith, w .0, w .1, w .2, w .3)
 
 add-count : tie.Need-add-count Inv-loop μ-loop
 add-count c =
-    let w = running-within (c .before .before .before .before .before .before .before .before .before .before .before .before .before .before .before .before .before .before .loop .inv .0) _ (rest-whole _ _ _ _ (sym (c .before .before .before .before .before .before .before .before .before .before .before .before .before .before .before .next-at .ensures) ∙ c .before .before .before .before .before .before .before .before .before .before .before .before .before .size .given .1)) (c .before .before .before .before .before .before .before .before .before .before .before .before .before .before .before .before .before .if1 .left) in
-    omega (arith, w .0, w .1, w .2, w .3, c .before .before .before .before .before .before .before .before .before .before .before .before .before .before .before .before .before .before .before .before .before .before .before .good)
+    let w = running-within
+    (c .before .before .before .before .before .before .before .before .before .before .before .before .before .before .before .before .before .before .loop .inv .0) _ (rest-whole _ _ _ _ (sym (c .before .before .before .before .before .before .before .before .before .before .before .before .before .before .before .next-at .ensures) ∙ c .before .before .before .before .before .before .before .before .before .before .before .before .before .size .given .1)) (c .before .before .before .before .before .before .before .before .before .before .before .before .before .before .before .before .before .if1 .left) in
+    omega (
+      arith,
+      w .0,
+      w .1,
+      w .2,
+      w .3,
+      c .before .before .before .before .before .before .before .before .before .before .before .before .before .before .before .before .before .before .before .before .before .before .before .good,
+    )
 
 loop-less : tie.Need-loop-less Inv-loop μ-loop
-loop-less c = running-less (c .before .before .before .before .before .before .before .before .before .before .before .before .before .before .before .before .before .before .loop .inv .0) _ (rest-whole _ _ _ _ (sym (c .before .before .before .before .before .before .before .before .before .before .before .before .before .before .before .next-at .ensures) ∙ c .before .before .before .before .before .before .before .before .before .before .before .before .before .size .given .1))
+loop-less c =
+    let at13 = c .before .before .before .before .before .before .before .before .before .before .before .before .before in
+    let at15 = at13 .before .before in
+    let at18 = at15 .before .before .before in
+    running-less (at18 .loop .inv .0) _ (rest-whole _ _ _ _ (sym (at15 .next-at .ensures) ∙ at13 .size .given .1))
 
 loop-again : tie.Need-loop-again Inv-loop μ-loop
 loop-again c =

@@ -50,8 +50,11 @@ same-length-4 c = search needs
 returns-2 : tie.Need-returns-2
 returns-2 c =
     let start = c .before .before .before .before .before .before .before .before .before .before .before .before in
-    let none = not-one (formatOf (start .args .v)) (start .args .command .now) (c .before .before .before .before .before .before .before .next-from .ensures) (c .before .before .before .before .before .before .if1 .left) in
-    refused-exits (start .args .line .now) 1 (serve-malformed (formatOf (start .args .v)) (start .args .image .now) (start .args .command .now) (start .args .reply .now) (sym (start .pre .0) ∙ c .before .before .before .before .before .if2 .taken) none)
+    let none = not-one (formatOf (start .args .v)) (start .args .command .now)
+    (c .before .before .before .before .before .before .before .next-from .ensures) (c .before .before .before .before .before .before .if1 .left) in
+    refused-exits (start .args .line .now) 1
+    (serve-malformed (formatOf (start .args .v)) (start .args .image .now) (start .args .command .now) (start .args .reply .now)
+    (sym (start .pre .0) ∙ c .before .before .before .before .before .if2 .taken) none)
     (c .before .before .before .refusal .ensures) (c .before .before .put-line .ensures) (start .pre .1) (start .pre .0)
 
 refusal-requires-2 : tie.Need-refusal-requires-2
@@ -66,7 +69,9 @@ same-length-5 c = search needs
 returns-3 : tie.Need-returns-3
 returns-3 c =
     let start = c .before .before .before .before .before .before .before .before .before .before .before .before in
-    refused-exits (start .args .line .now) 9 (serve-unsound (formatOf (start .args .v)) (start .args .image .now) (start .args .command .now) (start .args .reply .now) (sym (start .pre .0) ∙ c .before .before .before .before .before .if2 .left))
+    refused-exits (start .args .line .now) 9
+    (serve-unsound (formatOf (start .args .v)) (start .args .image .now) (start .args .command .now) (start .args .reply .now)
+    (sym (start .pre .0) ∙ c .before .before .before .before .before .if2 .left))
     (c .before .before .before .refusal2 .ensures) (c .before .before .put-line2 .ensures) (start .pre .1) (start .pre .0)
 
 pub one-spec : {M : Type 1} → statement M

@@ -4,7 +4,7 @@ use borrow.Author.Needs.{needs}
 use mathlib.Core.Path.{_≡_, refl}
 use lib.ListN.{length}
 use Rattle.lists.proofs.Tests.{to-T}
-use Rattle.store.specs.Carried.{judgedAt}
+use Rattle.store.specs.inner.Carried.{judgedAt}
 use Rattle.store.proofs.Step.{exits, refuses, accepts, payload-fits, lent-fits, raises}
 use Rattle.image.proofs.Decode.{entry-lies}
 use Rattle.store.proofs.Kept.{header-in}
@@ -14,7 +14,10 @@ use Rattle.store.proofs.inner.step.carry.Tie as tie
 -- The entry of the command's card judged it.
 known : (c : tie.After-judge-formed) →
     c .judge-formed .result
-    ≡ judgedAt (formatOf (c .before .before .before .before .before .before .before .before .args .v)) (c .before .before .before .before .before .before .before .before .args .image .now) (c .before .before .before .before .before .before .before .before .args .c) (length (c .before .before .before .before .before .before .before .before .args .reply .now))
+    ≡ judgedAt (formatOf (c .before .before .before .before .before .before .before .before .args .v))
+    (c .before .before .before .before .before .before .before .before .args .image .now)
+    (c .before .before .before .before .before .before .before .before .args .c)
+    (length (c .before .before .before .before .before .before .before .before .args .reply .now))
 known c = rw (← c .before .before .before .entry-at .ensures, ← c .before .room .ensures) (c .judge-formed .ensures)
 
 entry-at-requires : tie.Need-entry-at-requires
@@ -49,7 +52,8 @@ show-requires c κs =
       start .pre .1,
       start .pre .2,
       entry,
-      lent-fits (formatOf (start .args .v)) (start .args .image .now) (start .args .c) (start .args .text .now) (start .args .reply .now) (known (c .before .before .before .before)) (c .before .before .if1 .left) entry,
+      lent-fits (formatOf (start .args .v)) (start .args .image .now) (start .args .c) (start .args .text .now) (start .args .reply .now)
+          (known (c .before .before .before .before)) (c .before .before .if1 .left) entry,
     )
 
 keep-requires : tie.Need-keep-requires
@@ -79,7 +83,9 @@ returns-2 : tie.Need-returns-2
 returns-2 c =
     let start = c .before .before .before .before .before .before .before .before .before .before .before .before .before .before .before .before .before .before .before .before in
     exits
-    (accepts (formatOf (start .args .v)) (start .args .image .now) (start .args .c) (start .args .text .now) (start .args .reply .now) (known (c .before .before .before .before .before .before .before .before .before .before .before .before)) (c .before .before .before .before .before .before .before .before .before .before .if1 .left))
+    (accepts (formatOf (start .args .v)) (start .args .image .now) (start .args .c) (start .args .text .now) (start .args .reply .now)
+    (known (c .before .before .before .before .before .before .before .before .before .before .before .before))
+    (c .before .before .before .before .before .before .before .before .before .before .if1 .left))
     (c .reply3 .ensures)
     (c .before .before .before .keep .ensures)
     (c .before .before .before .before .before .before .before .show .ensures)

@@ -1,3 +1,4 @@
+-- Malformed and no such card by their rows; else the step of the card, with the bytes behind the fixed part as its payload. Assumes nothing.
 use Rattle.formats.specs.Format.{formatOf}
 use native.Mathlib.Omega.{arith}
 use mathlib.Core.Path.{_≡_, refl, sym, ap, _∙_}
@@ -7,7 +8,7 @@ use Rattle.commands.specs.Bytes.{fieldsOf, formed}
 use Rattle.commands.proofs.Parsing.{is-malformed, is-formed}
 use Rattle.commands.proofs.CommandBytes.{length-payload, language-within, formedness}
 use Rattle.image.specs.Image.{sound}
-use Rattle.model.proofs.Sound.{stays-sound}
+use Rattle.store_model.proofs.Sound.{stays-sound}
 use Rattle.store.proofs.Kept.{header-in}
 use Rattle.store.proofs.Step.{serves, fixed-in, behind-place, serve-malformed, serve-no-card, serve-found}
 use borrow.Author.Needs.{needs}
@@ -16,8 +17,13 @@ use Rattle.store.proofs.inner.step.serve.Tie as tie
 
 -- The command was found in the lent bytes.
 found : (c : tie.After-known-told) →
-    (formed (formatOf (c .before .before .before .before .before .before .before .args .v)) (c .before .before .before .before .before .before .before .args .command .now) ≡ true) × (c .before .c .given .0 .0 ≡ fieldsOf (formatOf (c .before .before .before .before .before .before .before .args .v)) (c .before .before .before .before .before .before .before .args .command .now))
-found c = is-formed (formatOf (c .before .before .before .before .before .before .before .args .v)) (c .before .before .before .before .before .before .before .args .command .now) (sym (c .before .c .given .1) ∙ c .before .before .before .parse .ensures)
+    (formed (formatOf (c .before .before .before .before .before .before .before .args .v))
+    (c .before .before .before .before .before .before .before .args .command .now) ≡ true) ×
+    (c .before .c .given .0 .0 ≡ fieldsOf (formatOf (c .before .before .before .before .before .before .before .args .v))
+    (c .before .before .before .before .before .before .before .args .command .now))
+found c =
+    let at7 = c .before .before .before .before .before .before .before in
+    is-formed (formatOf (at7 .args .v)) (at7 .args .command .now) (sym (c .before .c .given .1) ∙ c .before .before .before .parse .ensures)
 
 parse-requires : tie.Need-parse-requires
 parse-requires c κs = search needs
@@ -32,7 +38,9 @@ refusal-requires : tie.Need-refusal-requires
 refusal-requires c κs = search needs
 
 returns : tie.Need-returns
-returns c = let start = c .before .before .before .before .before .before .before in
+returns c =
+    let at7 = c .before .before .before .before .before .before .before in
+    let start = at7 in
     let command = start .args .command .now in
     let none = is-malformed (formatOf (start .args .v)) command (sym (c .before .enum-told .given .1) ∙ c .before .before .before .parse .ensures) in (
       serves (serve-malformed (formatOf (start .args .v)) (start .args .image .now) command (start .args .reply .now) (start .pre) none) (c .refusal .ensures) refl refl,
@@ -49,10 +57,13 @@ same-length : tie.Need-same-length
 same-length c = search needs
 
 returns-2 : tie.Need-returns-2
-returns-2 c = let start = c .before .before .before .before .before .before .before .before .before .before .before .before in
+returns-2 c =
+    let at12 = c .before .before .before .before .before .before .before .before .before .before .before .before in
+    let start = at12 in
     let command = start .args .command .now in
     let whole = found (c .before .before .before .before .before) in (
-      serves (serve-no-card (formatOf (start .args .v)) (start .args .image .now) command (start .args .reply .now) (start .pre) (whole .0) (rw (← whole .1, ← c .before .before .before .count .ensures) (le-ltb _ _ (c .before .if1 .taken)))) (c .refusal2 .ensures) refl refl,
+      serves (serve-no-card (formatOf (start .args .v)) (start .args .image .now) command (start .args .reply .now) (start .pre) (whole .0)
+          (rw (← whole .1, ← c .before .before .before .count .ensures) (le-ltb _ _ (c .before .if1 .taken)))) (c .refusal2 .ensures) refl refl,
       start .pre,
     )
 
@@ -60,20 +71,28 @@ fixed-requires : tie.Need-fixed-requires
 fixed-requires c κs = search needs
 
 sub-carry : tie.Need-sub-carry
-sub-carry c = let whole = fixed-in _ _ (found (c .before .before .before .before .before .before) .0) in omega (arith, whole, c .before .fixed .ensures)
+sub-carry c =
+    let at6 = c .before .before .before .before .before .before in
+    let whole = fixed-in _ _ (found (at6) .0) in omega (arith, whole, c .before .fixed .ensures)
 
 part-carry-start : tie.Need-part-carry-start
-part-carry-start c = let whole = fixed-in _ _ (found (c .before .before .before .before .before .before) .0) in omega (arith, whole, c .before .fixed .ensures)
+part-carry-start c =
+    let at6 = c .before .before .before .before .before .before in
+    let whole = fixed-in _ _ (found (at6) .0) in omega (arith, whole, c .before .fixed .ensures)
 
 part-carry-end : tie.Need-part-carry-end
 part-carry-end c = search needs
 
 carry-requires : tie.Need-carry-requires
-carry-requires c κs = let start = c .before .before .before .before .before .before .before .before .before .before .before .before .before .before .before in
+carry-requires c κs =
+    let at6 = c .before .before .before .before .before .before in
+    let at8 = at6 .before .before in
+    let at15 = at8 .before .before .before .before .before .before .before in
+    let start = at15 in
     let command = start .args .command .now in
-    let whole = found (c .before .before .before .before .before .before .before .before) in (
+    let whole = found (at8) in (
       start .pre,
-      rw (← c .before .before .before .before .before .before .count .ensures) (c .before .before .before .before .if1 .left),
+      rw (← at6 .count .ensures) (c .before .before .before .before .if1 .left),
       rw (whole .1) (language-within (formatOf (start .args .v)) command (whole .0)),
       rw (behind-place (formatOf (start .args .v)) command (c .before .before .before .fixed .ensures), whole .1) (length-payload (formatOf (start .args .v)) command (whole .0)),
       rw (whole .1) (formedness (formatOf (start .args .v)) command (whole .0) .rules),
@@ -86,19 +105,30 @@ same-length-3 : tie.Need-same-length-3
 same-length-3 c = search needs
 
 returns-3 : tie.Need-returns-3
-returns-3 c = let start = c .before .before .before .before .before .before .before .before .before .before .before .before .before .before .before .before .before .before .before .before in
+returns-3 c =
+    let at8 = c .before .before .before .before .before .before .before .before in
+    let at9 = at8 .before in
+    let at11 = at9 .before .before in
+    let at13 = at11 .before .before in
+    let at17 = at13 .before .before .before .before in
+    let at18 = at17 .before in
+    let at19 = at18 .before in
+    let at20 = at19 .before in
+    let start = at20 in
     let image = start .args .image .now in
     let command = start .args .command .now in
     let reply = start .args .reply .now in
-    let whole = found (c .before .before .before .before .before .before .before .before .before .before .before .before .before) in
+    let whole = found (at13) in
     let done = c .before .before .before .before .carry .ensures in
-    let left = serves (serve-found (formatOf (start .args .v)) image command reply (start .pre) (whole .0) (whole .1) (behind-place (formatOf (start .args .v)) command (c .before .before .before .before .before .before .before .before .fixed .ensures)) (rw (← c .before .before .before .before .before .before .before .before .before .before .before .count .ensures) (c .before .before .before .before .before .before .before .before .before .if1 .left))) (done .0) (done .1 .0) (done .1 .1) in (
+    let left = serves (serve-found (formatOf (start .args .v)) image command reply (start .pre) (whole .0) (whole .1)
+    (behind-place (formatOf (start .args .v)) command (at8 .fixed .ensures)) (rw (← at11 .count .ensures) (at9 .if1 .left))) (done .0)
+    (done .1 .0) (done .1 .1) in (
       left,
       ap (sound (formatOf (start .args .v))) (left .1 .0)
           ∙ stays-sound (formatOf (start .args .v)) image command reply
-          (λ j. c .before .before .before .before .before .before .before .before .before .before .before .before .before .before .before .before .before .before .before .slice-known .given j .fits)
-          (λ j. c .before .before .before .before .before .before .before .before .before .before .before .before .before .before .before .before .before .before .shared-slice-known .given j .fits)
-          (λ j. c .before .before .before .before .before .before .before .before .before .before .before .before .before .before .before .before .before .slice-known2 .given j .fits)
+          (λ j. at19 .slice-known .given j .fits)
+          (λ j. at18 .shared-slice-known .given j .fits)
+          (λ j. at17 .slice-known2 .given j .fits)
           (start .pre),
     )
 

@@ -3,7 +3,7 @@ use mathlib.Core.Path.{sym, subst}
 use Prim.Native.Nat.{ℕ, _+_, _*_, _<_}
 use native.Mathlib.Omega.{arith}
 use borrow.Author.Needs.{needs}
-use Rattle.texts.specs.Read.{ReadsSection, ReadsStep, ReadsSteps}
+use Rattle.texts.specs.inner.Read.{ReadsSection, ReadsStep, ReadsSteps}
 use Rattle.texts.specs.declared.inner.read.Extent.{Extent}
 use Rattle.texts.specs.declared.inner.read.Extent.the-variants.{Past, Ill}
 use Rattle.texts.proofs.Reading.{section-short, section-deep, section-other, section-read-at, step-short, step-section, step-other, steps-none, steps-more, steps-ill}
@@ -104,12 +104,23 @@ section-cast-steps t c =
 
 section-steps-requires : (t : ℕ) → section-lts.Need-steps-requires (section-calls t) (section-at t) section.Post
 section-steps-requires t c κs =
-    (omega (arith, c .before .before .before .before .before .before .before .pre .0, c .shared-slice-known3 .given (c .before .before .before .before .before .before .before .args .at + 1), c .before .before .before .before .before .if1 .left), tt)
+    let at7 = c .before .before .before .before .before .before .before in (
+      omega (
+        arith,
+        at7 .pre .0,
+        c .shared-slice-known3 .given
+            (at7 .args .at + 1),
+        c .before .before .before .before .before .if1 .left,
+      ),
+      tt,
+    )
 
 section-returns-5 : (t : ℕ) → section-lts.Need-returns-5 (section-calls t) (section-at t) section.Post
 section-returns-5 t c =
     let start = c .before .before .before .before .before .before .before .before .args in
-    section-read-at (start .text .now) (start .at) (start .nesting) _ (c .before .before .before .before .before .before .if1 .left) (omega (arith, c .before .before .before .before .if3 .left, c .before .before .before .before .before .if2 .left)) (c .before .shared-slice-known3 .given (start .at + 1) .fits) (c .before .before .if4 .left) (c .steps .ensures)
+    section-read-at (start .text .now) (start .at) (start .nesting) _ (c .before .before .before .before .before .before .if1 .left)
+    (omega (arith, c .before .before .before .before .if3 .left, c .before .before .before .before .before .if2 .left))
+    (c .before .shared-slice-known3 .given (start .at + 1) .fits) (c .before .before .if4 .left) (c .steps .ensures)
 
 step-returns : (t : ℕ) → step-lts.Need-returns (step-calls t) (step-at t) step.Post
 step-returns t c =

@@ -2,7 +2,7 @@
 use native.Mathlib.Omega.{arith}
 use borrow.Author.Needs.{needs}
 use mathlib.Core.Logic.{⊎-elim}
-use Rattle.drops.specs.Drop.{celsius, fahrenheit}
+use Rattle.text_drops.specs.Drop.{celsius, fahrenheit}
 use Rattle.texts.proofs.Reading.{drop-read, drop-cut, drop-unit}
 use Rattle.texts.proofs.inner.read.degrees.Statement.{statement}
 use Rattle.texts.proofs.inner.read.degrees.Tie as tie
@@ -32,7 +32,8 @@ add-t5 c = search needs
 returns-3 : tie.Need-returns-3
 returns-3 c =
     let start = c .before .before .before in
-    λ n. drop-read (start .args .text .now) (start .args .at) n (start .pre .0) (λ j. c .before .shared-slice-known .given j .fits) (start .pre .1) (⊎-elim (λ w. (fahrenheit, w .1 .left)) (λ w. (celsius, w .left)) (c .if2 .came)) (omega (arith, c .before .before .if1 .left))
+    λ n. drop-read (start .args .text .now) (start .args .at) n (start .pre .0) (λ j. c .before .shared-slice-known .given j .fits) (start .pre .1)
+    (⊎-elim (λ w. (fahrenheit, w .1 .left)) (λ w. (celsius, w .left)) (c .if2 .came)) (omega (arith, c .before .before .if1 .left))
 
 pub degrees-spec : {M : Type 1} → statement M
 degrees-spec =

@@ -4,10 +4,30 @@ use Prim.Native.Nat.{ℕ, _+_, _*_, _<_}
 use native.Mathlib.Omega.{arith}
 use borrow.Author.Needs.{needs}
 use Rattle.texts.specs.Text.{Section}
-use Rattle.texts.specs.Walk.{TwoRuns, RunsWalked, StepsWalked}
+use Rattle.texts.specs.inner.Walk.{TwoRuns, RunsWalked, StepsWalked}
 use Rattle.texts.specs.declared.inner.walk.Walk.{Walk}
 use Rattle.texts.specs.declared.inner.walk.Walk.the-variants.{Same, Differ}
-use Rattle.texts.proofs.Walking.{places as same-places, opened-both, pair-fits, sections-open, sections-walked, pair-other, pair-words, words-fit, drops-fit, pair-drops, sections-here, pair-sections, steps-done, steps-fewer, steps-more, pair-first, steps-differ, steps-behind, steps-on}
+use Rattle.texts.proofs.Walking.{
+  places as same-places,
+  opened-both,
+  pair-fits,
+  sections-open,
+  sections-walked,
+  pair-other,
+  pair-words,
+  words-fit,
+  drops-fit,
+  pair-drops,
+  sections-here,
+  pair-sections,
+  steps-done,
+  steps-fewer,
+  steps-more,
+  pair-first,
+  steps-differ,
+  steps-behind,
+  steps-on,
+}
 use borrow.Fn.Kinds.{In}
 use borrow.Fn.PlainCycle.{Measures, is, falls, and}
 use Rattle.texts.proofs.inner.walk.sections.Reads as sections
@@ -107,8 +127,17 @@ sections-sub-steps t c =
 
 sections-steps-requires : (t : ℕ) → sections-lts.Need-steps-requires (sections-calls t) (sections-at t) sections.Post
 sections-steps-requires t c κs =
-    let start = c .before .before .before .before .args in
-    (omega (arith, c .before .before .before .before .pre .0, opened-both (start .a .now) (start .i) (start .b .now) (start .j) (start .nesting) (c .before .before .before .before .pre .1) .2, c .before .shared-slice-known3 .given (start .i + 1)), sections-open (start .a .now) (start .i) (start .b .now) (start .j) (start .nesting) (c .before .before .before .before .pre .1))
+    let start = c .before .before .before .before .args in (
+      omega (
+        arith,
+        c .before .before .before .before .pre .0,
+        opened-both (start .a .now) (start .i) (start .b .now) (start .j) (start .nesting)
+            (c .before .before .before .before .pre .1) .2,
+        c .before .shared-slice-known3 .given (start .i + 1),
+      ),
+      sections-open (start .a .now)
+          (start .i) (start .b .now) (start .j) (start .nesting) (c .before .before .before .before .pre .1),
+    )
 
 sections-returns : (t : ℕ) → sections-lts.Need-returns (sections-calls t) (sections-at t) sections.Post
 sections-returns t c =
@@ -138,12 +167,16 @@ step-behind-words-requires t c κs =
 step-behind-words-requires-2 : (t : ℕ) → step-lts.Need-behind-words-requires-2 (step-calls t) (step-at t) step.Post
 step-behind-words-requires-2 t c κs =
     let start = c .before .before .before .before .before .before .before .args in
-    words-fit (start .a .now) (start .i) (start .b .now) (start .j) (start .nesting) (c .before .before .if1 .left) (c .before .if2 .taken) (c .before .before .before .before .before .before .before .pre .1) .1
+    words-fit (start .a .now) (start .i) (start .b .now) (start .j) (start .nesting) (c .before .before .if1 .left) (c .before .if2 .taken)
+    (c .before .before .before .before .before .before .before .pre .1) .1
 
 step-returns-2 : (t : ℕ) → step-lts.Need-returns-2 (step-calls t) (step-at t) step.Post
 step-returns-2 t c =
     let start = c .before .before .before .before .before .before .before .before .args in
-    subst (StepsWalked (start .a .now) (start .i) (start .b .now) (start .j) (start .nesting)) (same-places (sym (c .before .behind-words .ensures)) (sym (c .behind-words2 .ensures))) (pair-words (start .a .now) (start .i) (start .b .now) (start .j) (start .nesting) (c .before .before .before .if1 .left) (c .before .before .if2 .taken))
+    subst (StepsWalked (start .a .now) (start .i) (start .b .now) (start .j) (start .nesting))
+    (same-places (sym (c .before .behind-words .ensures)) (sym (c .behind-words2 .ensures)))
+    (pair-words (start .a .now) (start .i) (start .b .now) (start .j) (start .nesting) (c .before .before .before .if1 .left)
+    (c .before .before .if2 .taken))
 
 step-degrees-requires : (t : ℕ) → step-lts.Need-degrees-requires (step-calls t) (step-at t) step.Post
 step-degrees-requires t c κs =
@@ -167,13 +200,18 @@ step-add-sections-2 t c =
 
 step-sections-requires : (t : ℕ) → step-lts.Need-sections-requires (step-calls t) (step-at t) step.Post
 step-sections-requires t c κs =
-    let start = c .before .before .before .before .before .before .before .args in
-    (omega (arith, c .before .before .before .before .before .before .before .pre .0), sections-here (start .a .now) (start .i) (start .b .now) (start .j) (start .nesting) (c .before .before .if1 .left) (c .before .if2 .left) (c .if3 .left) (c .before .before .before .before .before .before .before .pre .1))
+    let start = c .before .before .before .before .before .before .before .args in (
+      omega (arith, c .before .before .before .before .before .before .before .pre .0),
+      sections-here (start .a .now) (start .i) (start .b .now)
+          (start .j) (start .nesting) (c .before .before .if1 .left) (c .before .if2 .left) (c .if3 .left)
+          (c .before .before .before .before .before .before .before .pre .1),
+    )
 
 step-returns-4 : (t : ℕ) → step-lts.Need-returns-4 (step-calls t) (step-at t) step.Post
 step-returns-4 t c =
     let start = c .before .before .before .before .before .before .before .before .args in
-    pair-sections (start .a .now) (start .i) (start .b .now) (start .j) (start .nesting) (c .before .before .before .if1 .left) (c .before .before .if2 .left) (c .before .if3 .left) _ (c .sections .ensures)
+    pair-sections (start .a .now) (start .i) (start .b .now) (start .j) (start .nesting) (c .before .before .before .if1 .left)
+    (c .before .before .if2 .left) (c .before .if3 .left) _ (c .sections .ensures)
 
 -- Steps stand at both places, and whatever is walked from here on, the whole is.
 abbrev steps-Inv-loop : steps-lts.InvT-loop
@@ -196,8 +234,11 @@ steps-returns t c =
 steps-step-requires : (t : ℕ) → steps-lts.Need-step-requires (steps-calls t) (steps-at t) steps.Post steps-Inv-loop steps-μ-loop
 steps-step-requires t c κs =
     let start = c .before .before .before .before .before .args in
-    let here = c .before .before .loop in
-    (omega (arith, c .before .before .before .before .before .pre .0), pair-first (start .a .now) (here .x) (start .b .now) (here .y) (start .nesting) (λ none. omega (arith, none, c .before .loop-test .taken)) (c .if1 .left) (here .inv .0))
+    let here = c .before .before .loop in (
+      omega (arith, c .before .before .before .before .before .pre .0),
+      pair-first (start .a .now) (here .x) (start .b .now) (here .y) (start .nesting)
+          (λ none. omega (arith, none, c .before .loop-test .taken)) (c .if1 .left) (here .inv .0),
+    )
 
 steps-enum-known-p : (t : ℕ) → steps-lts.Need-enum-known-p (steps-calls t) (steps-at t) steps.Post steps-Inv-loop steps-μ-loop
 steps-enum-known-p t c = search needs
@@ -210,7 +251,8 @@ steps-returns-2 t c =
     let start = c .before .before .before .before .before .before .before .before .before .args in
     let here = c .before .before .before .before .before .before .loop in
     let step = subst (StepsWalked (start .a .now) (here .x) (start .b .now) (here .y) (start .nesting)) (c .before .at .given .1) (c .before .before .before .step .ensures) in
-    here .inv .1 _ (steps-differ (start .a .now) (here .x) (start .b .now) (here .y) (start .nesting) (λ none. omega (arith, none, c .before .before .before .before .before .loop-test .taken)) (c .before .before .before .before .if1 .left) _ step)
+    here .inv .1 _ (steps-differ (start .a .now) (here .x) (start .b .now) (here .y) (start .nesting)
+    (λ none. omega (arith, none, c .before .before .before .before .before .loop-test .taken)) (c .before .before .before .before .if1 .left) _ step)
 
 steps-sub-left : (t : ℕ) → steps-lts.Need-sub-left (steps-calls t) (steps-at t) steps.Post steps-Inv-loop steps-μ-loop
 steps-sub-left t c = search needs
@@ -225,14 +267,23 @@ steps-loop-again : (t : ℕ) → steps-lts.Need-loop-again (steps-calls t) (step
 steps-loop-again t c =
     let start = c .before .before .before .before .before .before .before .before .before .args in
     let here = c .before .before .before .before .before .before .loop in
-    let step = subst (StepsWalked (start .a .now) (here .x) (start .b .now) (here .y) (start .nesting)) (c .before .p .given .1) (c .before .before .before .step .ensures) in
-    (steps-behind (start .a .now) (here .x) (start .b .now) (here .y) (start .nesting) (λ none. omega (arith, none, c .before .before .before .before .before .loop-test .taken)) (c .before .before .before .before .if1 .left) _ _ step (here .inv .0), (λ r walked. here .inv .1 r (steps-on (start .a .now) (here .x) (start .b .now) (here .y) (start .nesting) (λ none. omega (arith, none, c .before .before .before .before .before .loop-test .taken)) (c .before .before .before .before .if1 .left) _ _ step r walked)))
+    let step = subst (StepsWalked (start .a .now) (here .x) (start .b .now) (here .y) (start .nesting)) (c .before .p .given .1) (c .before .before .before .step .ensures) in (
+      steps-behind (start .a .now) (here .x) (start .b .now) (here .y) (start .nesting)
+          (λ none. omega (arith, none, c .before .before .before .before .before .loop-test .taken))
+          (c .before .before .before .before .if1 .left) _ _ step (here .inv .0),
+      (λ r walked. here .inv .1 r
+          (steps-on (start .a .now) (here .x) (start .b .now) (here .y) (start .nesting)
+          (λ none. omega (arith, none, c .before .before .before .before .before .loop-test .taken))
+          (c .before .before .before .before .if1 .left) _ _ step r walked)),
+    )
 
 steps-returns-3 : (t : ℕ) → steps-lts.Need-returns-3 (steps-calls t) (steps-at t) steps.Post steps-Inv-loop steps-μ-loop
 steps-returns-3 t c =
     let start = c .before .before .before .before .before .args in
     let here = c .before .before .loop in
-    here .inv .1 (Differ (here .x)) (steps-fewer (start .a .now) (here .x) (start .b .now) (here .y) (start .nesting) (omega (arith, c .before .loop-test .left)) (λ none. omega (arith, none, c .if2 .taken)))
+    here .inv .1 (Differ (here .x))
+    (steps-fewer (start .a .now) (here .x) (start .b .now) (here .y) (start .nesting) (omega (arith, c .before .loop-test .left))
+    (λ none. omega (arith, none, c .if2 .taken)))
 
 steps-returns-4 : (t : ℕ) → steps-lts.Need-returns-4 (steps-calls t) (steps-at t) steps.Post steps-Inv-loop steps-μ-loop
 steps-returns-4 t c =

@@ -2,7 +2,7 @@
 use mathlib.Core.Path.{ap, _∙_}
 use Prim.Native.Nat.{_+_}
 use lib.ListN.{getD}
-use Rattle.drops.specs.Drop.{dropOf, scaleOf}
+use Rattle.text_drops.specs.Drop.{dropOf, scaleOf}
 use borrow.Author.Needs.{needs}
 use Rattle.texts.proofs.inner.walk.drop_at.Statement.{statement}
 use Rattle.texts.proofs.inner.walk.drop_at.Tie as tie
@@ -23,7 +23,9 @@ drop-of-requires : tie.Need-drop-of-requires
 drop-of-requires c κs = search needs
 
 returns : tie.Need-returns
-returns c = c .drop-of .ensures ∙ ap (dropOf (scaleOf (getD (c .before .before .before .before .args .text .now) (c .before .before .before .before .args .at + 1) 0))) (c .before .read-u16 .ensures)
+returns c =
+    let at4 = c .before .before .before .before in
+    c .drop-of .ensures ∙ ap (dropOf (scaleOf (getD (at4 .args .text .now) (at4 .args .at + 1) 0))) (c .before .read-u16 .ensures)
 
 pub drop-at-spec : {M : Type 1} → statement M
 drop-at-spec =

@@ -1,4 +1,0 @@
-pub mod Desks
-pub mod Numbers
-pub mod Silences
-pub mod Cases

@@ -1,0 +1,685 @@
+-- What holds of the system at every moment, and that each step by the rules keeps it. Assumes nothing.
+use Prim.Native.Nat.{ℕ, zero, suc, _+_, _*_, _/_, _%_, _≤_, _<_}
+use native.Mathlib.Omega.{arith}
+use mathlib.Core.Path.{_≡_, refl, sym, ap, subst, _∙_}
+use mathlib.Core.Logic.{_⊎_, inl, inr}
+use mathlib.Core.List.{List, [], _∷_}
+use mathlib.Core.Bool.{Bool, true, false, cond, not, _&&_, _||_}
+use borrow.Author.Tests.{eqb-true, eqb-false, eq-eqb, ne-eqb, ltb-true, ltb-false, not-true, not-false}
+use lib.Dec.{eqb, ltb}
+use lib.ListN.{length, getD, set, length-map, List·getD-eq-default}
+use lib.Seq.{getD-set-same, getD-set-other}
+use Rattle.formats.specs.Format.{Format, V1, V2}
+use Rattle.lists.specs.Parts.{Bytes}
+use Rattle.lists.specs.Search.{any}
+use Rattle.lists.specs.Table.{settled}
+use Rattle.lists.proofs.Tests.{cases, and-left, and-right, or-cases, or-right, never-both}
+use Rattle.stamps.specs.Stamp.{stamp, deskStart, shared, exclusive, stampValid, largerOfEach, noPair}
+use Rattle.stamps.specs.declared.Pair.{Pair}
+use Rattle.stamps.proofs.Stamp.{stamp-desk-start, stamp-valid}
+use Rattle.commands.specs.Command.{update}
+use Rattle.commands.specs.declared.Command.{Command}
+use Rattle.commands.specs.Bytes.{fieldsOf, payload, formed}
+use Rattle.guard.specs.Judge.{raise}
+use Rattle.guard.specs.Replies.{blankReply, replied}
+use Rattle.image.specs.Image.{Card, Cards, noCard, encode, GoodCards}
+use Rattle.image.specs.Convert.{widened, widenedCards, converted, convertNumber}
+use Rattle.image_claims.proofs.Conversion.{getD-map}
+use Rattle.store_model.specs.Serve.{stepped, serve}
+use Rattle.store_model.specs.Words.{Sent, Event, eventOf, commandOf}
+use Rattle.store_model.specs.Claims.{SentBytes, AllBytes}
+use Rattle.store_model.specs.Meaning.{Among}
+use Rattle.store_model.proofs.Machine.{numberOn, eventBy, cardsBy, passed}
+use Rattle.store_model.proofs.Meaning.{among-here, among-later, any-means}
+use Rattle.store_model.proofs.Simulation.{same-event}
+use Rattle.redo_recovery_model.specs.Recovery.{Pairs, FitsPairs}
+use Rattle.image.proofs.Cards.{Bytes-encode}
+use Rattle.redo_recovery_model.proofs.Sending.{recovered-bytes}
+use Rattle.lock_queue.specs.Queue.{State, emptyQueue}
+use Rattle.lock_queue.specs.declared.Waiting.{Waiting}
+use Rattle.lock_queue.specs.Good.{waitingFormed}
+use Rattle.lock_queue.specs.Requests.{Request, asks, leaves, lapses, answered, number, after, answer, blankAnswer}
+use Rattle.lock_queue.proofs.Judged.{no-row}
+use Rattle.lock_queue.proofs.After.{refusal-leaves}
+use Rattle.desk_proposal_claims.proofs.Claims.{asked-largest, left-largest, lapsed-largest}
+use Rattle.desk_proposals.specs.Propose.{learnt, nextT, ownAbove, pairFor, proposed}
+use Rattle.desk_proposals.proofs.Propose.{made-rules, own-above, pair-shared, pair-exclusive}
+use Rattle.desk_system.specs.System.{
+  System,
+  Made,
+  Told,
+  begin,
+  propose,
+  atQueue,
+  lose,
+  recoverWith,
+  learn,
+  samePair,
+  inUse,
+  isMade,
+  asksMade,
+  sendsMade,
+  allMade,
+  recoverySends,
+  allowed,
+  with,
+  knows,
+  nowKnows,
+  withStore,
+  withMade,
+  queueStep,
+  sendStep,
+  sendSteps,
+  convertStep,
+  stepTo,
+}
+use Rattle.desk_system.proofs.Backing.{among-cases, with-all, Backed, Stamped, backed-none, backed-larger, backed-more}
+use Rattle.desk_system.proofs.Store.{Held, held-send, held-convert}
+
+-- An exclusive proposal: its stamp is not zero, and the desk and start of that stamp is in use and knows a stamp at least as large.
+pub record Marked (known : ℕ → ℕ → Pair) (started : List ℕ) (m : Made) : Type 0 where
+  pub some : m .pair .x ≡ 0 → ⊥
+  pub low : m .pair .x ≤ known (deskStart (m .pair .x)) (m .card) .x
+  pub running : any (λ w. eqb w (deskStart (m .pair .x))) started ≡ true
+
+-- A shared and an exclusive proposal for one card with one exclusive stamp: the shared one has the larger s.
+abbrev pub Ordered : List Made → Type 0
+Ordered made =
+    (c d : Made) → Among c made → Among d made → c .card ≡ d .card → c .mode ≡ shared → d .mode ≡ exclusive → c .pair .x ≡ d .pair .x
+    → d .pair .s < c .pair .s
+
+-- No two exclusive proposals for one card have one exclusive stamp.
+abbrev pub Once : List Made → Type 0
+Once [] = Unit {0}
+Once (m ∷ before) =
+    ((d : Made) → Among d before → m .mode ≡ exclusive → m .card ≡ d .card → d .mode ≡ exclusive → m .pair .x ≡ d .pair .x → ⊥) × Once before
+
+-- A proposal with these fields stands in the list.
+pub record Proposal (made : List Made) (card mode : ℕ) (pair : Pair) : Type 0 where
+  pub m : Made
+  pub among : Among m made
+  pub card-is : m .card ≡ card
+  pub mode-is : m .mode ≡ mode
+  pub pair-same : m .pair ≡ pair
+
+-- A well-formed event is under a pair that was proposed, for its card and in its mode.
+abbrev pub Sanctioned : List Made → Event → Type 0
+Sanctioned made e = e .read .formed ≡ true → Proposal made (commandOf e .card) (commandOf e .mode) (update (commandOf e))
+
+pub record Kept (v : Format) (n c : ℕ) (y : System) : Type 0 where
+  pub held : Held v n c (y .version) (y .image) (y .log)
+  -- every pair in circulation is backed: stored, in a queue, known, told and proposed
+  pub stored : (k : ℕ) → Backed (y .made) k (getD (held .cards .cards) k (noCard (y .version)) .pair)
+  pub queued : (k : ℕ) → Backed (y .made) k (y .queues k .largest)
+  pub knowing : (w k : ℕ) → Backed (y .made) k (y .known w k)
+  pub telling : (t : Told) → Among t (y .told) → Backed (y .made) (t .card) (t .pair)
+  pub making : (m : Made) → Among m (y .made) → Backed (y .made) (m .card) (m .pair)
+  pub marked : (m : Made) → Among m (y .made) → m .mode ≡ exclusive → Marked (y .known) (y .started) m
+  pub ordered : Ordered (y .made)
+  pub once : Once (y .made)
+  pub numbered : (w : ℕ) → inUse y w ≡ true → w < 4294967296
+  pub sanctioned : (e : Event) → Among e (y .log) → Sanctioned (y .made) e
+
+-- ---- tests of the rules
+
+pair-is : (p q : Pair) → samePair p q ≡ true → p ≡ q
+pair-is p q h =
+    let s = eqb-true (p .s) (q .s) (and-left (eqb (p .s) (q .s)) (eqb (p .x) (q .x)) h) in
+    let x = eqb-true (p .x) (q .x) (and-right (eqb (p .s) (q .s)) (eqb (p .x) (q .x)) h) in
+    let both : _≡_ {A = Pair} (record { s = p .s; x = p .x }) (record { s = q .s; x = q .x }) = rw (s, x) in
+    both
+
+pub is-made : (made : List Made) (card mode : ℕ) (pair : Pair) → isMade made card mode pair ≡ true → Proposal made card mode pair
+is-made made card mode pair h =
+    let test : Made → Bool = λ (m : Made). eqb (m .card) card && eqb (m .mode) mode && samePair (m .pair) pair in
+    let found = any-means test made .0 h in
+    let m : Made = found .0 in
+    let first : Bool = eqb (m .card) card && eqb (m .mode) mode in
+    let holds : (first && samePair (m .pair) pair) ≡ true = found .2 in
+    let both = and-left first (samePair (m .pair) pair) holds in
+    record {
+      m = m;
+      among = found .1;
+      card-is = eqb-true (m .card) card (and-left (eqb (m .card) card) (eqb (m .mode) mode) both);
+      mode-is = eqb-true (m .mode) mode (and-right (eqb (m .card) card) (eqb (m .mode) mode) both);
+      pair-same = pair-is (m .pair) pair (and-right first (samePair (m .pair) pair) holds);
+    }
+
+-- What is free where malformed is a proposal where it is not.
+pub if-formed : (f : Bool) {P : Bool} → (not f || P) ≡ true → f ≡ true → P ≡ true
+if-formed f {P} h e = go (or-cases (not f) P h)
+  where
+    go : (not f ≡ true) ⊎ (P ≡ true) → P ≡ true
+    go (inl n) = absurd (never-both e (not-true f n))
+    go (inr p) = p
+
+pub proposal-more : {made : List Made} {card mode : ℕ} {pair : Pair} (new : Made) → Proposal made card mode pair → Proposal (new ∷ made) card mode pair
+proposal-more new p =
+    record { m = p .m; among = among-later new (p .among); card-is = p .card-is; mode-is = p .mode-is; pair-same = p .pair-same }
+
+-- The system after a proposal by a desk and start.
+abbrev raised : System → ℕ → Made → Pair
+raised y who new = largerOfEach (y .known who (new .card)) (new .pair)
+
+abbrev proposedTo : System → ℕ → Made → System
+proposedTo y who new = withMade new (nowKnows who (new .card) (raised y who new) y)
+
+module _ (v : Format) (n c : ℕ) (y : System) (k : Kept v n c y) where
+  stamped : Stamped (y .made)
+  stamped m a e = k .marked m a e .some
+
+  nothing : (card : ℕ) → Backed (y .made) card noPair
+  nothing = backed-none stamped
+
+  proposal-backed : {card mode : ℕ} {pair : Pair} → Proposal (y .made) card mode pair → Backed (y .made) card pair
+  proposal-backed {card} {mode} {pair} p =
+      subst (Backed (y .made) card) (p .pair-same)
+      (subst (λ (j : ℕ). Backed (y .made) j (p .m .pair)) (p .card-is) (k .making (p .m) (p .among)))
+
+  told-more : (t : Told) → Backed (y .made) (t .card) (t .pair) → (u : Told) → Among u (t ∷ y .told) → Backed (y .made) (u .card) (u .pair)
+  told-more t b u a = go (among-cases a)
+    where
+      go : (u ≡ t) ⊎ Among u (y .told) → Backed (y .made) (u .card) (u .pair)
+      go (inl e) = subst (λ (v : Told). Backed (y .made) (v .card) (v .pair)) (sym e) b
+      go (inr m) = k .telling u m
+
+  -- ---- a desk starts
+
+  pub kept-begin : (who : ℕ) → allowed y (begin who) ≡ true → Kept v n c (stepTo y (begin who))
+  unfolding stepTo
+  kept-begin who h =
+      record {
+        held = k .held;
+        stored = k .stored;
+        queued = k .queued;
+        knowing = with-all (λ (w : ℕ) (f : ℕ → Pair). (j : ℕ) → Backed (y .made) j (f j)) who (λ j. noPair) (y .known) nothing (k .knowing);
+        telling = k .telling;
+        making = k .making;
+        marked = λ m a e. still m (k .marked m a e);
+        ordered = k .ordered;
+        once = k .once;
+        numbered = λ w r. go w (or-cases (eqb who w) (inUse y w) r);
+        sanctioned = k .sanctioned;
+      }
+    where
+      idle : inUse y who ≡ false
+      idle = not-true (inUse y who) (and-right (ltb who 4294967296) (not (inUse y who)) h)
+
+      still : (m : Made) → Marked (y .known) (y .started) m → Marked (with who (λ j. noPair) (y .known)) (who ∷ y .started) m
+      still m d =
+          let other : eqb (deskStart (m .pair .x)) who ≡ false =
+          ne-eqb (deskStart (m .pair .x)) who (λ e. never-both (subst (λ (w : ℕ). inUse y w ≡ true) e (d .running)) idle) in
+          record { some = d .some; low = rw other (d .low); running = or-right (eqb who (deskStart (m .pair .x))) (d .running) }
+
+      go : (w : ℕ) → (eqb who w ≡ true) ⊎ (inUse y w ≡ true) → w < 4294967296
+      go w (inl e) =
+          subst (λ (v : ℕ). v < 4294967296) (eqb-true who w e) (ltb-true who 4294967296 (and-left (ltb who 4294967296) (not (inUse y who)) h))
+      go w (inr r) = k .numbered w r
+
+  -- ---- a desk knows more
+
+  -- A desk learns a backed pair that is not below what it knew.
+  kept-known : (who card : ℕ) (pair : Pair) → Backed (y .made) card pair → y .known who card .x ≤ pair .x
+      → Kept v n c (nowKnows who card pair y)
+  kept-known who card pair b up =
+      record {
+        held = k .held;
+        stored = k .stored;
+        queued = k .queued;
+        knowing =
+            with-all (λ (w : ℕ) (f : ℕ → Pair). (j : ℕ) → Backed (y .made) j (f j)) who (with card pair (y .known who)) (y .known)
+            (with-all (λ (j : ℕ) (p : Pair). Backed (y .made) j p) card pair (y .known who) b (k .knowing who))
+            (k .knowing);
+        telling = k .telling;
+        making = k .making;
+        marked = λ m a e. still m (k .marked m a e);
+        ordered = k .ordered;
+        once = k .once;
+        numbered = k .numbered;
+        sanctioned = k .sanctioned;
+      }
+    where
+      rises : (w j : ℕ) → y .known w j .x ≤ nowKnows who card pair y .known w j .x
+      rises =
+          with-all (λ (w : ℕ) (f : ℕ → Pair). (j : ℕ) → y .known w j .x ≤ f j .x) who (with card pair (y .known who)) (y .known)
+          (with-all (λ (j : ℕ) (p : Pair). y .known who j .x ≤ p .x) card pair (y .known who) up (λ j. omega arith))
+          (λ w j. omega arith)
+
+      still : (m : Made) → Marked (y .known) (y .started) m → Marked (nowKnows who card pair y .known) (y .started) m
+      still m d =
+          record { some = d .some; low = let r = rises (deskStart (m .pair .x)) (m .card) in let l = d .low in omega arith; running = d .running }
+
+  pub kept-learn : (who card : ℕ) (pair : Pair) → allowed y (learn who card pair) ≡ true
+      → Kept v n c (stepTo y (learn who card pair))
+  unfolding stepTo learnt
+  kept-learn who card pair h =
+      kept-known who card (largerOfEach (y .known who card) pair) (backed-larger (y .known who card) pair (k .knowing who card) heard) (omega arith)
+    where
+      test : Told → Bool
+      test t = eqb (t .card) card && samePair (t .pair) pair
+
+      heard : Backed (y .made) card pair
+      heard =
+          let found = any-means test (y .told) .0 (and-right (inUse y who) (any test (y .told)) h) in
+          let t : Told = found .0 in
+          let holds : (eqb (t .card) card && samePair (t .pair) pair) ≡ true = found .2 in
+          subst (Backed (y .made) card) (pair-is (t .pair) pair (and-right (eqb (t .card) card) (samePair (t .pair) pair) holds))
+          (subst (λ (j : ℕ). Backed (y .made) j (t .pair)) (eqb-true (t .card) card (and-left (eqb (t .card) card) (samePair (t .pair) pair) holds))
+          (k .telling t (found .1)))
+
+  -- ---- a desk proposes
+
+  -- One more proposal, whose exclusive stamp, if it is exclusive, no backed pair has.
+  module _ (who : ℕ) (new : Made) (running : inUse y who ≡ true)
+      (mark : new .mode ≡ exclusive → (deskStart (new .pair .x) ≡ who) × (new .pair .x ≡ 0 → ⊥))
+      (unheard : (p : Pair) → Backed (y .made) (new .card) p → new .mode ≡ exclusive → new .pair .x ≡ p .x → ⊥)
+      (own : Backed (new ∷ y .made) (new .card) (new .pair))
+      (above : (d : Made) → Among d (y .made) → new .mode ≡ shared → new .card ≡ d .card → d .mode ≡ exclusive → new .pair .x ≡ d .pair .x → d .pair .s < new .pair .s)
+    where
+      more : (j : ℕ) (p : Pair) → Backed (y .made) j p → Backed (new ∷ y .made) j p
+      more j p b = backed-more new (λ c e z. unheard p (subst (λ (i : ℕ). Backed (y .made) i p) (sym c) b) e z) b
+
+      rises : (w j : ℕ) → y .known w j .x ≤ nowKnows who (new .card) (raised y who new) y .known w j .x
+      rises =
+          with-all (λ (w : ℕ) (f : ℕ → Pair). (j : ℕ) → y .known w j .x ≤ f j .x) who (with (new .card) (raised y who new) (y .known who)) (y .known)
+          (with-all (λ (j : ℕ) (p : Pair). y .known who j .x ≤ p .x) (new .card) (raised y who new) (y .known who) (omega arith) (λ j. omega arith))
+          (λ w j. omega arith)
+
+      -- The desk then knows its own stamp.
+      reached : new .pair .x ≤ nowKnows who (new .card) (raised y who new) y .known who (new .card) .x
+      reached = rw (eq-eqb who who refl, eq-eqb (new .card) (new .card) refl) (omega arith)
+
+      kept-more : Kept v n c (proposedTo y who new)
+      kept-more =
+          record {
+            held = k .held;
+            stored = λ j. more j (getD (k .held .cards .cards) j (noCard (y .version)) .pair) (k .stored j);
+            queued = λ j. more j (y .queues j .largest) (k .queued j);
+            knowing =
+                with-all (λ (w : ℕ) (f : ℕ → Pair). (j : ℕ) → Backed (new ∷ y .made) j (f j)) who (with (new .card) (raised y who new) (y .known who)) (y .known)
+                (with-all (λ (j : ℕ) (p : Pair). Backed (new ∷ y .made) j p) (new .card) (raised y who new) (y .known who)
+                (backed-larger (y .known who (new .card)) (new .pair)
+                (more (new .card) (y .known who (new .card)) (k .knowing who (new .card)))
+                own)
+                (λ j. more j (y .known who j) (k .knowing who j)))
+                (λ w j. more j (y .known w j) (k .knowing w j));
+            telling = λ t a. more (t .card) (t .pair) (k .telling t a);
+            making = λ m a. made-backed m (among-cases a);
+            marked = λ m a e. made-marked m e (among-cases a);
+            ordered = λ c d a b same cs dx z. order c d same cs dx z (among-cases a) (among-cases b);
+            once = (
+              λ d a e c f z. unheard (d .pair) (subst (λ (j : ℕ). Backed (y .made) j (d .pair)) (sym c) (k .making d a)) e z,
+              k .once,
+            );
+            numbered = k .numbered;
+            sanctioned = λ e a f. proposal-more new (k .sanctioned e a f);
+          }
+        where
+          made-backed : (m : Made) → (m ≡ new) ⊎ Among m (y .made) → Backed (new ∷ y .made) (m .card) (m .pair)
+          made-backed m (inl e) = subst (λ (d : Made). Backed (new ∷ y .made) (d .card) (d .pair)) (sym e) own
+          made-backed m (inr a) = more (m .card) (m .pair) (k .making m a)
+
+          new-marked : new .mode ≡ exclusive → Marked (proposedTo y who new .known) (y .started) new
+          new-marked e =
+              record {
+                some = mark e .1;
+                low = subst (λ (w : ℕ). new .pair .x ≤ nowKnows who (new .card) (raised y who new) y .known w (new .card) .x) (sym (mark e .0)) reached;
+                running = subst (λ (w : ℕ). inUse y w ≡ true) (sym (mark e .0)) running;
+              }
+
+          made-marked : (m : Made) → m .mode ≡ exclusive → (m ≡ new) ⊎ Among m (y .made) → Marked (proposedTo y who new .known) (y .started) m
+          made-marked m e (inl s) = subst (Marked (proposedTo y who new .known) (y .started)) (sym s) (new-marked (subst (λ (d : Made). d .mode ≡ exclusive) s e))
+          made-marked m e (inr a) =
+              let d = k .marked m a e in
+              let r = rises (deskStart (m .pair .x)) (m .card) in
+              let l = d .low in
+              record { some = d .some; low = omega arith; running = d .running }
+
+          order : (c d : Made) → c .card ≡ d .card → c .mode ≡ shared → d .mode ≡ exclusive → c .pair .x ≡ d .pair .x
+              → (c ≡ new) ⊎ Among c (y .made) → (d ≡ new) ⊎ Among d (y .made) → d .pair .s < c .pair .s
+          order c d same cs dx z (inl e) (inl f) =
+              let one : c .mode ≡ d .mode = ap (λ (m : Made). m .mode) (e ∙ sym f) in
+              absurd (omega arith)
+          order c d same cs dx z (inl e) (inr b) =
+              subst (λ (m : Made). d .pair .s < m .pair .s) (sym e)
+              (above d b (subst (λ (m : Made). m .mode ≡ shared) e cs) (subst (λ (m : Made). m .card ≡ d .card) e same) dx (subst (λ (m : Made). m .pair .x ≡ d .pair .x) e z))
+          order c d same cs dx z (inr a) (inl f) =
+              absurd
+              (unheard (c .pair) (subst (λ (j : ℕ). Backed (y .made) j (c .pair)) (same ∙ ap (λ (m : Made). m .card) f) (k .making c a))
+              (subst (λ (m : Made). m .mode ≡ exclusive) f dx)
+              (subst (λ (m : Made). m .pair .x ≡ c .pair .x) f (sym z)))
+          order c d same cs dx z (inr a) (inr b) = k .ordered c d a b same cs dx z
+
+  -- A proposal that is made, in each mode.
+  module _ (who card : ℕ) (running : inUse y who ≡ true) where
+    width : who < 4294967296
+    width = k .numbered who running
+
+    module _ (some : who / 65536 ≡ 0 → ⊥) where
+      abbrev stampX : ℕ
+      stampX = ownAbove (who / 65536) (who % 65536) (y .known who card .x)
+
+      abbrev newX : Made
+      newX = record { card = card; mode = exclusive; pair = record { s = y .known who card .s; x = stampX } }
+
+      abbrev newS : Made
+      newS = record { card = card; mode = shared; pair = record { s = ownAbove (who / 65536) (who % 65536) (y .known who card .s); x = y .known who card .x } }
+
+      up : (n : ℕ) → n < ownAbove (who / 65536) (who % 65536) n
+      up n = let w = width in own-above (who / 65536) (who % 65536) n (omega arith) (omega arith)
+
+      mine-desk : deskStart stampX ≡ who
+      mine-desk =
+          let w = width in
+          let desk : who / 65536 < 65536 = omega arith in
+          let start : who % 65536 < 65536 = omega arith in
+          let d = stamp-desk-start (nextT (who / 65536) (who % 65536) (y .known who card .x)) desk start in
+          let whole : who / 65536 * 65536 + who % 65536 ≡ who = omega arith in
+          d ∙ whole
+
+      mine-valid : (n : ℕ) → stampValid (ownAbove (who / 65536) (who % 65536) n) ≡ true
+      mine-valid n = let w = width in stamp-valid (nextT (who / 65536) (who % 65536) n) (omega arith) (omega arith) some
+
+      mine-some : stampX ≡ 0 → ⊥
+      mine-some z = let u = up (y .known who card .x) in omega arith
+
+      -- No exclusive proposal for the card has that stamp yet: it would be this desk's, which then knows a larger one.
+      unused : (m : Made) → Among m (y .made) → m .card ≡ card → m .mode ≡ exclusive → m .pair .x ≡ stampX → ⊥
+      unused m a c e z =
+          let d = k .marked m a e in
+          let same : deskStart (m .pair .x) ≡ who = ap deskStart z ∙ mine-desk in
+          let low : m .pair .x ≤ y .known who card .x =
+          subst (λ (j : ℕ). m .pair .x ≤ y .known who j .x) c (subst (λ (w : ℕ). m .pair .x ≤ y .known w (m .card) .x) same (d .low)) in
+          let u = up (y .known who card .x) in
+          omega arith
+
+      unknown : (p : Pair) → Backed (y .made) card p → stampX ≡ p .x → ⊥
+      unknown p b z =
+          let u = b .stems (λ w. mine-some (z ∙ w)) in
+          unused (u .m) (u .among) (u .card) (u .mode) (u .stamp ∙ sym z)
+
+      own-x : Backed (newX ∷ y .made) card (newX .pair)
+      own-x =
+          record {
+            valid-s = k .knowing who card .valid-s;
+            valid-x = mine-valid (y .known who card .x);
+            covers = λ m a c e z. go m c e z (among-cases a);
+            stems = λ z. record { m = newX; among = among-here newX (y .made); card = refl; mode = refl; stamp = refl };
+          }
+        where
+          go : (m : Made) → m .card ≡ card → m .mode ≡ exclusive → m .pair .x ≡ stampX → (m ≡ newX) ⊎ Among m (y .made) → m .pair .s ≤ y .known who card .s
+          go m c e z (inl same) = let s : m .pair .s ≡ y .known who card .s = ap (λ (d : Made). d .pair .s) same in omega arith
+          go m c e z (inr a) = absurd (unused m a c e z)
+
+      kept-exclusive : Kept v n c (proposedTo y who newX)
+      kept-exclusive =
+          kept-more who newX running (λ e. (mine-desk, mine-some)) (λ p b e z. unknown p b z) own-x (λ d a h c e z. absurd (omega arith))
+
+      own-s : Backed (newS ∷ y .made) card (newS .pair)
+      own-s =
+          backed-more newS (λ c e z. absurd (omega arith))
+          (record {
+            valid-s = mine-valid (y .known who card .s);
+            valid-x = k .knowing who card .valid-x;
+            covers = λ m a c e z. let low = k .knowing who card .covers m a c e z in let u = up (y .known who card .s) in omega arith;
+            stems = λ z. k .knowing who card .stems z;
+          })
+
+      kept-shared : Kept v n c (proposedTo y who newS)
+      kept-shared =
+          kept-more who newS running (λ e. absurd (omega arith)) (λ p b e z. absurd (omega arith)) own-s
+          (λ d a h c e z. let low = k .knowing who card .covers d a (sym c) e (sym z) in let u = up (y .known who card .s) in omega arith)
+
+  -- A proposal, by its number.
+  pub kept-propose : (who card mode : ℕ) → allowed y (propose who card mode) ≡ true → Kept v n c (stepTo y (propose who card mode))
+  unfolding stepTo proposed learnt
+  kept-propose who card mode running = go (proposed (knows y who card) mode .number) refl
+    where
+      go : (given : ℕ) → proposed (knows y who card) mode .number ≡ given → Kept v n c (stepTo y (propose who card mode))
+      go (suc j) e = rw e k
+      go zero e = rw e (by-mode (made-rules (knows y who card) mode e))
+        where
+          by-mode : ((mode ≡ shared) ⊎ (mode ≡ exclusive)) × (who / 65536 ≡ 0 → ⊥)
+              → Kept v n c (proposedTo y who (record { card = card; mode = mode; pair = pairFor (knows y who card) mode }))
+          by-mode r = pick (r .0)
+            where
+              pick : (mode ≡ shared) ⊎ (mode ≡ exclusive) → Kept v n c (proposedTo y who (record { card = card; mode = mode; pair = pairFor (knows y who card) mode }))
+              pick (inl s) =
+                  subst (λ (m : ℕ). Kept v n c (proposedTo y who (record { card = card; mode = m; pair = pairFor (knows y who card) m }))) (sym s)
+                  (subst (λ (p : Pair). Kept v n c (proposedTo y who (record { card = card; mode = shared; pair = p }))) (sym (pair-shared (knows y who card)))
+                  (kept-shared who card running (r .1)))
+              pick (inr x) =
+                  subst (λ (m : ℕ). Kept v n c (proposedTo y who (record { card = card; mode = m; pair = pairFor (knows y who card) m }))) (sym x)
+                  (subst (λ (p : Pair). Kept v n c (proposedTo y who (record { card = card; mode = exclusive; pair = p }))) (sym (pair-exclusive (knows y who card)))
+                  (kept-exclusive who card running (r .1)))
+
+  -- ---- a queue answers
+
+  -- What a request on a queue of the system makes of its largest pair, and the pair of the answer.
+  module _ (lent card : ℕ) (r : Request) (fine : (new : Waiting) → r ≡ asks new → waitingFormed new ≡ true → Backed (y .made) card (new .pair)) where
+    after-backed : Backed (y .made) card (after lent (y .queues card) r .largest)
+    after-backed = go r fine (number lent (y .queues card) r) refl
+      where
+        go : (r : Request) → ((new : Waiting) → r ≡ asks new → waitingFormed new ≡ true → Backed (y .made) card (new .pair))
+            → (n : ℕ) → number lent (y .queues card) r ≡ n
+            → Backed (y .made) card (after lent (y .queues card) r .largest)
+        go r f (suc n) e = rw (refusal-leaves lent (y .queues card) r n e) (k .queued card)
+        go (asks new) f zero e =
+            rw (asked-largest lent (y .queues card) new e)
+            (backed-larger (y .queues card .largest) (new .pair) (k .queued card)
+            (f new refl (not-false (waitingFormed new) (no-row lent (y .queues card) (asks new) e 1))))
+        go (leaves d) f zero e = rw (left-largest lent (y .queues card) d e) (k .queued card)
+        go (lapses l) f zero e = rw (lapsed-largest lent (y .queues card) l e) (k .queued card)
+
+    answer-backed : Backed (y .made) card (answer lent (y .queues card) r .largest)
+    unfolding answer answered
+    answer-backed = go (blankAnswer (number lent (y .queues card) r))
+      where
+        go : (b : Bool) → Backed (y .made) card (cond b noPair (after lent (y .queues card) r .largest))
+        go true = nothing card
+        go false = after-backed
+
+    -- The queue and the answers after it; nothing else has moved.
+    kept-queue : Kept v n c (queueStep lent y card r)
+    kept-queue =
+        record {
+          held = k .held;
+          stored = k .stored;
+          queued =
+              with-all (λ (j : ℕ) (q : State). Backed (y .made) j (q .largest)) card (after lent (y .queues card) r) (y .queues) after-backed (k .queued);
+          knowing = k .knowing;
+          telling = told-more (record { card = card; number = answer lent (y .queues card) r .number; pair = answer lent (y .queues card) r .largest }) answer-backed;
+          making = k .making;
+          marked = k .marked;
+          ordered = k .ordered;
+          once = k .once;
+          numbered = k .numbered;
+          sanctioned = k .sanctioned;
+        }
+
+  pub kept-request : (card lent : ℕ) (r : Request) → allowed y (atQueue card lent r) ≡ true → Kept v n c (stepTo y (atQueue card lent r))
+  unfolding stepTo
+  kept-request card lent r h = kept-queue lent card r (fine r h)
+    where
+      fine : (r : Request) → asksMade (y .made) card r ≡ true → (new : Waiting) → r ≡ asks new → waitingFormed new ≡ true → Backed (y .made) card (new .pair)
+      fine (asks old) h new e f =
+          let same : old ≡ new = cc in
+          subst (λ (w : Waiting). Backed (y .made) card (w .pair)) same
+          (proposal-backed (is-made (y .made) card (old .mode) (old .pair)
+          (if-formed (waitingFormed old) h (subst (λ (w : Waiting). waitingFormed w ≡ true) (sym same) f))))
+      fine (leaves d) h new e f = let z : _≡_ {A = ℕ} 0 1 = cc in absurd (omega arith)
+      fine (lapses l) h new e f = let z : _≡_ {A = ℕ} 0 1 = cc in absurd (omega arith)
+
+  -- A queue that is lost has no largest pair.
+  pub kept-lose : (card : ℕ) (places : List Waiting) → Kept v n c (stepTo y (lose card places))
+  unfolding stepTo
+  kept-lose card places =
+      record {
+        held = k .held;
+        stored = k .stored;
+        queued =
+            with-all (λ (j : ℕ) (q : State). Backed (y .made) j (q .largest)) card (emptyQueue places) (y .queues) (nothing card) (k .queued);
+        knowing = k .knowing;
+        telling = k .telling;
+        making = k .making;
+        marked = k .marked;
+        ordered = k .ordered;
+        once = k .once;
+        numbered = k .numbered;
+        sanctioned = k .sanctioned;
+      }
+
+  -- ---- the store answers
+
+  module _ (s : Sent) (bytes : SentBytes s) (h : sendsMade (y .version) (y .made) s ≡ true) where
+    abbrev command : Command
+    command = fieldsOf (y .version) (s .command)
+
+    abbrev cs : Cards
+    cs = k .held .cards
+
+    abbrev own-card : Card
+    own-card = getD (cs .cards) (command .card) (noCard (y .version))
+
+    proposal : formed (y .version) (s .command) ≡ true → Proposal (y .made) (command .card) (command .mode) (update command)
+    proposal g = is-made (y .made) (command .card) (command .mode) (update command) (if-formed (formed (y .version) (s .command)) h g)
+
+    -- The pair that an accepted command leaves.
+    raised-backed : numberOn (y .version) cs s ≡ 0 → Backed (y .made) (command .card) (largerOfEach (own-card .pair) (update command))
+    raised-backed e =
+        backed-larger (own-card .pair) (update command) (k .stored (command .card)) (proposal-backed (proposal (passed (y .version) cs s e .wellFormed)))
+
+    stored-next : (number : ℕ) → numberOn (y .version) cs s ≡ number → (j : ℕ) → Backed (y .made) j (getD (cardsBy (y .version) number cs s .cards) j (noCard (y .version)) .pair)
+    unfolding stepped raise
+    stored-next (suc i) e j = k .stored j
+    stored-next zero e j = go (cases (eqb (command .card) j))
+      where
+        there : command .card < length (cs .cards)
+        there = ltb-true (command .card) (length (cs .cards)) (passed (y .version) cs s e .exists)
+
+        next : Card
+        next = stepped own-card command (payload (y .version) (s .command))
+
+        go : (eqb (command .card) j ≡ true) ⊎ (eqb (command .card) j ≡ false) → Backed (y .made) j (getD (set (cs .cards) (command .card) next) j (noCard (y .version)) .pair)
+        go (inl same) =
+            subst (λ (i : ℕ). Backed (y .made) i (getD (set (cs .cards) (command .card) next) i (noCard (y .version)) .pair)) (eqb-true (command .card) j same)
+            (subst (λ (d : Card). Backed (y .made) (command .card) (d .pair)) (sym (getD-set-same (cs .cards) (command .card) next (noCard (y .version)) there)) (raised-backed e))
+        go (inr other) =
+            subst (λ (d : Card). Backed (y .made) j (d .pair))
+            (sym (getD-set-other (cs .cards) (command .card) j next (noCard (y .version)) (λ z. eqb-false (command .card) j other (sym z))))
+            (k .stored j)
+
+    -- The pair in the reply: none, the stored one, or the one that is left.
+    reply-backed : (number : ℕ) → numberOn (y .version) cs s ≡ number → Backed (y .made) (command .card) (eventBy (y .version) number cs s .answer .pair)
+    unfolding replied raise
+    reply-backed zero e = raised-backed e
+    reply-backed (suc i) e = go (blankReply (suc i))
+      where
+        go : (b : Bool) → Backed (y .made) (command .card) (cond b noPair (own-card .pair))
+        go true = nothing (command .card)
+        go false = k .stored (command .card)
+
+    abbrev event : Event
+    event = eventOf (y .version) s (serve (y .version) (y .image) (s .command) (s .lent))
+
+    event-is : event ≡ eventBy (y .version) (numberOn (y .version) cs s) cs s
+    event-is = ap (λ (i : List ℕ). eventOf (y .version) s (serve (y .version) i (s .command) (s .lent))) (k .held .image-is) ∙ same-event (y .version) cs s (k .held .good)
+
+    pub kept-send : Kept v n c (sendStep y s)
+    unfolding held-send
+    kept-send =
+        record {
+          held = held-send v n c (y .version) (y .image) (y .log) s bytes (k .held);
+          stored = stored-next (numberOn (y .version) cs s) refl;
+          queued = k .queued;
+          knowing = k .knowing;
+          telling =
+              told-more (record { card = command .card; number = event .answer .number; pair = event .answer .pair })
+              (subst (λ (e : Event). Backed (y .made) (command .card) (e .answer .pair)) (sym event-is) (reply-backed (numberOn (y .version) cs s) refl));
+          making = k .making;
+          marked = k .marked;
+          ordered = k .ordered;
+          once = k .once;
+          numbered = k .numbered;
+          sanctioned = λ e a. go e (among-cases a);
+        }
+      where
+        go : (e : Event) → (e ≡ event) ⊎ Among e (y .log) → Sanctioned (y .made) e
+        go e (inl same) = subst (Sanctioned (y .made)) (sym same) proposal
+        go e (inr a) = k .sanctioned e a
+
+  -- ---- a conversion
+
+  -- The cards and their pairs, of a version.
+  abbrev Pairing : Format → Type 0
+  Pairing f = (d : Held v n c f (y .image) (y .log)) × ((j : ℕ) → Backed (y .made) j (getD (d .cards .cards) j (noCard f) .pair))
+
+  widened-backed : (cs : Cards) → ((j : ℕ) → Backed (y .made) j (getD (cs .cards) j (noCard V1) .pair)) → (j : ℕ) → Backed (y .made) j (getD (widenedCards cs .cards) j (noCard V2) .pair)
+  widened-backed cs b j = go (cases (ltb j (length (cs .cards))))
+    where
+      go : (ltb j (length (cs .cards)) ≡ true) ⊎ (ltb j (length (cs .cards)) ≡ false) → Backed (y .made) j (getD (widenedCards cs .cards) j (noCard V2) .pair)
+      go (inl h) = subst (λ (d : Card). Backed (y .made) j (d .pair)) (sym (getD-map (cs .cards) j (ltb-true j (length (cs .cards)) h))) (b j)
+      go (inr h) =
+          let past = ltb-false j (length (cs .cards)) h in
+          let long = length-map (cs .cards) widened in
+          subst (λ (d : Card). Backed (y .made) j (d .pair)) (sym (List·getD-eq-default (widenedCards cs .cards) (noCard V2) (omega arith))) (nothing j)
+
+  pub kept-convert : (lent : ℕ) → Kept v n c (convertStep (y .version) lent y)
+  unfolding held-convert
+  kept-convert lent = go (y .version) (k .held, k .stored)
+    where
+      go : (f : Format) → Pairing f → Kept v n c (convertStep f lent y)
+      go V2 b = k
+      go V1 b = by-number (convertNumber (y .image) lent) refl
+        where
+          by-number : (number : ℕ) → convertNumber (y .image) lent ≡ number → Kept v n c (settled number (withStore V2 (converted (y .image)) (y .log) y) y)
+          by-number (suc i) e = k
+          by-number zero e =
+              record {
+                held = held-convert v n c (y .image) (y .log) lent (b .0) e;
+                stored = widened-backed (b .0 .cards) (b .1);
+                queued = k .queued;
+                knowing = k .knowing;
+                telling = k .telling;
+                making = k .making;
+                marked = k .marked;
+                ordered = k .ordered;
+                once = k .once;
+                numbered = k .numbered;
+                sanctioned = k .sanctioned;
+              }
+
+-- ---- requests one after the other, and a recovery
+
+pub sends-version : (y : System) (sent : List Sent) → sendSteps y sent .version ≡ y .version
+unfolding sendSteps
+sends-version y [] = refl
+sends-version y (s ∷ earlier) = sends-version y earlier
+
+pub sends-made : (y : System) (sent : List Sent) → sendSteps y sent .made ≡ y .made
+unfolding sendSteps
+sends-made y [] = refl
+sends-made y (s ∷ earlier) = sends-made y earlier
+
+kept-sends : (v : Format) (n c : ℕ) (y : System) → Kept v n c y → (sent : List Sent) → AllBytes sent → allMade (y .version) (y .made) sent ≡ true → Kept v n c (sendSteps y sent)
+unfolding sendSteps
+kept-sends v n c y k [] b h = k
+kept-sends v n c y k (s ∷ earlier) b h =
+    let here = and-left (sendsMade (y .version) (y .made) s) (allMade (y .version) (y .made) earlier) h in
+    let rest = and-right (sendsMade (y .version) (y .made) s) (allMade (y .version) (y .made) earlier) h in
+    kept-send v n c (sendSteps y earlier) (kept-sends v n c y k earlier (b .1) rest) s (b .0)
+    (subst (λ (f : Format). sendsMade f (sendSteps y earlier .made) s ≡ true) (sym (sends-version y earlier))
+    (subst (λ (made : List Made). sendsMade (y .version) made s ≡ true) (sym (sends-made y earlier)) here))
+
+-- What a recovery sends is bytes.
+pub recovery-bytes : (f : Format) (image : List ℕ) (cs : Cards) → image ≡ encode f cs → GoodCards f cs → (pairs : Pairs) (log : List ℕ) → FitsPairs pairs → Bytes log
+    → AllBytes (recoverySends f pairs log image)
+recovery-bytes V1 image cs e g pairs log fp lb = recovered-bytes pairs log image (subst Bytes (sym e) (Bytes-encode V1 cs g)) fp lb
+recovery-bytes V2 image cs e g pairs log fp lb = tt
+
+pub kept-recover : (v : Format) (n c : ℕ) (y : System) → Kept v n c y → (pairs : Pairs) (log : List ℕ) → FitsPairs pairs → Bytes log → allowed y (recoverWith pairs log) ≡ true
+    → Kept v n c (stepTo y (recoverWith pairs log))
+unfolding stepTo
+kept-recover v n c y k pairs log fp lb h =
+    kept-sends v n c y k (recoverySends (y .version) pairs log (y .image))
+    (recovery-bytes (y .version) (y .image) (k .held .cards) (k .held .image-is) (k .held .good) pairs log fp lb) h

@@ -1,0 +1,256 @@
+-- Desks by the rules, a lock queue for each card, and the store (docs/RULES.md, section 10): what there is, what can
+-- happen, and when it is by the rules. Minuet: clients, lock managers and a disk with its guard. A request may be
+-- late, lost or repeated: a step is the moment at which it arrives, if ever and however often; an answer is learnt by
+-- a step of its own. Recoveries and a conversion are steps too.
+-- Assumes nothing.
+use Prim.Native.Nat.{ℕ, _/_, _%_}
+use mathlib.Core.List.{List, [], _∷_}
+use mathlib.Core.Bool.{Bool, true, cond, not, _&&_, _||_}
+use lib.Dec.{ltb, eqb}
+use Rattle.lists.specs.Parts.{Bytes}
+use Rattle.lists.specs.Search.{any}
+use Rattle.lists.specs.Table.{settled}
+use Rattle.stamps.specs.Stamp.{noPair}
+use Rattle.stamps.specs.declared.Pair.{Pair}
+use Rattle.commands.specs.Command.{update}
+use Rattle.commands.specs.Bytes.{fieldsOf, formed}
+use Rattle.formats.specs.Format.{Format, V1, V2}
+use Rattle.image.specs.Image.{fresh}
+use Rattle.image.specs.Convert.{converted, convertNumber}
+use Rattle.store_model.specs.Serve.{serve}
+use Rattle.store_model.specs.Words.{Sent, Event, eventOf}
+use Rattle.store_model.specs.Claims.{SentBytes}
+use Rattle.redo_recovery_model.specs.Recovery.{Pairs, FitsPairs, recovered}
+use Rattle.lock_queue.specs.Queue.{State, emptyQueue}
+use Rattle.lock_queue.specs.declared.Waiting.{Waiting}
+use Rattle.lock_queue.specs.Good.{waitingFormed}
+use Rattle.lock_queue.specs.Requests.{Request, asks, leaves, lapses, after, answer}
+use Rattle.desk_proposals.specs.declared.Known.{Known}
+use Rattle.desk_proposals.specs.Propose.{learnt, proposed}
+
+-- ---- what there is
+
+-- A proposal that was made for a card. Whose it is stands in it: the desk and start of s if it is shared, of x if it
+-- is exclusive (`WellProposed`).
+pub record Made : Type 0 where
+  pub card : ℕ
+  pub mode : ℕ
+  pub pair : Pair
+
+-- An answer that was given for a card, by its queue (a denial, a grant) or by the guard: its number and its pair.
+pub record Told : Type 0 where
+  pub card : ℕ
+  pub number : ℕ
+  pub pair : Pair
+
+-- The version and the bytes of the store, and demand 3's log: the events of all that reached it, latest first; each
+-- card's queue; each desk and start (a number of 32 bits, as in a stamp) that was ever used; what each of them knows
+-- of each card; and all proposals and answers so far, latest first.
+pub record System : Type 0 where
+  pub version : Format
+  pub image : List ℕ
+  pub log : List Event
+  pub queues : ℕ → State
+  pub started : List ℕ
+  pub known : ℕ → ℕ → Pair
+  pub made : List Made
+  pub told : List Told
+
+-- Rule 10.11: a fresh store of a version, of n cards with room c, empty queues over any places, and nothing known.
+abbrev pub opening : Format → ℕ → ℕ → (ℕ → List Waiting) → System
+opening v n c places =
+    record {
+      version = v;
+      image = fresh v n c;
+      log = [];
+      queues = λ k. emptyQueue (places k);
+      started = [];
+      known = λ who k. noPair;
+      made = [];
+      told = [];
+    }
+
+-- ---- what can happen
+
+pub data Move : Type 0 where
+  -- a desk starts, or starts again, under this desk and start
+  begin : (who : ℕ) → Move
+  -- a desk proposes
+  propose : (who card mode : ℕ) → Move
+  -- a request reaches the queue of a card, whose keeper lends so many places for it: an ask, a leave or a lapse,
+  -- whoever sent it
+  atQueue : (card lent : ℕ) (r : Request) → Move
+  -- a lock manager loses the queue of a card: it is empty again, over whatever places it now has
+  lose : (card : ℕ) (places : List Waiting) → Move
+  -- lent bytes, with a reply buffer, reach the store
+  send : (s : Sent) → Move
+  -- a recovery from a log, with a pair for each card
+  recoverWith : (pairs : Pairs) (log : List ℕ) → Move
+  -- a conversion of the store, into so many lent bytes
+  convert : (lent : ℕ) → Move
+  -- a desk learns a pair of a card
+  learn : (who card : ℕ) (pair : Pair) → Move
+
+-- ---- when it is by the rules
+
+abbrev pub samePair : Pair → Pair → Bool
+samePair p q = eqb (p .s) (q .s) && eqb (p .x) (q .x)
+
+abbrev pub inUse : System → ℕ → Bool
+inUse y who = any (λ w. eqb w who) (y .started)
+
+-- This pair was proposed for that card in that mode.
+abbrev pub isMade : List Made → ℕ → ℕ → Pair → Bool
+isMade made card mode pair = any (λ m. eqb (m .card) card && eqb (m .mode) mode && samePair (m .pair) pair) made
+
+-- This pair was in an answer for that card, to whomever it was given.
+abbrev pub wasTold : List Told → ℕ → Pair → Bool
+wasTold told card pair = any (λ t. eqb (t .card) card && samePair (t .pair) pair) told
+
+-- Rule 10.8: an ask carries a pair that was proposed for the card, in the mode in which it was proposed; a malformed
+-- one may carry anything. Who leaves carries no pair.
+abbrev pub asksMade : List Made → ℕ → Request → Bool
+asksMade made card (asks new) = not (waitingFormed new) || isMade made card (new .mode) (new .pair)
+asksMade made card (leaves desk) = true
+asksMade made card (lapses expiry) = true
+
+-- Rule 10.8: so does a command, in its update pair.
+abbrev pub sendsMade : Format → List Made → Sent → Bool
+sendsMade v made s =
+    not (formed v (s .command)) || isMade made (fieldsOf v (s .command) .card) (fieldsOf v (s .command) .mode) (update (fieldsOf v (s .command)))
+
+abbrev pub allMade : Format → List Made → List Sent → Bool
+allMade v made [] = true
+allMade v made (s ∷ sent) = sendsMade v made s && allMade v made sent
+
+-- The requests of a recovery, latest first. It is for version 1: an image of version 2 it leaves as it is.
+abbrev pub recoverySends : Format → Pairs → List ℕ → List ℕ → List Sent
+recoverySends V1 pairs log image = recovered pairs log image .sent
+recoverySends V2 pairs log image = []
+
+abbrev pub allowed : System → Move → Bool
+-- rule 10.9: a desk and start is used once
+allowed y (begin who) = ltb who 4294967296 && not (inUse y who)
+allowed y (propose who card mode) = inUse y who
+allowed y (atQueue card lent r) = asksMade (y .made) card r
+allowed y (lose card places) = true
+allowed y (send s) = sendsMade (y .version) (y .made) s
+-- rule 10.8: recovery's writes are commands like others
+allowed y (recoverWith pairs log) = allMade (y .version) (y .made) (recoverySends (y .version) pairs log (y .image))
+allowed y (convert lent) = true
+-- rule 10.1: what a desk learns of a card was in an answer for that card, s and x together
+allowed y (learn who card pair) = inUse y who && wasTold (y .told) card pair
+
+-- ---- what it changes
+
+module _ {A : Type 0} where
+  -- f, but a at place k.
+  abbrev pub with : ℕ → A → (ℕ → A) → ℕ → A
+  with k a f j = cond (eqb j k) a (f j)
+
+-- A system with one thing changed, the others as they were.
+abbrev pub withStore : Format → List ℕ → List Event → System → System
+withStore version image log y =
+    record { version = version; image = image; log = log; queues = y .queues; started = y .started; known = y .known; made = y .made; told = y .told }
+
+abbrev pub withQueue : ℕ → State → System → System
+withQueue card q y =
+    record { version = y .version; image = y .image; log = y .log; queues = with card q (y .queues); started = y .started; known = y .known; made = y .made; told = y .told }
+
+abbrev pub withKnown : ℕ → (ℕ → Pair) → System → System
+withKnown who pairs y =
+    record { version = y .version; image = y .image; log = y .log; queues = y .queues; started = y .started; known = with who pairs (y .known); made = y .made; told = y .told }
+
+abbrev pub withStart : ℕ → System → System
+withStart who y =
+    record { version = y .version; image = y .image; log = y .log; queues = y .queues; started = who ∷ y .started; known = y .known; made = y .made; told = y .told }
+
+abbrev pub withMade : Made → System → System
+withMade m y =
+    record { version = y .version; image = y .image; log = y .log; queues = y .queues; started = y .started; known = y .known; made = m ∷ y .made; told = y .told }
+
+abbrev pub withTold : Told → System → System
+withTold t y =
+    record { version = y .version; image = y .image; log = y .log; queues = y .queues; started = y .started; known = y .known; made = y .made; told = t ∷ y .told }
+
+-- What a desk and start knows of a card, as the operations `learn` and `propose` take it; and that it now knows this
+-- pair of the card.
+abbrev pub knows : System → ℕ → ℕ → Known
+knows y who card = record { desk = who / 65536; start = who % 65536; pair = y .known who card }
+
+abbrev pub nowKnows : ℕ → ℕ → Pair → System → System
+nowKnows who card pair y = withKnown who (with card pair (y .known who)) y
+
+-- A request reaches the queue of a card, which answers as a queue of `lent` places does.
+abbrev pub queueStep : ℕ → System → ℕ → Request → System
+queueStep lent y card r =
+    withTold (record { card = card; number = answer lent (y .queues card) r .number; pair = answer lent (y .queues card) r .largest })
+    (withQueue card (after lent (y .queues card) r) y)
+
+-- A request reaches the store, which answers what `serve` answers, and that is what the operation `answer` does. Its
+-- event joins the log.
+abbrev pub sendStep : System → Sent → System
+sendStep y s =
+    withTold
+    (record {
+      card = fieldsOf (y .version) (s .command) .card;
+      number = serve (y .version) (y .image) (s .command) (s .lent) .answer .number;
+      pair = serve (y .version) (y .image) (s .command) (s .lent) .answer .pair;
+    })
+    (withStore (y .version) (serve (y .version) (y .image) (s .command) (s .lent) .image)
+    (eventOf (y .version) s (serve (y .version) (y .image) (s .command) (s .lent)) ∷ y .log)
+    y)
+
+-- Requests, latest first, reach it one after the other.
+unfoldable pub sendSteps : System → List Sent → System
+sendSteps y [] = y
+sendSteps y (s ∷ earlier) = sendStep (sendSteps y earlier) s
+
+-- A conversion (rule 15.10): what is refused changes nothing, and version 2 is converted no more.
+abbrev pub convertStep : Format → ℕ → System → System
+convertStep V1 lent y = settled (convertNumber (y .image) lent) (withStore V2 (converted (y .image)) (y .log) y) y
+convertStep V2 lent y = y
+
+unfoldable pub stepTo : System → Move → System
+-- rule 10.9: a desk and start begins with nothing known
+stepTo y (begin who) = withStart who (withKnown who (λ k. noPair) y)
+-- rules 10.4 to 10.7: a refusal changes nothing; else the pair is proposed, and known
+stepTo y (propose who card mode) =
+    settled (proposed (knows y who card) mode .number)
+    (withMade (record { card = card; mode = mode; pair = proposed (knows y who card) mode .pair })
+    (nowKnows who card (proposed (knows y who card) mode .known .pair) y))
+    y
+stepTo y (atQueue card lent r) = queueStep lent y card r
+stepTo y (lose card places) = withQueue card (emptyQueue places) y
+stepTo y (send s) = sendStep y s
+-- rule 11.18
+stepTo y (recoverWith pairs log) = sendSteps y (recoverySends (y .version) pairs log (y .image))
+stepTo y (convert lent) = convertStep (y .version) lent y
+-- rule 10.2
+stepTo y (learn who card pair) = nowKnows who card (learnt (knows y who card) pair .pair) y
+
+-- ---- runs: steps in the order in which they happen
+
+unfoldable pub systemAfter : System → List Move → System
+systemAfter y [] = y
+systemAfter y (s ∷ steps) = systemAfter (stepTo y s) steps
+
+-- Each step is by the rules, in the system as the steps before it left it.
+unfoldable pub byRules : System → List Move → Bool
+byRules y [] = true
+byRules y (s ∷ steps) = allowed y s && byRules (stepTo y s) steps
+
+-- What is sent is bytes, and stamps that a recovery is given fit in 64 bits.
+abbrev pub Fits : Move → Type 0
+Fits (send s) = SentBytes s
+Fits (recoverWith pairs log) = FitsPairs pairs × Bytes log
+Fits (begin who) = Unit {0}
+Fits (propose who card mode) = Unit {0}
+Fits (atQueue card lent r) = Unit {0}
+Fits (lose card places) = Unit {0}
+Fits (convert lent) = Unit {0}
+Fits (learn who card pair) = Unit {0}
+
+abbrev pub AllFit : List Move → Type 0
+AllFit [] = Unit {0}
+AllFit (s ∷ steps) = Fits s × AllFit steps

@@ -1,0 +1,4 @@
+pub mod Desks
+pub mod Numbers
+pub mod Expiries
+pub mod Cases

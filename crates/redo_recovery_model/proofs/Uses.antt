@@ -1,0 +1,144 @@
+-- Theorems on recovery, used where their hypotheses only just hold: a log that is no log, other pairs in a second run,
+-- a cut in front of the last store. A stricter hypothesis or a sentence left out is noticed here. Assumes nothing.
+use Prim.Native.Nat.{ℕ, zero, suc, _<_}
+use mathlib.Core.Path.{_≡_, refl}
+use mathlib.Core.List.{List, [], _∷_, _++_}
+use mathlib.Core.Bool.{true}
+use lib.Dec.{T, eqb, lit<}
+use lib.ListN.{getD}
+use Rattle.formats.specs.Format.{V1}
+use Rattle.lists.specs.Parts.{part, splice, tabulate, concatMap, every, zeros, Bytes}
+use Rattle.lists.specs.Le.{le, toLe}
+use Rattle.lists.specs.Search.{none}
+use Rattle.lists.specs.Table.{all, allFrom}
+use Rattle.commands.specs.Command.{original, wellFormed}
+use Rattle.commands.specs.Bytes.{fieldsOf, payload, formed, commandBytes}
+use Rattle.guard.specs.Entry.{entrySound}
+use Rattle.guard.specs.Judge.{raise}
+use Rattle.guard.specs.Replies.{replied}
+use Rattle.image.specs.Layout.{shapeOk}
+use Rattle.image.specs.Bytes.{header, entryBytes, pad, readEntry, entryAt}
+use Rattle.image.specs.Image.{bodies, encode, cardAt, decode, tailZero, translationSound, cardSound, headerSound, sound, fresh}
+use Rattle.store_model.specs.Words.{traceFrom, imageAfter}
+use Rattle.store_model.specs.Serve.{stepped, serveBy, serve}
+use Rattle.store_model.specs.Cases.{stamp1, stamp2, text205}
+use Rattle.store_model.proofs.ByTest.{bytes-by}
+use Rattle.redo_log.specs.Log.{LogRecord, shaped, lastBegun, opened, follows, total, startAt, recordAt, recordOk, goodLog, records}
+use Rattle.redo_log.specs.Append.{stored, puts, lineBytes, stores, appendNumber, appended}
+use Rattle.redo_log_claims.specs.Claims.{appendedAll, allStores, admittedOf, wholly, cutAfter, BytesOfRecords}
+use Rattle.redo_log_claims.specs.Cases.{beginOf, updateOf, commitOf, emptyLog}
+use Rattle.redo_recovery_model.specs.Recovery.{Pairs, FitsPairs, due, recoverySent, recoveryStep, recovering, recovered}
+use Rattle.redo_recovery_model.specs.Claims.{NoneRefused, Mixed, oneRecovery, neverAnswered, textIn, textOf}
+use Rattle.redo_recovery_model.specs.Cases.{pairs1, pairs2, blankImage}
+use Rattle.redo_recovery_model.proofs.Never.{recovery-never}
+use Rattle.redo_recovery_model.proofs.Sending.{demand3-mixed}
+use Rattle.redo_recovery_model.proofs.Texts.{twice, cut-recovers, cut-anywhere}
+
+-- ---- what the uses rest on, by computation
+
+fits1 : FitsPairs pairs1
+fits1 = record { s = small; x = small }
+  where
+    small : (k : ℕ) → getD (stamp1 ∷ stamp1 ∷ []) k 0 < 18446744073709551616
+    small zero = lit< tt
+    small (suc zero) = lit< tt
+    small (suc (suc k)) = lit< tt
+
+fits2 : FitsPairs pairs2
+fits2 = record { s = small; x = small }
+  where
+    small : (k : ℕ) → getD (stamp2 ∷ stamp2 ∷ []) k 0 < 18446744073709551616
+    small zero = lit< tt
+    small (suc zero) = lit< tt
+    small (suc (suc k)) = lit< tt
+
+shape : T (shapeOk V1 2 16)
+unfolding shapeOk all allFrom
+shape = tt
+
+blank-bytes : Bytes blankImage
+unfolding fresh header toLe
+blank-bytes = bytes-by blankImage tt
+
+-- One transaction: 16, 18 and 16 stores.
+abbrev three : List LogRecord
+three = beginOf 1 ∷ updateOf 0 1 text205 ∷ commitOf 1 ∷ []
+
+abbrev before : List ℕ
+before = emptyLog 16
+
+abbrev after : List ℕ
+after = appendedAll before three
+
+before-good : goodLog before ≡ true
+unfolding goodLog every
+before-good = refl
+
+before-bytes : Bytes before
+before-bytes = bytes-by before tt
+
+after-bytes : Bytes after
+unfolding appendedAll appended stores lineBytes puts stored shaped lastBegun opened follows total startAt recordAt recordOk goodLog every all allFrom le toLe part
+after-bytes = bytes-by after tt
+
+three-bytes : BytesOfRecords three
+unfolding toLe
+three-bytes = (bytes-by (beginOf 1 .body) tt, (bytes-by (updateOf 0 1 text205 .body) tt, (bytes-by (commitOf 1 .body) tt, tt)))
+
+-- ---- demand 3 over a recovery from no log at all (rule 11.20)
+
+mixed : Mixed 2 16 (oneRecovery pairs1 [] ∷ [])
+mixed = demand3-mixed 2 16 shape (oneRecovery pairs1 [] ∷ []) ((fits1, bytes-by [] tt), tt)
+
+-- ---- a second run under other pairs (rule 11.21)
+
+once : NoneRefused blankImage (recovered pairs1 after blankImage)
+unfolding traceFrom imageAfter due recoverySent recoveryStep recovering recovered appendedAll stored puts lineBytes stores appended shaped lastBegun
+    opened follows total startAt recordAt recordOk goodLog records serve serveBy stepped sound headerSound cardSound translationSound tailZero decode
+    cardAt entryAt readEntry encode bodies pad entryBytes header shapeOk fresh replied raise entrySound commandBytes formed payload fieldsOf
+    wellFormed all allFrom le toLe part splice tabulate concatMap every zeros
+once = (refl, tt)
+
+again : NoneRefused (recovered pairs1 after blankImage .image) (recovered pairs2 after (recovered pairs1 after blankImage .image))
+unfolding traceFrom imageAfter due recoverySent recoveryStep recovering recovered appendedAll stored puts lineBytes stores appended shaped lastBegun
+    opened follows total startAt recordAt recordOk goodLog records serve serveBy stepped sound headerSound cardSound translationSound tailZero decode
+    cardAt entryAt readEntry encode bodies pad entryBytes header shapeOk fresh replied raise entrySound commandBytes formed payload fieldsOf
+    wellFormed all allFrom le toLe part splice tabulate concatMap every zeros
+again = (refl, tt)
+
+same-text : textIn (recovered pairs2 after (recovered pairs1 after blankImage .image) .image) original 0 ≡ textIn (recovered pairs1 after blankImage .image) original 0
+same-text = twice pairs1 pairs2 after blankImage fits1 fits2 after-bytes blank-bytes once again original 0
+
+-- From no log, on what is no image: nothing is sent, and nothing is refused.
+nothing-sent : (pairs : Pairs) → NoneRefused (1 ∷ []) (recovered pairs [] (1 ∷ []))
+unfolding traceFrom recovered goodLog
+nothing-sent pairs = tt
+
+same-none : textIn (recovered pairs2 [] (1 ∷ []) .image) original 0 ≡ textIn (1 ∷ []) original 0
+unfolding recovered goodLog
+same-none = twice pairs1 pairs2 [] (1 ∷ []) fits1 fits2 (bytes-by [] tt) (bytes-by (1 ∷ []) tt) (nothing-sent pairs1) (nothing-sent pairs2) original 0
+
+-- ---- numbers that never come (rule 11.22), on what is no image too
+
+never : none (eqb (recovered pairs1 after (1 ∷ []) .number)) neverAnswered ≡ true
+never = recovery-never pairs1 after (1 ∷ []) fits1 after-bytes (bytes-by (1 ∷ []) tt)
+
+-- ---- a cut one store before the end of an append (rule 11.13), and one anywhere (rules 11.14 and 11.21)
+
+cut15 : appendNumber 15 before (beginOf 1) ≡ 26
+unfolding shaped lastBegun opened follows startAt recordAt goodLog every le toLe part
+cut15 = refl
+
+cut15-recovers : recovered pairs1 (appended 15 before (beginOf 1)) blankImage ≡ recovered pairs1 before blankImage
+cut15-recovers = cut-recovers 15 before (beginOf 1) cut15 pairs1 blankImage
+
+cut49 : recovered pairs1 (cutAfter 49 before three) blankImage .number ≡ 0
+unfolding due recoverySent recoveryStep recovering recovered allStores appendedAll stored puts lineBytes stores appended shaped lastBegun opened
+    follows total startAt recordAt recordOk goodLog records serve serveBy stepped sound headerSound cardSound translationSound tailZero decode cardAt
+    entryAt readEntry encode bodies pad entryBytes header shapeOk fresh replied raise entrySound commandBytes formed payload fieldsOf wellFormed all
+    allFrom le toLe part splice tabulate concatMap every zeros
+cut49 = refl
+
+cut49-text : textIn (recovered pairs1 (cutAfter 49 before three) blankImage .image) original 0 ≡ textOf
+    (records before ++ wholly 49 (admittedOf before three)) original 0 (textIn blankImage original 0)
+cut49-text = cut-anywhere 49 before three before-good pairs1 blankImage fits1 before-bytes three-bytes blank-bytes cut49 original 0
