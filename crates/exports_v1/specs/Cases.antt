@@ -12,7 +12,7 @@ pub record NumberCases : Type 0 where
   pub pair-read : pairIn (7 ∷ 8 ∷ []) ≡ record { s = 7; x = 8 }
   pub pair-written : stampsOf (record { s = 7; x = 8 }) ≡ 7 ∷ 8 ∷ []
   pub known : knownIn 1 2 (7 ∷ 8 ∷ []) ≡ record { desk = 1; start = 2; pair = record { s = 7; x = 8 } }
-  -- a silence is the desk and start, period, drift, begin, now: here 30, a half, 100 and 145
+  -- a lease expiry is the desk and start, period, drift, begin, now: here 30, a half, 100 and 145
   pub expiry :
       expiryOf 65536 (ofBits binary64 0x403e_0000_0000_0000) (ofBits binary64 0x3fe0_0000_0000_0000) (ofBits binary64 0x4059_0000_0000_0000) (ofBits binary64 0x4062_2000_0000_0000)
       ≡ record {

@@ -12,7 +12,7 @@ use Rattle.lists.specs.Parts.{part, splice, tabulate, concatMap, Bytes}
 use Rattle.lists.proofs.Parts.{part-join, part-append-right, part-middle, splice-append-right, splice-middle}
 use Rattle.lists.proofs.Bytes.{Bytes-nil, Bytes-append}
 
--- ---- spread
+-- ---- concatMap
 
 module _ {A B : Type 0} where
   pub concatMap-append : (f : A → List B) (l m : List A) → concatMap f (l ++ m) ≡ concatMap f l ++ concatMap f m

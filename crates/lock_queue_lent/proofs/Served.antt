@@ -1,4 +1,4 @@
--- The walk that `lent_queue::ask` and `leave` have in common: the lent slice is shared for `load`, the places are judged by value, and the slice is passed on to `store`, for good.
+-- The walk that `lock_queue_lent::ask` and `leave` have in common: the lent slice is shared for `load`, the places are judged by value, and the slice is passed on to `store`, for good.
 -- It is over the MIR with the judging function's key and the type of the request left open (`function`), and over what that function gives (`Judged`).
 -- All that it knows of `load` and `store` is that each meets its contract.
 -- Assumes `Given`, and of the judging function what a walk says of it.

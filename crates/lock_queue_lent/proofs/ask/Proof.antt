@@ -1,4 +1,4 @@
--- `lent_queue::ask` meets its contract: the walk of `Served.antt`, at `asked` and a `Waiting`. All that the proof knows of `load`, `asked` and `store` is that each meets its contract.
+-- `lock_queue_lent::ask` meets its contract: the walk of `Served.antt`, at `asked` and a `Waiting`. All that the proof knows of `load`, `asked` and `store` is that each meets its contract.
 -- Assumes nothing.
 use mathlib.Core.Path.{_≡_, refl}
 use Prim.Native.Nat.{ℕ}

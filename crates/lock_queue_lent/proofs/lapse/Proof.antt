@@ -1,4 +1,4 @@
--- `lent_queue::lapse` meets its contract: the walk of `Served.antt`, at `lapsed` and a `LeaseExpiry`. All that the proof knows of `load`, `lapsed` and `store` is that each meets its contract.
+-- `lock_queue_lent::lapse` meets its contract: the walk of `Served.antt`, at `lapsed` and a `LeaseExpiry`. All that the proof knows of `load`, `lapsed` and `store` is that each meets its contract.
 -- Assumes nothing.
 use mathlib.Core.Path.{_≡_, refl}
 use Prim.Native.Nat.{ℕ}

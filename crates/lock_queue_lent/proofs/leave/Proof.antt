@@ -1,4 +1,4 @@
--- `lent_queue::leave` meets its contract: the walk of `Served.antt`, at `left` and a `u32`. All that the proof knows of `load`, `left` and `store` is that each meets its contract.
+-- `lock_queue_lent::leave` meets its contract: the walk of `Served.antt`, at `left` and a `u32`. All that the proof knows of `load`, `left` and `store` is that each meets its contract.
 -- Assumes nothing.
 use mathlib.Core.Path.{_≡_, refl}
 use Prim.Native.Nat.{ℕ}

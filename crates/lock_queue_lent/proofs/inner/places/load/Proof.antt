@@ -1,4 +1,4 @@
--- `lent_queue::inner::places::load` meets its contract: a walk of its MIR, by hand. The lent slice is looked into once for each place, and the entry found there is put into places by value by `put`.
+-- `lock_queue_lent::inner::places::load` meets its contract: a walk of its MIR, by hand. The lent slice is looked into once for each place, and the entry found there is put into places by value by `put`.
 -- All that the proof knows of `empty`, `within` and `put` is that each meets its contract.
 --     Place, At     the loop's invariant: how many places are loaded, that their machine value is typed, and the memory there
 --     more          a turn from where `within` has answered yes: one more place is loaded

@@ -1,4 +1,4 @@
--- `lent_queue::inner::places::store` meets its contract: a walk of its MIR, by hand. For each place the entry is read by `entry`, the lent slice is opened, the entry is stored there, and the slice is closed again.
+-- `lock_queue_lent::inner::places::store` meets its contract: a walk of its MIR, by hand. For each place the entry is read by `entry`, the lent slice is opened, the entry is stored there, and the slice is closed again.
 -- All that the proof knows of `within`, `entry` and `replied` is that each meets its contract.
 --     Place, At     the loop's invariant: how many places are written, and the memory there. The lent list is then the outcome's first entries over the list passed
 --     more          a turn from where `within` has answered yes: one more place is written
