@@ -56,7 +56,7 @@ pub record ArrayTurn : Type 0 where
   pub x : List ℕ
   pub kept : List ℕ
 
--- By an answer and the queue as it then is.
+-- The numbers of an answer and the arrays of the queue that it leaves.
 abbrev pub arraysOf : LockAnswer → State → ArrayTurn
 arraysOf a q =
     record {
@@ -68,6 +68,6 @@ arraysOf a q =
       kept = keptOf q;
     }
 
--- By the request.
+-- What a request to a queue of `lent` places comes to.
 abbrev pub arrayTurn : ℕ → State → Request → ArrayTurn
 arrayTurn lent q r = arraysOf (answer lent q r) (after lent q r)
