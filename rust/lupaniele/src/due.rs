@@ -1,30 +1,28 @@
 use std::collections::{BTreeMap, BTreeSet};
 
-use crate::{Log, Record, Side};
+use crate::{Log, Record};
 
 /// An update of a log.
 #[derive(Clone, Copy, Debug, PartialEq, Eq)]
-pub(crate) struct Update<'a> {
+pub(crate) struct Update {
+    pub(crate) record: usize,
     pub(crate) transaction: u32,
-    pub(crate) card: u16,
-    pub(crate) side: Side,
-    pub(crate) text: &'a [u8],
+    card: u16,
 }
 
 /// The updates of a log that are due, in its order: those of committed transactions for whose card no synced record
-/// names theirs or a higher one (rule 11.15). Held to the store's own recovery by a test.
-pub(crate) fn due<'a, B: AsRef<[u8]>>(log: &'a Log<B>) -> Vec<Update<'a>> {
+/// names theirs or a higher one (rule 11.15). For showing a log: what is to be done goes by the library's own steps.
+pub(crate) fn due<B: AsRef<[u8]>>(log: &Log<B>) -> Vec<Update> {
     let (mut open, mut updates) = (0, Vec::new());
     let mut committed = BTreeSet::new();
     let mut synced: BTreeMap<u16, u32> = BTreeMap::new();
-    for record in log.records() {
+    for (at, record) in log.records().enumerate() {
         match record {
             Record::Begin(transaction) => open = transaction,
-            Record::Update { card, side, text } => updates.push(Update {
+            Record::Update { card, .. } => updates.push(Update {
+                record: at,
                 transaction: open,
                 card,
-                side,
-                text,
             }),
             Record::Commit(transaction) => {
                 committed.insert(transaction);
@@ -41,16 +39,4 @@ pub(crate) fn due<'a, B: AsRef<[u8]>>(log: &'a Log<B>) -> Vec<Update<'a>> {
             && written.is_none_or(|last| *last < update.transaction)
     });
     updates
-}
-
-/// The cards that a log updates, committed or not, in the order of their first updates.
-pub(crate) fn updated<B: AsRef<[u8]>>(log: &Log<B>) -> Vec<u16> {
-    let mut cards = Vec::new();
-    for record in log.records() {
-        match record {
-            Record::Update { card, .. } if !cards.contains(&card) => cards.push(card),
-            _ => {}
-        }
-    }
-    cards
 }
