@@ -1,8 +1,8 @@
 # make run: the program's example. make test: exactly what the gate runs. make soak N=..: the comparison with a new seed, N cases
 # (2,000,000 at the least). make sim N=..: the town of desks with a new seed, N steps (1,000,000 at the least). make pictures: the pictures of
-# docs/pictures, from their texts. make kills: a desk with its files is killed 4,000 times. make bench: the store against a straightforward Rust version, and the picture of docs/PERFORMANCE.md. make audit: the further must-fail edits.
-# make install PREFIX=.. DESTDIR=..: the header, the library, its page and its file for pkg-config, under PREFIX (/usr/local) in DESTDIR (none); make uninstall takes them away.
-.PHONY: run test soak sim kills pictures bench audit install uninstall
+# docs/pictures, from their texts. make kills: a desk with its files is killed 4,000 times. make hard: the compiled library behind a fence, under memcheck, and shared. make bench: the store against a straightforward Rust version and a tuned one, and the picture of docs/PERFORMANCE.md; make counts: by instructions alone. make audit: the further must-fail edits.
+# make install PREFIX=.. DESTDIR=..: the command `lupaniele`, the header, the library, their pages and the file for pkg-config, under PREFIX (/usr/local) in DESTDIR (none); make uninstall takes them away.
+.PHONY: run test soak sim hard kills pictures bench counts audit command install uninstall
 N = 20000000
 SHELL = /bin/bash
 .SHELLFLAGS = -o pipefail -c
@@ -23,18 +23,25 @@ sim:
 	tools/build
 	cd rust && cargo run --offline --release --quiet -p simulate --bin simulate -- soak $(N)
 
+hard:
+	tools/build
+	tools/hard
+
 kills:
 	tools/build
 	cd rust && cargo test --offline --release --quiet -p lupaniele --test killed -- --ignored --nocapture killed_some_thousand_times
 
 pictures:
 	tools/build
-	cd rust && cargo build --offline --release --quiet -p simulate
-	for text in late-exclusive power-cut; do rust/target/release/lupaniele-draw docs/pictures/$$text.txt > docs/pictures/$$text.svg || exit 1; done
+	tools/pictures
 
 bench:
 	tools/build
 	cd rust && cargo run --offline --release --quiet -p bench -- table ../docs/pictures/speed.svg
+
+counts:
+	tools/build
+	cd rust && cargo run --offline --release --quiet -p bench -- counts
 
 audit:
 	tools/audit
@@ -49,16 +56,20 @@ TO = $(DESTDIR)$(PREFIX)
 target/lib/liblupaniele.a:
 	tools/build
 
-install: target/lib/liblupaniele.a
-	install -d "$(TO)/include" "$(TO)/lib/pkgconfig" "$(TO)/share/man/man3"
+command: target/lib/liblupaniele.a
+	cd rust && cargo build --offline --release --quiet -p lupaniele-command
+
+install: command
+	install -d "$(TO)/bin" "$(TO)/include" "$(TO)/lib/pkgconfig" "$(TO)/share/man/man1" "$(TO)/share/man/man3"
+	install -m 755 rust/target/release/lupaniele "$(TO)/bin/lupaniele"
 	install -m 644 include/lupaniele.h "$(TO)/include/lupaniele.h"
 	install -m 644 target/lib/liblupaniele.a "$(TO)/lib/liblupaniele.a"
 	install -m 755 "target/lib/$(SHARED)" "$(TO)/lib/$(SHARED)"
 	ln -sf "$(SHARED)" "$(TO)/lib/$(SONAME)"
 	ln -sf "$(SONAME)" "$(TO)/lib/liblupaniele.so"
 	sed 's|@PREFIX@|$(PREFIX)|; s|@VERSION@|$(VERSION)|' include/lupaniele.pc.in > "$(TO)/lib/pkgconfig/lupaniele.pc"
-	sed 's|@VERSION@|$(VERSION)|' docs/lupaniele.3 > "$(TO)/share/man/man3/lupaniele.3"
-	chmod 644 "$(TO)/lib/pkgconfig/lupaniele.pc" "$(TO)/share/man/man3/lupaniele.3"
+	for page in 1 3; do sed 's|@VERSION@|$(VERSION)|' docs/lupaniele.$$page > "$(TO)/share/man/man$$page/lupaniele.$$page" || exit 1; done
+	chmod 644 "$(TO)/lib/pkgconfig/lupaniele.pc" "$(TO)/share/man/man1/lupaniele.1" "$(TO)/share/man/man3/lupaniele.3"
 
 uninstall:
-	cd "$(TO)" && rm -f include/lupaniele.h lib/liblupaniele.a lib/$(SHARED) lib/$(SONAME) lib/liblupaniele.so lib/pkgconfig/lupaniele.pc share/man/man3/lupaniele.3
+	cd "$(TO)" && rm -f bin/lupaniele include/lupaniele.h lib/liblupaniele.a lib/$(SHARED) lib/$(SONAME) lib/liblupaniele.so lib/pkgconfig/lupaniele.pc share/man/man1/lupaniele.1 share/man/man3/lupaniele.3

@@ -244,6 +244,19 @@ enum lupaniele_kind {
     LUPANIELE_SYNCED = 4  /* redo_log::SYNCED */
 };
 
+/* The steps of a transaction for a card (rule 16.25). */
+enum lupaniele_next {
+    LUPANIELE_STEP_NOTHING = 0, /* transaction_steps::NOTHING */
+    LUPANIELE_STEP_LOOK = 1,    /* transaction_steps::LOOK: a command without a mark of the desk's */
+    LUPANIELE_STEP_PREPARE = 2, /* transaction_steps::PREPARE: from no mark to the desk's */
+    LUPANIELE_STEP_READY = 3,   /* transaction_steps::READY: it waits for the commit */
+    LUPANIELE_STEP_WRITE = 4,   /* transaction_steps::WRITE: a line of the log, under the desk's mark */
+    LUPANIELE_STEP_RELEASE = 5, /* transaction_steps::RELEASE: from the desk's mark to none */
+    LUPANIELE_STEP_NOTE = 6,    /* transaction_steps::NOTE: a synced record */
+    LUPANIELE_STEP_WAIT = 7,    /* transaction_steps::WAIT: the card bears another desk's mark */
+    LUPANIELE_STEP_BAD = 8      /* transaction_steps::BAD: the log is not good, or the desk is 0 */
+};
+
 /* The side of a card that an update writes (rule 11.4). */
 enum lupaniele_side { LUPANIELE_SIDE_ORIGINAL = 1, LUPANIELE_SIDE_TRANSLATION = 2 };
 
@@ -272,6 +285,9 @@ enum lupaniele_kept { LUPANIELE_KEPT_COUNT = 0, LUPANIELE_KEPT_LARGEST_S = 1, LU
 /* The steps of a structured text (rule 12.3), and the units of a drop. */
 enum lupaniele_step_kind { LUPANIELE_WORDS = 2, LUPANIELE_DROP = 3, LUPANIELE_SECTION = 4 };
 enum lupaniele_unit { LUPANIELE_CELSIUS = 67, LUPANIELE_FAHRENHEIT = 70 };
+
+/* What a desk has seen of a card (rule 16.24): so many numbers. */
+#define LUPANIELE_SEEN 4
 
 /* No stamp (rule 1.2). */
 #define LUPANIELE_NO_STAMP 0
@@ -337,32 +353,35 @@ enum lupaniele_unit { LUPANIELE_CELSIUS = 67, LUPANIELE_FAHRENHEIT = 70 };
 /* The stack that a call needs at most, in bytes, its return address counted (tools/stack finds it in the object code).
    LUPANIELE_STACK_MOST is for all but lupaniele_output. memcpy, memmove and memset are the C library's: they count as a
    return address, and where the dynamic linker looks one up at its first call, that takes some KB more of its own. */
-#define LUPANIELE_STACK_MOST           8192
-#define LUPANIELE_STACK_AGREE          2048
-#define LUPANIELE_STACK_ANSWER         1024
-#define LUPANIELE_STACK_ANSWER_V2      1024
-#define LUPANIELE_STACK_ASK            8192
-#define LUPANIELE_STACK_CONVERT        256
-#define LUPANIELE_STACK_END            256
-#define LUPANIELE_STACK_END_V2         256
-#define LUPANIELE_STACK_HISTORY_ANSWER 1024
-#define LUPANIELE_STACK_LAPSE          8192
-#define LUPANIELE_STACK_LEARN          256
-#define LUPANIELE_STACK_LEAVE          8192
-#define LUPANIELE_STACK_LOG_APPEND     256
-#define LUPANIELE_STACK_LOG_CHECK      256
-#define LUPANIELE_STACK_MAKE           256
-#define LUPANIELE_STACK_MAKE_V2        256
-#define LUPANIELE_STACK_NEXT           256
-#define LUPANIELE_STACK_NEXT_V2        256
-#define LUPANIELE_STACK_OUTPUT         69632
-#define LUPANIELE_STACK_PROPOSE        256
-#define LUPANIELE_STACK_RECOVER        1024
-#define LUPANIELE_STACK_RUN            1024
-#define LUPANIELE_STACK_RUN_V2         1024
-#define LUPANIELE_STACK_SHOWN          256
-#define LUPANIELE_STACK_SOUND          256
-#define LUPANIELE_STACK_SOUND_V2       256
+#define LUPANIELE_STACK_MOST            8192
+#define LUPANIELE_STACK_AGREE           2048
+#define LUPANIELE_STACK_ANSWER          1024
+#define LUPANIELE_STACK_ANSWER_V2       1024
+#define LUPANIELE_STACK_ASK             8192
+#define LUPANIELE_STACK_CONVERT         256
+#define LUPANIELE_STACK_END             256
+#define LUPANIELE_STACK_END_V2          256
+#define LUPANIELE_STACK_HEARD           256
+#define LUPANIELE_STACK_HISTORY_ANSWER  1024
+#define LUPANIELE_STACK_LAPSE           8192
+#define LUPANIELE_STACK_LEARN           256
+#define LUPANIELE_STACK_LEAVE           8192
+#define LUPANIELE_STACK_LOG_APPEND      256
+#define LUPANIELE_STACK_LOG_BEGIN_AGAIN 256
+#define LUPANIELE_STACK_LOG_CHECK       256
+#define LUPANIELE_STACK_MAKE            256
+#define LUPANIELE_STACK_MAKE_V2         256
+#define LUPANIELE_STACK_NEXT            256
+#define LUPANIELE_STACK_NEXT_STEP       256
+#define LUPANIELE_STACK_NEXT_V2         256
+#define LUPANIELE_STACK_OUTPUT          69632
+#define LUPANIELE_STACK_PROPOSE         256
+#define LUPANIELE_STACK_RECOVER         1024
+#define LUPANIELE_STACK_RUN             1024
+#define LUPANIELE_STACK_RUN_V2          1024
+#define LUPANIELE_STACK_SHOWN           256
+#define LUPANIELE_STACK_SOUND           256
+#define LUPANIELE_STACK_SOUND_V2        256
 
 /* ---- The exported functions ---- */
 
@@ -495,6 +514,21 @@ LUPANIELE_LOOK uint8_t lupaniele_log_append(uint8_t *log, size_t log_length, uin
 LUPANIELE_LOOK uint8_t lupaniele_recover(const uint8_t *log, size_t log_length, uint8_t *image, size_t image_length,
                                          const uint64_t *s, size_t s_length, const uint64_t *x, size_t x_length,
                                          uint64_t *line);
+
+/* What a desk sees of a card by the answer to a step (rule 16.24): its number, and the desk of the mark that it shows. A
+   command that is no step counts as LUPANIELE_STEP_LOOK; line is that of a write. seen is written: zeros are nothing
+   seen, and a desk clears it when it sends a command for the card. */
+void lupaniele_heard(uint8_t step, uint8_t line, uint8_t number, uint16_t mark, uint16_t seen[LUPANIELE_SEEN]);
+
+/* The next step of a desk for a card (rule 16.25), an enum lupaniele_next; going: it goes on with the transaction that
+   is open. line: what is to be written, with LUPANIELE_STEP_WRITE; transaction: what is to be noted as synced, with
+   LUPANIELE_STEP_NOTE; else 0. */
+LUPANIELE_LOOK uint8_t lupaniele_next_step(const uint8_t *log, size_t log_length, uint16_t desk, uint16_t card,
+                                           bool going, const uint16_t seen[LUPANIELE_SEEN], uint64_t *line,
+                                           uint64_t *transaction);
+
+/* Lets a log begin again by one store, if it is good and nothing in it is due (rule 16.27). */
+LUPANIELE_LOOK bool lupaniele_log_begin_again(uint8_t *log, size_t log_length);
 
 #ifdef __cplusplus
 }

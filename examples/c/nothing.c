@@ -7,6 +7,7 @@ enum { CARDS = 1, ROOM = 16, CARD = 0, T = 1, DESK = 1, START = 0 };
 
 static uint8_t image[LUPANIELE_IMAGE_SIZE(CARDS, ROOM)], redo[LUPANIELE_LEAST_LOG], kept[LUPANIELE_HISTORY_SIZE];
 static uint64_t fields[LUPANIELE_FIELDS], number_back;
+static const uint16_t seen[LUPANIELE_SEEN];
 
 static void say(const char *what, uint8_t number) { printf("%s: %s\n", what, lupaniele_name(number)); }
 static void count(const char *what, uint64_t number) {
@@ -53,6 +54,8 @@ int main(void) {
     say("append of nothing", lupaniele_log_append(redo, sizeof redo, LUPANIELE_UPDATE, NULL, 0, 0));
     say("recover", lupaniele_recover(NULL, 0, NULL, 0, NULL, 0, NULL, 0, &number_back));
     say("recover from an empty log", lupaniele_recover(redo, sizeof redo, NULL, 0, NULL, 0, NULL, 0, &number_back));
+    count("next step", lupaniele_next_step(NULL, 0, 1, 0, false, seen, &number_back, fields));
+    printf("begin again: %d, %d\n", lupaniele_log_begin_again(NULL, 0), lupaniele_log_begin_again(redo, sizeof redo));
     say("make an image", lupaniele_make(image, sizeof image, CARDS, ROOM));
     say("no command", lupaniele_answer(image, sizeof image, NULL, 0, NULL, 0, fields));
     read_nothing();

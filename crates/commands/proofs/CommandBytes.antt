@@ -39,22 +39,22 @@ unfolding formed
 formed-short f bytes h = rw (ne-eqb (length bytes) (fixed f + field 50 2 bytes) (λ e. omega arith))
 
 -- The test of the bytes, for numbers and tests that were found in them.
-pub formed-by : (f : Format) (bytes : List ℕ) {c : Command} {size : ℕ} {z w : Bool} → c ≡ fieldsOf f bytes → size ≡ fixed f → z ≡ zeros (blanks f bytes)
-    → w ≡ wellFormed c → formed f bytes ≡ (eqb (length bytes) (size + c .length) && z && w)
-unfolding formed fieldsOf
+pub formed-by : (f : Format) (bytes : List ℕ) {count size : ℕ} {z w : Bool} → count ≡ field 50 2 bytes → size ≡ fixed f → z ≡ zeros (blanks f bytes)
+    → w ≡ wellFormed (fieldsOf f bytes) → formed f bytes ≡ (eqb (length bytes) (size + count) && z && w)
+unfolding formed
 formed-by f bytes p n q r = rw (r, q, n, p)
 
 -- The same, test by test.
-module _ (f : Format) (bytes : List ℕ) {c : Command} {size : ℕ} (p : c ≡ fieldsOf f bytes) (n : size ≡ fixed f) where
-  pub not-whole : (length bytes ≡ size + c .length → ⊥) → formed f bytes ≡ false
-  not-whole h = formed-by f bytes p n refl refl ∙ rw (ne-eqb (length bytes) (size + c .length) h)
+module _ (f : Format) (bytes : List ℕ) {count size : ℕ} (p : count ≡ field 50 2 bytes) (n : size ≡ fixed f) where
+  pub not-whole : (length bytes ≡ size + count → ⊥) → formed f bytes ≡ false
+  not-whole h = formed-by f bytes p n refl refl ∙ rw (ne-eqb (length bytes) (size + count) h)
 
-  module _ (h : length bytes ≡ size + c .length) {z : Bool} (q : z ≡ zeros (blanks f bytes)) where
+  module _ (h : length bytes ≡ size + count) {z : Bool} (q : z ≡ zeros (blanks f bytes)) where
     pub not-blank : z ≡ false → formed f bytes ≡ false
-    not-blank g = formed-by f bytes p n q refl ∙ rw (eq-eqb (length bytes) (size + c .length) h, g)
+    not-blank g = formed-by f bytes p n q refl ∙ rw (eq-eqb (length bytes) (size + count) h, g)
 
-    pub by-rules : z ≡ true → {w : Bool} → w ≡ wellFormed c → formed f bytes ≡ w
-    by-rules g r = formed-by f bytes p n q r ∙ rw (eq-eqb (length bytes) (size + c .length) h, g)
+    pub by-rules : z ≡ true → {w : Bool} → w ≡ wellFormed (fieldsOf f bytes) → formed f bytes ≡ w
+    by-rules g r = formed-by f bytes p n q r ∙ rw (eq-eqb (length bytes) (size + count) h, g)
 
 -- What holds of bytes that are a command.
 pub record Formedness (f : Format) (bytes : List ℕ) : Type 0 where
@@ -74,6 +74,10 @@ formedness f bytes h =
     front : (eqb (length bytes) (fixed f + field 50 2 bytes) && zeros (blanks f bytes)) ≡ true
     front = and-left (eqb (length bytes) (fixed f + field 50 2 bytes) && zeros (blanks f bytes)) (wellFormed (fieldsOf f bytes)) h
 
+-- Their fixed part is whole.
+pub fixed-in : (f : Format) (bytes : List ℕ) → formed f bytes ≡ true → fixed f ≤ length bytes
+fixed-in f bytes h = let whole = formedness f bytes h .whole in omega (arith, whole)
+
 -- The numbers read from bytes are within their fields' widths.
 pub fits-fields : (f : Format) (bytes : List ℕ) → Bytes bytes → FitsCommand (fieldsOf f bytes)
 unfolding fieldsOf
@@ -83,7 +87,7 @@ fits-fields f bytes h =
       mode = h 1;
       language = language f;
       card = le-part-bound 2 2 bytes h;
-      pair = record { s = le-part-bound 4 8 bytes h; x = le-part-bound 12 8 bytes h };
+      verifier = record { s = le-part-bound 4 8 bytes h; x = le-part-bound 12 8 bytes h };
       opened = record { s = le-part-bound (updateAt f) 8 bytes h; x = le-part-bound (updateAt f + 8) 8 bytes h };
       expected = record { desk = le-part-bound 36 2 bytes h; transaction = le-part-bound 38 4 bytes h };
       next = record { desk = le-part-bound 42 2 bytes h; transaction = le-part-bound 44 4 bytes h };
@@ -180,7 +184,7 @@ module _ (c : Command) (text : List ℕ) where
   unfolding commandBytes fieldsOf toLe part
   fields-command f g h =
       let card : field 2 2 (commandBytes f c text) ≡ c .card = le-toLe 2 (c .card) (g .card) in
-      let pair : pairAt 4 (commandBytes f c text) ≡ c .pair = whole-pair (c .pair) (g .pair) in
+      let verifier : pairAt 4 (commandBytes f c text) ≡ c .verifier = whole-pair (c .verifier) (g .verifier) in
       let language = language-back f h in
       let opened = opened-back f g in
       let expected = expected-back f g in
@@ -192,7 +196,7 @@ module _ (c : Command) (text : List ℕ) where
         mode = c .mode;
         language = language i;
         card = card i;
-        pair = pair i;
+        verifier = verifier i;
         opened = opened i;
         expected = expected i;
         next = next i;
@@ -216,7 +220,7 @@ module _ (c : Command) (text : List ℕ) where
       (join
       (join
       (join
-      (join (join (join (join (join (piece (c .act ∷ c .mode ∷ []) first) (number 2 (c .card))) (pair (c .pair))) (middle-joined f g)) (mark (c .expected))) (mark (c .next)))
+      (join (join (join (join (join (piece (c .act ∷ c .mode ∷ []) first) (number 2 (c .card))) (pair (c .verifier))) (middle-joined f g)) (mark (c .expected))) (mark (c .next)))
       (number 2 (c .edition)))
       (number 2 (c .length)))
       (last-joined f))
@@ -236,7 +240,7 @@ module _ (c : Command) (text : List ℕ) where
 
   pub formed-command : (f : Format) → FitsCommand c → c .language < translations f → wellFormed c ≡ true → length text ≡ c .length → formed f (commandBytes f c text) ≡ true
   formed-command f g h w l =
-      formed-by f (commandBytes f c text) (sym (fields-command f g h)) refl refl refl
+      formed-by f (commandBytes f c text) (sym (length-back f g)) refl refl (ap wellFormed (sym (fields-command f g h)))
       ∙ and-in (and-in (eq-eqb (length (commandBytes f c text)) (fixed f + c .length) (length-command f ∙ rw l)) (blank-back f)) w
 
   -- Parsing the bytes of a command gives it back.

@@ -110,11 +110,11 @@ verified true false x o = refl
 verified false s x o = refl
 
 module _ (c : Command) where
-  pub of-session : opensNone c ≡ true → all (sessionChecks (c .mode) (c .pair)) ≡ all (pairChecks c)
+  pub of-session : opensNone c ≡ true → all (sessionChecks (c .mode) (c .verifier)) ≡ all (pairChecks c)
   unfolding all allFrom
   of-session h =
-      rw (h, le-leb (c .pair .s) (c .pair .s) (omega arith), le-leb (c .pair .x) (c .pair .x) (omega arith))
-      (verified (eqb (c .mode) shared || eqb (c .mode) exclusive) (stampValid (c .pair .s)) (stampValid (c .pair .x)) (not (eqb (own (c .mode) (c .pair)) 0)))
+      rw (h, le-leb (c .verifier .s) (c .verifier .s) (omega arith), le-leb (c .verifier .x) (c .verifier .x) (omega arith))
+      (verified (eqb (c .mode) shared || eqb (c .mode) exclusive) (stampValid (c .verifier .s)) (stampValid (c .verifier .x)) (not (eqb (own (c .mode) (c .verifier)) 0)))
 
   pub of-opened : opensNone c ≡ false → (all (sessionChecks (c .mode) (c .opened)) && all (verifierChecks c)) ≡ all (pairChecks c)
   of-opened h = sym (all-append (sessionChecks (c .mode) (update c)) (verifierChecks c) ∙ ap (λ (p : Pair). all (sessionChecks (c .mode) p) && all (verifierChecks c)) sent)

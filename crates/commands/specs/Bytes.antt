@@ -38,7 +38,7 @@ fieldsOf f bytes =
       mode = getD bytes 1 0;
       language = languageAt f bytes;
       card = field 2 2 bytes;
-      pair = pairAt 4 bytes;
+      verifier = pairAt 4 bytes;
       opened = pairAt (updateAt f) bytes;
       expected = markAt 36 bytes;
       next = markAt 42 bytes;
@@ -67,7 +67,7 @@ parsedNumber (Formed c) = 0
 
 abbrev pub parsedCommand : Parsed → Command
 parsedCommand Malformed =
-    record { act = 0; mode = 0; language = 0; card = 0; pair = noPair; opened = noPair; expected = noMark; next = noMark; edition = 0; length = 0 }
+    record { act = 0; mode = 0; language = 0; card = 0; verifier = noPair; opened = noPair; expected = noMark; next = noMark; edition = 0; length = 0 }
 parsedCommand (Formed c) = c
 
 -- The bytes of a command, the other way round.
@@ -90,7 +90,7 @@ unfoldable pub commandBytes : Format → Command → List ℕ → List ℕ
 commandBytes f c text =
     (c .act ∷ c .mode ∷ [])
     ++ toLe 2 (c .card)
-    ++ pairBytes (c .pair)
+    ++ pairBytes (c .verifier)
     ++ middleBytes f c
     ++ markBytes (c .expected)
     ++ markBytes (c .next)

@@ -41,13 +41,13 @@ languageNamed c = leb (c .language) 3 && (readsTranslation c || writesTranslatio
 -- The two pairs of a command (rule 3.4). Staleness judges the verifier. The update pair raises the stored pair and names the session; it is the
 -- verifier where the bytes for it are all zero. Minuet (003, section 3.2): session verifier and session update.
 abbrev pub verifier : Command → Pair
-verifier c = c .pair
+verifier c = c .verifier
 
 abbrev pub opensNone : Command → Bool
 opensNone c = eqb (c .opened .s) 0 && eqb (c .opened .x) 0
 
 abbrev pub update : Command → Pair
-update c = cond (opensNone c) (c .pair) (c .opened)
+update c = cond (opensNone c) (c .verifier) (c .opened)
 
 -- The rules of a verifier (rule 3.3): valid stamps, zero or not, and none above the update pair's.
 abbrev pub verifierChecks : Command → List Bool
@@ -100,7 +100,7 @@ pub record FitsCommand (c : Command) : Type 0 where
   pub mode : c .mode < 256
   pub language : c .language < 256
   pub card : c .card < 65536
-  pub pair : FitsPair (c .pair)
+  pub verifier : FitsPair (c .verifier)
   pub opened : FitsPair (c .opened)
   pub expected : FitsMark (c .expected)
   pub next : FitsMark (c .next)

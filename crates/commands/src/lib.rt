@@ -2,10 +2,12 @@
 pub mod inner;
 
 ghost use mathlib.Core.Path.{_≡_};
+ghost use mathlib.Core.Bool.{cond};
 ghost use Rattle.lists.specs.Table.{all};
 ghost use Rattle.commands.specs.Command.{Language, readsTranslation, writesTranslation, reads, writes, opensNone, update, actChecks, verifierChecks, pairChecks, wellFormed};
 ghost use Prim.Native.Nat.{_+_, _≤_};
 ghost use lib.ListN.{length};
+ghost use Rattle.commands.specs.declared.Opened.the-variants.{Malformed, By};
 ghost use Rattle.commands.specs.Bytes.{markAt, pairAt, languageAt, parsed};
 ghost use Rattle.formats.specs.Format.{formatOf};
 use formats::Version;
@@ -18,14 +20,14 @@ use stamps::stamp_valid;
 
 // ---- A command: its numbers and its rules.
 
-// The numbers of a command. Its payload stands behind the fixed part in the lent bytes. `pair` is the verifier; `opened` is what was sent as the
+// The numbers of a command. Its payload stands behind the fixed part in the lent bytes. `opened` is what was sent as the
 // update pair, zeros where that is the verifier too. `language` is the translation that is read or written.
 pub struct Command {
     pub act: u8,
     pub mode: u8,
     pub language: u8,
     pub card: u16,
-    pub pair: Pair,
+    pub verifier: Pair,
     pub opened: Pair,
     pub expected: Mark,
     pub next: Mark,
@@ -112,7 +114,7 @@ impl Command {
         ensures { λ r. ⌜ r ≡ update self ⌝ }
     {
         if self.opens_none() {
-            return self.pair;
+            return self.verifier;
         }
         self.opened
     }
@@ -121,7 +123,7 @@ impl Command {
     fn verifier_ok(self) -> bool
         ensures { λ r. ⌜ r ≡ all (verifierChecks self) ⌝ }
     {
-        let verifier = self.pair;
+        let verifier = self.verifier;
         let update = self.update();
         stamp_valid(verifier.s)
             & stamp_valid(verifier.x)
@@ -129,14 +131,23 @@ impl Command {
             & (verifier.x <= update.x)
     }
 
-    // The rules of the mode and of the two pairs. Where no update pair was sent, those of a session are all.
-    fn pairs_ok(self) -> bool
-        ensures { λ r. ⌜ r ≡ all (pairChecks self) ⌝ }
+    // The update pair, where the mode and the two pairs keep their rules. It is the verifier or what was sent, and each way has its own tests: where none
+    // was sent, those of a session are all.
+    fn opens(self) -> Opened
+        ensures { λ r. ⌜ r ≡ cond (all (pairChecks self)) (By (update self)) Malformed ⌝ }
     {
+        let verifier = self.verifier;
+        let sent = self.opened;
         if self.opens_none() {
-            return session_ok(self.mode, self.pair);
+            if session_ok(self.mode, verifier) {
+                return Opened::By(verifier);
+            }
+            return Opened::Malformed;
         }
-        session_ok(self.mode, self.opened) & self.verifier_ok()
+        if session_ok(self.mode, sent) & self.verifier_ok() {
+            return Opened::By(sent);
+        }
+        Opened::Malformed
     }
 
     // Whether the numbers keep the rules of a command.
@@ -146,9 +157,9 @@ impl Command {
         if !self.act_ok() {
             return false;
         }
-        if !self.pairs_ok() {
+        let Opened::By(_) = self.opens() else {
             return false;
-        }
+        };
         mark_whole(self.expected) & mark_whole(self.next)
     }
 }
@@ -159,6 +170,12 @@ impl Command {
 pub enum Parsed {
     Malformed,
     Formed(Command),
+}
+
+// Lent bytes as a command, of which the update pair is told.
+pub enum Opened {
+    Malformed,
+    By(Pair),
 }
 
 // Where the fields begin that stand at one place in every version.
@@ -218,20 +235,8 @@ fn language_at(v: Version, bytes: &[u8]) -> u8
 pub fn parse(v: Version, bytes: &[u8]) -> Parsed
     ensures { λ r. ⌜ r ≡ parsed (formatOf v) (now (bytes .entry)) ⌝ }
 {
-    let fixed = formats::inner::fixed(v);
-    if bytes.len() < fixed {
+    let Opened::By(_) = inner::open_as(v, bytes) else {
         return Parsed::Malformed;
-    }
-    let c = inner::fields(v, bytes);
-    let blank = formats::inner::blank_at(v);
-    if bytes.len() != fixed + (c.length as usize) {
-        return Parsed::Malformed;
-    }
-    if !slices::all_zero(&bytes[blank..EXPECTED]) {
-        return Parsed::Malformed;
-    }
-    if !c.well_formed() {
-        return Parsed::Malformed;
-    }
-    Parsed::Formed(c)
+    };
+    Parsed::Formed(inner::fields(v, bytes))
 }

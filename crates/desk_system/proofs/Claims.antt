@@ -7,6 +7,7 @@ use mathlib.Core.List.{List, [], _∷_, _++_, reverse, reverse-reverse}
 use mathlib.Core.Bool.{Bool, true, false, not}
 use borrow.Author.Tests.{eqb-true}
 use lib.Dec.{T, eqb}
+use lib.ListN.{drop}
 use Rattle.formats.specs.Format.{Format, V1, V2}
 use Rattle.lists.specs.Search.{none}
 use Rattle.lists.specs.Table.{settled}
@@ -22,13 +23,15 @@ use Rattle.image.specs.Convert.{converted, convertNumber}
 use Rattle.image_claims.proofs.Claims.{goodEncodes}
 use Rattle.store_model.specs.Words.{Sent, Received, Event, commandOf, imageAfter, traceFrom, traceOf, formedFor, carries, under, commandsIn}
 use Rattle.store_model.specs.Claims.{AllBytes, Claim}
-use Rattle.store_model.specs.Conversion.{imageBefore, traceAcross}
+use Rattle.store_model.specs.Conversion.{traceAcross}
 use Rattle.store_model.specs.Meaning.{Among, Ordered}
 use Rattle.store_model.proofs.Conversion.{demand3-across}
 use Rattle.store_model.proofs.Demand.{demand3, bytes-reverse}
 use Rattle.store_model.proofs.Formed.{formed-well}
 use Rattle.store_model.proofs.Meaning.{among-here, among-later, among-right, among-mapped, carries-means, premise-means}
 use Rattle.store_model.proofs.Pairs.{no-card}
+use Rattle.redo_log.specs.Append.{appendNumber, appended}
+use Rattle.redo_log_claims.specs.Life.{renewed}
 use Rattle.redo_recovery_model.specs.Recovery.{Pairs, recoveryPair, recovered}
 use Rattle.redo_recovery_model.specs.Claims.{AllUnder}
 use Rattle.redo_recovery_model.proofs.Pairs as under-pairs
@@ -48,6 +51,8 @@ use Rattle.desk_system.specs.System.{
   recoverWith,
   convert,
   learn,
+  appendTo,
+  renewLog,
   opening,
   isMade,
   sendsMade,
@@ -68,65 +73,25 @@ use Rattle.desk_system.specs.System.{
 }
 use Rattle.desk_system.specs.Claims.{ByRules, finally, PremiseKept, DesksIsolated, StoreOf, oneVersion, convertedOnce, StoreFollows, StampsOnce, DesksValid, RecoveryAllowed}
 use Rattle.desk_system.proofs.Backing.{among-none, Backed, backed-none}
-use Rattle.desk_system.proofs.Kept.{Once, Kept, kept-begin, kept-propose, kept-request, kept-lose, kept-send, kept-recover, kept-convert, kept-learn, recovery-bytes, sends-version, sends-made}
+use Rattle.desk_system.proofs.Kept.{Once, Kept, kept-begin, kept-propose, kept-request, kept-lose, kept-send, kept-recover, kept-convert, kept-learn, kept-log, sends-version, sends-made}
+use Rattle.desk_system.proofs.Moves.{Carried, carried-run}
 use Rattle.desk_system.proofs.Store.{Trace, plain, across, Held, held-fresh, held-send, held-convert}
 
 -- ---- the store, whatever the steps are
 
-held-sends : (v : Format) (n c : ℕ) (y : System) (sent : List Sent) → AllBytes sent → Held v n c (y .version) (y .image) (y .log)
-    → Held v n c (sendSteps y sent .version) (sendSteps y sent .image) (sendSteps y sent .log)
-unfolding sendSteps
-held-sends v n c y [] b h = h
-held-sends v n c y (s ∷ earlier) b h =
-    held-send v n c (sendSteps y earlier .version) (sendSteps y earlier .image) (sendSteps y earlier .log) s (b .0) (held-sends v n c y earlier (b .1) h)
-
-held-next : (v : Format) (n c : ℕ) (y : System) (s : Move) → Fits s → Held v n c (y .version) (y .image) (y .log)
-    → Held v n c (stepTo y s .version) (stepTo y s .image) (stepTo y s .log)
-unfolding stepTo
-held-next v n c y (begin who) f h = h
-held-next v n c y (propose who card mode) f h = go (proposed (knows y who card) mode .number)
-  where
-    next : System
-    next = withMade (record { card = card; mode = mode; pair = proposed (knows y who card) mode .pair }) (nowKnows who card (proposed (knows y who card) mode .known .pair) y)
-
-    go : (number : ℕ) → Held v n c (settled number next y .version) (settled number next y .image) (settled number next y .log)
-    go zero = h
-    go (suc j) = h
-held-next v n c y (atQueue card lent r) f h = h
-held-next v n c y (lose card places) f h = h
-held-next v n c y (send s) f h = held-send v n c (y .version) (y .image) (y .log) s f h
-held-next v n c y (recoverWith pairs log) f h =
-    held-sends v n c y (recoverySends (y .version) pairs log (y .image))
-    (recovery-bytes (y .version) (y .image) (h .cards) (h .image-is) (h .good) pairs log (f .0) (f .1)) h
-held-next v n c y (convert lent) f h = go (y .version) h
-  where
-    go : (g : Format) → Held v n c g (y .image) (y .log) → Held v n c (convertStep g lent y .version) (convertStep g lent y .image) (convertStep g lent y .log)
-    go V2 d = h
-    go V1 d = by-number (convertNumber (y .image) lent) refl
-      where
-        next : System
-        next = withStore V2 (converted (y .image)) (y .log) y
-
-        by-number : (number : ℕ) → convertNumber (y .image) lent ≡ number → Held v n c (settled number next y .version) (settled number next y .image) (settled number next y .log)
-        by-number zero e = held-convert v n c (y .image) (y .log) lent d e
-        by-number (suc j) e = h
-held-next v n c y (learn who card pair) f h = h
-
-held-run : (v : Format) (n c : ℕ) (y : System) (steps : List Move) → AllFit steps → Held v n c (y .version) (y .image) (y .log)
-    → Held v n c (systemAfter y steps .version) (systemAfter y steps .image) (systemAfter y steps .log)
-unfolding systemAfter
-held-run v n c y [] f h = h
-held-run v n c y (s ∷ steps) f h = held-run v n c (stepTo y s) steps (f .1) (held-next v n c y s (f .0) h)
+held-carried : (v : Format) (n c : ℕ) → Carried v n c (Held v n c)
+held-carried v n c =
+    record { is-held = λ f image log h. h; sends = λ f image log s b h. held-send v n c f image log s b h; converts = λ image log lent h e. held-convert v n c image log lent h e }
 
 -- ---- a run by the rules
 
-kept-opening : (v : Format) (n c : ℕ) (places : ℕ → List Waiting) → T (shapeOk v n c) → Kept v n c (opening v n c places)
+kept-opening : (v : Format) (n c : ℕ) (places : ℕ → ℕ → List Waiting) (logs : ℕ → List ℕ) → T (shapeOk v n c) → Kept v n c (opening v n c places logs)
 unfolding held-fresh freshCards
-kept-opening v n c places shape =
+kept-opening v n c places logs shape =
     record {
       held = held-fresh v n c shape;
       stored = λ k. subst (λ (d : Card). Backed [] k (d .pair)) (sym (no-card v n k)) (nothing k);
-      queued = nothing;
+      queued = λ k m. nothing k;
       knowing = λ w k. nothing k;
       telling = λ t a. among-none a;
       making = λ m a. among-none a;
@@ -144,12 +109,15 @@ kept-next : (v : Format) (n c : ℕ) (y : System) (s : Move) → Kept v n c y �
 unfolding stepTo
 kept-next v n c y (begin who) k f h = kept-begin v n c y k who h
 kept-next v n c y (propose who card mode) k f h = kept-propose v n c y k who card mode h
-kept-next v n c y (atQueue card lent r) k f h = kept-request v n c y k card lent r h
-kept-next v n c y (lose card places) k f h = kept-lose v n c y k card places
+kept-next v n c y (atQueue card manager lent r) k f h = kept-request v n c y k card manager lent r h
+kept-next v n c y (lose card manager places) k f h = kept-lose v n c y k card manager places
 kept-next v n c y (send s) k f h = kept-send v n c y k s f h
-kept-next v n c y (recoverWith pairs log) k f h = kept-recover v n c y k pairs log (f .0) (f .1) h
+kept-next v n c y (recoverWith pairs log unsent) k f h = kept-recover v n c y k pairs log unsent (f .0) (f .1) h
 kept-next v n c y (convert lent) k f h = kept-convert v n c y k lent
 kept-next v n c y (learn who card pair) k f h = kept-learn v n c y k who card pair h
+kept-next v n c y (appendTo desk budget r) k f h =
+    kept-log v n c y k desk (appended budget (y .redo desk) r) (settled (appendNumber budget (y .redo desk) r) (y .whole desk ++ r ∷ []) (y .whole desk))
+kept-next v n c y (renewLog desk) k f h = kept-log v n c y k desk (renewed (y .redo desk)) []
 
 kept-run : (v : Format) (n c : ℕ) (y : System) (steps : List Move) → Kept v n c y → AllFit steps → byRules y steps ≡ true → Kept v n c (systemAfter y steps)
 unfolding systemAfter byRules
@@ -160,8 +128,8 @@ kept-run v n c y (s ∷ steps) k f h =
     (f .1)
     (and-right (allowed y s) (byRules (stepTo y s) steps) h)
 
-kept-finally : (v : Format) (n c : ℕ) (places : ℕ → List Waiting) (steps : List Move) → ByRules v n c places steps → Kept v n c (finally v n c places steps)
-kept-finally v n c places steps r = kept-run v n c (opening v n c places) steps (kept-opening v n c places (r .shape)) (r .fits) (r .rules)
+pub kept-finally : (v : Format) (n c : ℕ) (places : ℕ → ℕ → List Waiting) (logs : ℕ → List ℕ) (steps : List Move) → ByRules v n c places logs steps → Kept v n c (finally v n c places logs steps)
+kept-finally v n c places logs steps r = kept-run v n c (opening v n c places logs) steps (kept-opening v n c places logs (r .shape)) (r .fits) (r .rules)
 
 -- ---- proposals stay, whatever the steps are
 
@@ -176,10 +144,10 @@ made-next y (propose who card mode) m a = go (proposed (knows y who card) mode .
     go : (number : ℕ) → Among m (settled number (withMade new (nowKnows who card (proposed (knows y who card) mode .known .pair) y)) y .made)
     go zero = among-later new a
     go (suc j) = a
-made-next y (atQueue card lent r) m a = a
-made-next y (lose card places) m a = a
+made-next y (atQueue card manager lent r) m a = a
+made-next y (lose card manager places) m a = a
 made-next y (send s) m a = a
-made-next y (recoverWith pairs log) m a = subst (Among m) (sym (sends-made y (recoverySends (y .version) pairs log (y .image)))) a
+made-next y (recoverWith pairs log unsent) m a = subst (Among m) (sym (sends-made y (recoverySends (y .version) pairs log unsent (y .image)))) a
 made-next y (convert lent) m a = go (y .version)
   where
     go : (g : Format) → Among m (convertStep g lent y .made)
@@ -190,6 +158,8 @@ made-next y (convert lent) m a = go (y .version)
         by-number zero = a
         by-number (suc j) = a
 made-next y (learn who card pair) m a = a
+made-next y (appendTo desk budget r) m a = a
+made-next y (renewLog desk) m a = a
 
 pub made-run : (y : System) (steps : List Move) (m : Made) → Among m (y .made) → Among m (systemAfter y steps .made)
 unfolding systemAfter
@@ -199,13 +169,13 @@ made-run y (s ∷ steps) m a = made-run (stepTo y s) steps m (made-next y s m a)
 -- ---- the claims
 
 pub premise-kept : PremiseKept
-premise-kept v n c places steps r k = premise-means k (commandsIn (y .log)) .1 ordered
+premise-kept v n c places logs steps r k = premise-means k (commandsIn (y .log)) .1 ordered
   where
     y : System
-    y = finally v n c places steps
+    y = finally v n c places logs steps
 
     kept : Kept v n c y
-    kept = kept-finally v n c places steps r
+    kept = kept-finally v n c places logs steps r
 
     order : (a b : Event) → Among a (y .log) → Among b (y .log) → formedFor k (a .read) ≡ true → formedFor k (b .read) ≡ true
         → carries (commandOf a) ≡ true
@@ -245,7 +215,7 @@ premise-kept v n c places steps r k = premise-means k (commandsIn (y .log)) .1 o
         (order (from-a .from) (from-b .from) (from-a .among) (from-b .among)))
 
 store-of : (v : Format) (n c : ℕ) (y : System) → Trace v n c (y .version) (y .image) (y .log) → StoreOf v n c y
-unfolding traceOf traceAcross imageBefore
+unfolding traceOf traceAcross
 store-of v n c y (plain sent b e l i) =
     let turned = sym (reverse-reverse sent) in
     oneVersion (reverse sent) e (l ∙ ap (traceFrom v (fresh v n c)) turned) (i ∙ ap (imageAfter v (fresh v n c)) turned)
@@ -259,16 +229,16 @@ store-of v n c y (across sent more b m o e ok l i) =
     ∙ ap (λ (a : List Sent). traceFrom V2 (base (reverse (reverse sent))) a ++ traceFrom V1 (fresh V1 n c) (reverse (reverse sent))) second)
     (i ∙ ap (λ (a : List Sent). imageAfter V2 (base a) more) first ∙ ap (imageAfter V2 (base (reverse (reverse sent)))) second)
 
-held-finally : (v : Format) (n c : ℕ) (places : ℕ → List Waiting) (steps : List Move) → T (shapeOk v n c) → AllFit steps
-    → Held v n c (finally v n c places steps .version) (finally v n c places steps .image) (finally v n c places steps .log)
-held-finally v n c places steps shape f = held-run v n c (opening v n c places) steps f (held-fresh v n c shape)
+pub held-finally : (v : Format) (n c : ℕ) (places : ℕ → ℕ → List Waiting) (logs : ℕ → List ℕ) (steps : List Move) → T (shapeOk v n c) → AllFit steps
+    → Held v n c (finally v n c places logs steps .version) (finally v n c places logs steps .image) (finally v n c places logs steps .log)
+held-finally v n c places logs steps shape f = carried-run v n c (Held v n c) (held-carried v n c) (opening v n c places logs) steps f (held-fresh v n c shape)
 
 pub store-follows : StoreFollows
-store-follows v n c places steps shape f = store-of v n c (finally v n c places steps) (held-finally v n c places steps shape f .trace)
+store-follows v n c places logs steps shape f = store-of v n c (finally v n c places logs steps) (held-finally v n c places logs steps shape f .trace)
 
 -- Demand 3's sentences hold of the log.
-claimed : (v : Format) (n c : ℕ) → T (shapeOk v n c) → (version : Format) (image : List ℕ) (log : List Event) → Trace v n c version image log → (sent : List Sent) × Claim n sent log
-unfolding traceOf traceAcross imageBefore
+pub claimed : (v : Format) (n c : ℕ) → T (shapeOk v n c) → (version : Format) (image : List ℕ) (log : List Event) → Trace v n c version image log → (sent : List Sent) × Claim n sent log
+unfolding traceOf traceAcross
 claimed v n c shape version image log (plain sent b e l i) =
     (reverse sent, subst (Claim n (reverse sent)) (sym (l ∙ ap (traceFrom v (fresh v n c)) (sym (reverse-reverse sent)))) (demand3 v n c shape (reverse sent) (bytes-reverse sent [] b tt)))
 claimed v n c shape version image log (across sent more b m o e ok l i) =
@@ -285,32 +255,32 @@ claimed v n c shape version image log (across sent more b m o e ok l i) =
     )
 
 pub desks-isolated : DesksIsolated
-desks-isolated v n c places steps r k later b between a before split by-a by-b one =
-    let y = finally v n c places steps in
-    claimed v n c (r .shape) (y .version) (y .image) (y .log) (held-finally v n c places steps (r .shape) (r .fits) .trace) .1
-    .isolation k later b between a before (premise-kept v n c places steps r k) split by-a by-b one
+desks-isolated v n c places logs steps r k later b between a before split by-a by-b one =
+    let y = finally v n c places logs steps in
+    claimed v n c (r .shape) (y .version) (y .image) (y .log) (held-finally v n c places logs steps (r .shape) (r .fits) .trace) .1
+    .isolation k later b between a before (premise-kept v n c places logs steps r k) split by-a by-b one
 
 once-at : (later : List Made) (p : Made) (rest : List Made) → Once (later ++ p ∷ rest) → Once (p ∷ rest)
 once-at [] p rest o = o
 once-at (m ∷ later) p rest o = once-at later p rest (o .1)
 
 pub stamps-once : StampsOnce
-stamps-once v n c places steps r later p between q before split same ep eq z =
-    let kept = kept-finally v n c places steps r in
+stamps-once v n c places logs steps r later p between q before split same ep eq z =
+    let kept = kept-finally v n c places logs steps r in
     once-at later p (between ++ q ∷ before) (subst Once split (kept .once)) .0 q (among-right between (among-here q before)) ep same eq z
 
 pub desks-valid : DesksValid
-desks-valid v n c places steps r =
+desks-valid v n c places logs steps r =
     record {
       known-s = λ who card. kept .knowing who card .valid-s;
       known-x = λ who card. kept .knowing who card .valid-x;
       proposes = λ who card mode running e.
           let w = kept .numbered who running in
-          well-proposed (knows (finally v n c places steps) who card) mode (omega arith) (omega arith) (kept .knowing who card .valid-s) (kept .knowing who card .valid-x) e;
+          well-proposed (knows (finally v n c places logs steps) who card) mode (omega arith) (omega arith) (kept .knowing who card .valid-s) (kept .knowing who card .valid-x) e;
     }
   where
-    kept : Kept v n c (finally v n c places steps)
-    kept = kept-finally v n c places steps r
+    kept : Kept v n c (finally v n c places logs steps)
+    kept = kept-finally v n c places logs steps r
 
 -- ---- recovery under proposed pairs
 
@@ -355,22 +325,27 @@ sends-image y (s ∷ earlier) = rw (sends-version y earlier, sends-image y earli
 
 pub recovery-allowed : RecoveryAllowed
 unfolding stepTo
-recovery-allowed v n c places steps r pairs log fp lb version given =
+recovery-allowed v n c places logs steps r pairs log fp lb version given =
     record {
-      allows =
-          subst (λ (f : Format). allMade f (y .made) (recoverySends f pairs log (y .image)) ≡ true) (sym version)
-          (writes-made (y .made) pairs given (recovered pairs log (y .image) .sent) under-all);
+      allows = λ unsent.
+          subst (λ (f : Format). allMade f (y .made) (recoverySends f pairs log unsent (y .image)) ≡ true) (sym version)
+          (writes-made (y .made) pairs given (drop unsent (recovered pairs log (y .image) .sent)) (dropped-under unsent (recovered pairs log (y .image) .sent) under-all));
       leaves =
-          sends-image y (recoverySends (y .version) pairs log (y .image))
-          ∙ subst (λ (f : Format). imageAfter f (y .image) (recoverySends f pairs log (y .image)) ≡ recovered pairs log (y .image) .image) (sym version)
+          sends-image y (recoverySends (y .version) pairs log 0 (y .image))
+          ∙ subst (λ (f : Format). imageAfter f (y .image) (recoverySends f pairs log 0 (y .image)) ≡ recovered pairs log (y .image) .image) (sym version)
           (sym (recovers pairs log (y .image) .sends));
     }
   where
     y : System
-    y = finally v n c places steps
+    y = finally v n c places logs steps
 
     held : Held v n c V1 (y .image) (y .log)
-    held = subst (λ (f : Format). Held v n c f (y .image) (y .log)) version (held-finally v n c places steps (r .shape) (r .fits))
+    held = subst (λ (f : Format). Held v n c f (y .image) (y .log)) version (held-finally v n c places logs steps (r .shape) (r .fits))
+
+    dropped-under : (unsent : ℕ) (sent : List Sent) → AllUnder pairs sent → AllUnder pairs (drop unsent sent)
+    dropped-under zero sent u = u
+    dropped-under (suc i) [] u = u
+    dropped-under (suc i) (s ∷ sent) u = dropped-under i sent (u .1)
 
     under-all : AllUnder pairs (recovered pairs log (y .image) .sent)
     under-all =

@@ -7,13 +7,13 @@ use mathlib.Core.List.{List, [], _∷_}
 use mathlib.Core.Bool.{Bool, true, false, cond, not, _&&_, _||_}
 use borrow.Author.Tests.{eqb-true, eqb-false, eq-eqb, ne-eqb, ltb-true, ltb-false, not-true, not-false}
 use lib.Dec.{eqb, ltb}
-use lib.ListN.{length, getD, set, length-map, List·getD-eq-default}
+use lib.ListN.{length, drop, getD, set, length-map, List·getD-eq-default}
 use lib.Seq.{getD-set-same, getD-set-other}
 use Rattle.formats.specs.Format.{Format, V1, V2}
 use Rattle.lists.specs.Parts.{Bytes}
 use Rattle.lists.specs.Search.{any}
 use Rattle.lists.specs.Table.{settled}
-use Rattle.lists.proofs.Tests.{cases, and-left, and-right, or-cases, or-right, never-both}
+use Rattle.lists.proofs.Tests.{and-in, and-left, and-right, or-cases, or-right, never-both}
 use Rattle.stamps.specs.Stamp.{stamp, deskStart, shared, exclusive, stampValid, largerOfEach, noPair}
 use Rattle.stamps.specs.declared.Pair.{Pair}
 use Rattle.stamps.proofs.Stamp.{stamp-desk-start, stamp-valid}
@@ -32,7 +32,8 @@ use Rattle.store_model.specs.Meaning.{Among}
 use Rattle.store_model.proofs.Machine.{numberOn, eventBy, cardsBy, passed}
 use Rattle.store_model.proofs.Meaning.{among-here, among-later, any-means}
 use Rattle.store_model.proofs.Simulation.{same-event}
-use Rattle.redo_recovery_model.specs.Recovery.{Pairs, FitsPairs}
+use Rattle.redo_log.specs.Log.{LogRecord}
+use Rattle.redo_recovery_model.specs.Recovery.{Pairs, FitsPairs, recovered}
 use Rattle.image.proofs.Cards.{Bytes-encode}
 use Rattle.redo_recovery_model.proofs.Sending.{recovered-bytes}
 use Rattle.lock_queue.specs.Queue.{State, emptyQueue}
@@ -67,14 +68,16 @@ use Rattle.desk_system.specs.System.{
   nowKnows,
   withStore,
   withMade,
+  withLog,
   queueStep,
   sendStep,
   sendSteps,
   convertStep,
   stepTo,
 }
-use Rattle.desk_system.proofs.Backing.{among-cases, with-all, Backed, Stamped, backed-none, backed-larger, backed-more}
-use Rattle.desk_system.proofs.Store.{Held, held-send, held-convert}
+use Rattle.desk_system.specs.Progress.{madeFor, proposalsFor}
+use Rattle.desk_system.proofs.Backing.{among-cases, with-all, Dated, Backed, Stamped, backed-none, backed-larger, under-more, dated-later, dated-own, backed-more}
+use Rattle.desk_system.proofs.Store.{Held, stored-pairs, reply-pair, widened-pairs, held-send, held-convert}
 
 -- An exclusive proposal: its stamp is not zero, and the desk and start of that stamp is in use and knows a stamp at least as large.
 pub record Marked (known : ℕ → ℕ → Pair) (started : List ℕ) (m : Made) : Type 0 where
@@ -110,7 +113,7 @@ pub record Kept (v : Format) (n c : ℕ) (y : System) : Type 0 where
   pub held : Held v n c (y .version) (y .image) (y .log)
   -- every pair in circulation is backed: stored, in a queue, known, told and proposed
   pub stored : (k : ℕ) → Backed (y .made) k (getD (held .cards .cards) k (noCard (y .version)) .pair)
-  pub queued : (k : ℕ) → Backed (y .made) k (y .queues k .largest)
+  pub queued : (k m : ℕ) → Backed (y .made) k (y .queues k m .largest)
   pub knowing : (w k : ℕ) → Backed (y .made) k (y .known w k)
   pub telling : (t : Told) → Among t (y .told) → Backed (y .made) (t .card) (t .pair)
   pub making : (m : Made) → Among m (y .made) → Backed (y .made) (m .card) (m .pair)
@@ -122,7 +125,7 @@ pub record Kept (v : Format) (n c : ℕ) (y : System) : Type 0 where
 
 -- ---- tests of the rules
 
-pair-is : (p q : Pair) → samePair p q ≡ true → p ≡ q
+pub pair-is : (p q : Pair) → samePair p q ≡ true → p ≡ q
 pair-is p q h =
     let s = eqb-true (p .s) (q .s) (and-left (eqb (p .s) (q .s)) (eqb (p .x) (q .x)) h) in
     let x = eqb-true (p .x) (q .x) (and-right (eqb (p .s) (q .s)) (eqb (p .x) (q .x)) h) in
@@ -294,7 +297,7 @@ module _ (v : Format) (n c : ℕ) (y : System) (k : Kept v n c y) where
           record {
             held = k .held;
             stored = λ j. more j (getD (k .held .cards .cards) j (noCard (y .version)) .pair) (k .stored j);
-            queued = λ j. more j (y .queues j .largest) (k .queued j);
+            queued = λ j m. more j (y .queues j m .largest) (k .queued j m);
             knowing =
                 with-all (λ (w : ℕ) (f : ℕ → Pair). (j : ℕ) → Backed (new ∷ y .made) j (f j)) who (with (new .card) (raised y who new) (y .known who)) (y .known)
                 (with-all (λ (j : ℕ) (p : Pair). Backed (new ∷ y .made) j p) (new .card) (raised y who new) (y .known who)
@@ -383,6 +386,10 @@ module _ (v : Format) (n c : ℕ) (y : System) (k : Kept v n c y) where
       mine-some : stampX ≡ 0 → ⊥
       mine-some z = let u = up (y .known who card .x) in omega arith
 
+      dated : (new : Made) (mode n : ℕ) → madeFor card mode new ≡ true → Dated (proposalsFor card mode (y .made)) n
+          → Dated (proposalsFor card mode (new ∷ y .made)) (ownAbove (who / 65536) (who % 65536) n)
+      dated new mode n h d = let w = width in dated-own (y .made) card new mode (who / 65536) (who % 65536) n h (omega arith) (omega arith) some d
+
       -- No exclusive proposal for the card has that stamp yet: it would be this desk's, which then knows a larger one.
       unused : (m : Made) → Among m (y .made) → m .card ≡ card → m .mode ≡ exclusive → m .pair .x ≡ stampX → ⊥
       unused m a c e z =
@@ -405,6 +412,8 @@ module _ (v : Format) (n c : ℕ) (y : System) (k : Kept v n c y) where
             valid-x = mine-valid (y .known who card .x);
             covers = λ m a c e z. go m c e z (among-cases a);
             stems = λ z. record { m = newX; among = among-here newX (y .made); card = refl; mode = refl; stamp = refl };
+            dated-s = dated-later (y .made) card newX shared (y .known who card .s) (k .knowing who card .dated-s);
+            dated-x = dated newX exclusive (y .known who card .x) (and-in (eq-eqb card card refl) refl) (k .knowing who card .dated-x);
           }
         where
           go : (m : Made) → m .card ≡ card → m .mode ≡ exclusive → m .pair .x ≡ stampX → (m ≡ newX) ⊎ Among m (y .made) → m .pair .s ≤ y .known who card .s
@@ -417,13 +426,18 @@ module _ (v : Format) (n c : ℕ) (y : System) (k : Kept v n c y) where
 
       own-s : Backed (newS ∷ y .made) card (newS .pair)
       own-s =
-          backed-more newS (λ c e z. absurd (omega arith))
-          (record {
+          record {
             valid-s = mine-valid (y .known who card .s);
             valid-x = k .knowing who card .valid-x;
-            covers = λ m a c e z. let low = k .knowing who card .covers m a c e z in let u = up (y .known who card .s) in omega arith;
-            stems = λ z. k .knowing who card .stems z;
-          })
+            covers = λ m a c e z. go m c e z (among-cases a);
+            stems = λ z. under-more newS (k .knowing who card .stems z);
+            dated-s = dated newS shared (y .known who card .s) (and-in (eq-eqb card card refl) refl) (k .knowing who card .dated-s);
+            dated-x = dated-later (y .made) card newS exclusive (y .known who card .x) (k .knowing who card .dated-x);
+          }
+        where
+          go : (m : Made) → m .card ≡ card → m .mode ≡ exclusive → m .pair .x ≡ y .known who card .x → (m ≡ newS) ⊎ Among m (y .made) → m .pair .s ≤ newS .pair .s
+          go m c e z (inl same) = let s : m .mode ≡ shared = ap (λ (d : Made). d .mode) same in absurd (omega arith)
+          go m c e z (inr a) = let low = k .knowing who card .covers m a c e z in let u = up (y .known who card .s) in omega arith
 
       kept-shared : Kept v n c (proposedTo y who newS)
       kept-shared =
@@ -455,40 +469,50 @@ module _ (v : Format) (n c : ℕ) (y : System) (k : Kept v n c y) where
 
   -- ---- a queue answers
 
+  -- One manager's queue of one card is another.
+  queued-with : (card manager : ℕ) (q : State) → Backed (y .made) card (q .largest)
+      → (j m : ℕ) → Backed (y .made) j (with card (with manager q (y .queues card)) (y .queues) j m .largest)
+  queued-with card manager q b =
+      with-all (λ (j : ℕ) (qs : ℕ → State). (m : ℕ) → Backed (y .made) j (qs m .largest)) card (with manager q (y .queues card)) (y .queues)
+      (with-all (λ (m : ℕ) (p : State). Backed (y .made) card (p .largest)) manager q (y .queues card) b (k .queued card))
+      (k .queued)
+
   -- What a request on a queue of the system makes of its largest pair, and the pair of the answer.
-  module _ (lent card : ℕ) (r : Request) (fine : (new : Waiting) → r ≡ asks new → waitingFormed new ≡ true → Backed (y .made) card (new .pair)) where
-    after-backed : Backed (y .made) card (after lent (y .queues card) r .largest)
-    after-backed = go r fine (number lent (y .queues card) r) refl
+  module _ (lent card manager : ℕ) (r : Request) (fine : (new : Waiting) → r ≡ asks new → waitingFormed new ≡ true → Backed (y .made) card (new .pair)) where
+    abbrev queue : State
+    queue = y .queues card manager
+
+    after-backed : Backed (y .made) card (after lent queue r .largest)
+    after-backed = go r fine (number lent queue r) refl
       where
         go : (r : Request) → ((new : Waiting) → r ≡ asks new → waitingFormed new ≡ true → Backed (y .made) card (new .pair))
-            → (n : ℕ) → number lent (y .queues card) r ≡ n
-            → Backed (y .made) card (after lent (y .queues card) r .largest)
-        go r f (suc n) e = rw (refusal-leaves lent (y .queues card) r n e) (k .queued card)
+            → (n : ℕ) → number lent queue r ≡ n
+            → Backed (y .made) card (after lent queue r .largest)
+        go r f (suc n) e = rw (refusal-leaves lent queue r n e) (k .queued card manager)
         go (asks new) f zero e =
-            rw (asked-largest lent (y .queues card) new e)
-            (backed-larger (y .queues card .largest) (new .pair) (k .queued card)
-            (f new refl (not-false (waitingFormed new) (no-row lent (y .queues card) (asks new) e 1))))
-        go (leaves d) f zero e = rw (left-largest lent (y .queues card) d e) (k .queued card)
-        go (lapses l) f zero e = rw (lapsed-largest lent (y .queues card) l e) (k .queued card)
+            rw (asked-largest lent queue new e)
+            (backed-larger (queue .largest) (new .pair) (k .queued card manager)
+            (f new refl (not-false (waitingFormed new) (no-row lent queue (asks new) e 1))))
+        go (leaves d) f zero e = rw (left-largest lent queue d e) (k .queued card manager)
+        go (lapses l) f zero e = rw (lapsed-largest lent queue l e) (k .queued card manager)
 
-    answer-backed : Backed (y .made) card (answer lent (y .queues card) r .largest)
+    answer-backed : Backed (y .made) card (answer lent queue r .largest)
     unfolding answer answered
-    answer-backed = go (blankAnswer (number lent (y .queues card) r))
+    answer-backed = go (blankAnswer (number lent queue r))
       where
-        go : (b : Bool) → Backed (y .made) card (cond b noPair (after lent (y .queues card) r .largest))
+        go : (b : Bool) → Backed (y .made) card (cond b noPair (after lent queue r .largest))
         go true = nothing card
         go false = after-backed
 
     -- The queue and the answers after it; nothing else has moved.
-    kept-queue : Kept v n c (queueStep lent y card r)
+    kept-queue : Kept v n c (queueStep lent y card manager r)
     kept-queue =
         record {
           held = k .held;
           stored = k .stored;
-          queued =
-              with-all (λ (j : ℕ) (q : State). Backed (y .made) j (q .largest)) card (after lent (y .queues card) r) (y .queues) after-backed (k .queued);
+          queued = queued-with card manager (after lent queue r) after-backed;
           knowing = k .knowing;
-          telling = told-more (record { card = card; number = answer lent (y .queues card) r .number; pair = answer lent (y .queues card) r .largest }) answer-backed;
+          telling = told-more (record { card = card; number = answer lent queue r .number; pair = answer lent queue r .largest }) answer-backed;
           making = k .making;
           marked = k .marked;
           ordered = k .ordered;
@@ -497,9 +521,9 @@ module _ (v : Format) (n c : ℕ) (y : System) (k : Kept v n c y) where
           sanctioned = k .sanctioned;
         }
 
-  pub kept-request : (card lent : ℕ) (r : Request) → allowed y (atQueue card lent r) ≡ true → Kept v n c (stepTo y (atQueue card lent r))
+  pub kept-request : (card manager lent : ℕ) (r : Request) → allowed y (atQueue card manager lent r) ≡ true → Kept v n c (stepTo y (atQueue card manager lent r))
   unfolding stepTo
-  kept-request card lent r h = kept-queue lent card r (fine r h)
+  kept-request card manager lent r h = kept-queue lent card manager r (fine r h)
     where
       fine : (r : Request) → asksMade (y .made) card r ≡ true → (new : Waiting) → r ≡ asks new → waitingFormed new ≡ true → Backed (y .made) card (new .pair)
       fine (asks old) h new e f =
@@ -511,14 +535,13 @@ module _ (v : Format) (n c : ℕ) (y : System) (k : Kept v n c y) where
       fine (lapses l) h new e f = let z : _≡_ {A = ℕ} 0 1 = cc in absurd (omega arith)
 
   -- A queue that is lost has no largest pair.
-  pub kept-lose : (card : ℕ) (places : List Waiting) → Kept v n c (stepTo y (lose card places))
+  pub kept-lose : (card manager : ℕ) (places : List Waiting) → Kept v n c (stepTo y (lose card manager places))
   unfolding stepTo
-  kept-lose card places =
+  kept-lose card manager places =
       record {
         held = k .held;
         stored = k .stored;
-        queued =
-            with-all (λ (j : ℕ) (q : State). Backed (y .made) j (q .largest)) card (emptyQueue places) (y .queues) (nothing card) (k .queued);
+        queued = queued-with card manager (emptyQueue places) (nothing card);
         knowing = k .knowing;
         telling = k .telling;
         making = k .making;
@@ -549,36 +572,6 @@ module _ (v : Format) (n c : ℕ) (y : System) (k : Kept v n c y) where
     raised-backed e =
         backed-larger (own-card .pair) (update command) (k .stored (command .card)) (proposal-backed (proposal (passed (y .version) cs s e .wellFormed)))
 
-    stored-next : (number : ℕ) → numberOn (y .version) cs s ≡ number → (j : ℕ) → Backed (y .made) j (getD (cardsBy (y .version) number cs s .cards) j (noCard (y .version)) .pair)
-    unfolding stepped raise
-    stored-next (suc i) e j = k .stored j
-    stored-next zero e j = go (cases (eqb (command .card) j))
-      where
-        there : command .card < length (cs .cards)
-        there = ltb-true (command .card) (length (cs .cards)) (passed (y .version) cs s e .exists)
-
-        next : Card
-        next = stepped own-card command (payload (y .version) (s .command))
-
-        go : (eqb (command .card) j ≡ true) ⊎ (eqb (command .card) j ≡ false) → Backed (y .made) j (getD (set (cs .cards) (command .card) next) j (noCard (y .version)) .pair)
-        go (inl same) =
-            subst (λ (i : ℕ). Backed (y .made) i (getD (set (cs .cards) (command .card) next) i (noCard (y .version)) .pair)) (eqb-true (command .card) j same)
-            (subst (λ (d : Card). Backed (y .made) (command .card) (d .pair)) (sym (getD-set-same (cs .cards) (command .card) next (noCard (y .version)) there)) (raised-backed e))
-        go (inr other) =
-            subst (λ (d : Card). Backed (y .made) j (d .pair))
-            (sym (getD-set-other (cs .cards) (command .card) j next (noCard (y .version)) (λ z. eqb-false (command .card) j other (sym z))))
-            (k .stored j)
-
-    -- The pair in the reply: none, the stored one, or the one that is left.
-    reply-backed : (number : ℕ) → numberOn (y .version) cs s ≡ number → Backed (y .made) (command .card) (eventBy (y .version) number cs s .answer .pair)
-    unfolding replied raise
-    reply-backed zero e = raised-backed e
-    reply-backed (suc i) e = go (blankReply (suc i))
-      where
-        go : (b : Bool) → Backed (y .made) (command .card) (cond b noPair (own-card .pair))
-        go true = nothing (command .card)
-        go false = k .stored (command .card)
-
     abbrev event : Event
     event = eventOf (y .version) s (serve (y .version) (y .image) (s .command) (s .lent))
 
@@ -590,12 +583,13 @@ module _ (v : Format) (n c : ℕ) (y : System) (k : Kept v n c y) where
     kept-send =
         record {
           held = held-send v n c (y .version) (y .image) (y .log) s bytes (k .held);
-          stored = stored-next (numberOn (y .version) cs s) refl;
+          stored = stored-pairs (y .version) cs s (λ (j : ℕ) (p : Pair). Backed (y .made) j p) (k .stored) raised-backed (numberOn (y .version) cs s) refl;
           queued = k .queued;
           knowing = k .knowing;
           telling =
               told-more (record { card = command .card; number = event .answer .number; pair = event .answer .pair })
-              (subst (λ (e : Event). Backed (y .made) (command .card) (e .answer .pair)) (sym event-is) (reply-backed (numberOn (y .version) cs s) refl));
+              (subst (λ (e : Event). Backed (y .made) (command .card) (e .answer .pair)) (sym event-is)
+              (reply-pair (y .version) cs s (Backed (y .made) (command .card)) (nothing (command .card)) (k .stored (command .card)) raised-backed (numberOn (y .version) cs s) refl));
           making = k .making;
           marked = k .marked;
           ordered = k .ordered;
@@ -614,16 +608,6 @@ module _ (v : Format) (n c : ℕ) (y : System) (k : Kept v n c y) where
   abbrev Pairing : Format → Type 0
   Pairing f = (d : Held v n c f (y .image) (y .log)) × ((j : ℕ) → Backed (y .made) j (getD (d .cards .cards) j (noCard f) .pair))
 
-  widened-backed : (cs : Cards) → ((j : ℕ) → Backed (y .made) j (getD (cs .cards) j (noCard V1) .pair)) → (j : ℕ) → Backed (y .made) j (getD (widenedCards cs .cards) j (noCard V2) .pair)
-  widened-backed cs b j = go (cases (ltb j (length (cs .cards))))
-    where
-      go : (ltb j (length (cs .cards)) ≡ true) ⊎ (ltb j (length (cs .cards)) ≡ false) → Backed (y .made) j (getD (widenedCards cs .cards) j (noCard V2) .pair)
-      go (inl h) = subst (λ (d : Card). Backed (y .made) j (d .pair)) (sym (getD-map (cs .cards) j (ltb-true j (length (cs .cards)) h))) (b j)
-      go (inr h) =
-          let past = ltb-false j (length (cs .cards)) h in
-          let long = length-map (cs .cards) widened in
-          subst (λ (d : Card). Backed (y .made) j (d .pair)) (sym (List·getD-eq-default (widenedCards cs .cards) (noCard V2) (omega arith))) (nothing j)
-
   pub kept-convert : (lent : ℕ) → Kept v n c (convertStep (y .version) lent y)
   unfolding held-convert
   kept-convert lent = go (y .version) (k .held, k .stored)
@@ -637,7 +621,7 @@ module _ (v : Format) (n c : ℕ) (y : System) (k : Kept v n c y) where
           by-number zero e =
               record {
                 held = held-convert v n c (y .image) (y .log) lent (b .0) e;
-                stored = widened-backed (b .0 .cards) (b .1);
+                stored = widened-pairs (λ (j : ℕ) (p : Pair). Backed (y .made) j p) nothing (b .0 .cards) (b .1);
                 queued = k .queued;
                 knowing = k .knowing;
                 telling = k .telling;
@@ -648,6 +632,25 @@ module _ (v : Format) (n c : ℕ) (y : System) (k : Kept v n c y) where
                 numbered = k .numbered;
                 sanctioned = k .sanctioned;
               }
+
+-- ---- a redo log
+
+-- Nothing else moves.
+pub kept-log : (v : Format) (n c : ℕ) (y : System) → Kept v n c y → (desk : ℕ) (log : List ℕ) (read : List LogRecord) → Kept v n c (withLog desk log read y)
+kept-log v n c y k desk log read =
+    record {
+      held = k .held;
+      stored = k .stored;
+      queued = k .queued;
+      knowing = k .knowing;
+      telling = k .telling;
+      making = k .making;
+      marked = k .marked;
+      ordered = k .ordered;
+      once = k .once;
+      numbered = k .numbered;
+      sanctioned = k .sanctioned;
+    }
 
 -- ---- requests one after the other, and a recovery
 
@@ -671,15 +674,22 @@ kept-sends v n c y k (s ∷ earlier) b h =
     (subst (λ (f : Format). sendsMade f (sendSteps y earlier .made) s ≡ true) (sym (sends-version y earlier))
     (subst (λ (made : List Made). sendsMade (y .version) made s ≡ true) (sym (sends-made y earlier)) here))
 
--- What a recovery sends is bytes.
-pub recovery-bytes : (f : Format) (image : List ℕ) (cs : Cards) → image ≡ encode f cs → GoodCards f cs → (pairs : Pairs) (log : List ℕ) → FitsPairs pairs → Bytes log
-    → AllBytes (recoverySends f pairs log image)
-recovery-bytes V1 image cs e g pairs log fp lb = recovered-bytes pairs log image (subst Bytes (sym e) (Bytes-encode V1 cs g)) fp lb
-recovery-bytes V2 image cs e g pairs log fp lb = tt
+-- The first of some requests, latest first.
+dropped-bytes : (unsent : ℕ) (sent : List Sent) → AllBytes sent → AllBytes (drop unsent sent)
+dropped-bytes zero sent b = b
+dropped-bytes (suc n) [] b = b
+dropped-bytes (suc n) (s ∷ sent) b = dropped-bytes n sent (b .1)
 
-pub kept-recover : (v : Format) (n c : ℕ) (y : System) → Kept v n c y → (pairs : Pairs) (log : List ℕ) → FitsPairs pairs → Bytes log → allowed y (recoverWith pairs log) ≡ true
-    → Kept v n c (stepTo y (recoverWith pairs log))
+-- What a recovery sends is bytes.
+pub recovery-bytes : (f : Format) (image : List ℕ) (cs : Cards) → image ≡ encode f cs → GoodCards f cs → (pairs : Pairs) (log : List ℕ) (unsent : ℕ) → FitsPairs pairs → Bytes log
+    → AllBytes (recoverySends f pairs log unsent image)
+recovery-bytes V1 image cs e g pairs log unsent fp lb =
+    dropped-bytes unsent (recovered pairs log image .sent) (recovered-bytes pairs log image (subst Bytes (sym e) (Bytes-encode V1 cs g)) fp lb)
+recovery-bytes V2 image cs e g pairs log unsent fp lb = tt
+
+pub kept-recover : (v : Format) (n c : ℕ) (y : System) → Kept v n c y → (pairs : Pairs) (log : List ℕ) (unsent : ℕ) → FitsPairs pairs → Bytes log → allowed y (recoverWith pairs log unsent) ≡ true
+    → Kept v n c (stepTo y (recoverWith pairs log unsent))
 unfolding stepTo
-kept-recover v n c y k pairs log fp lb h =
-    kept-sends v n c y k (recoverySends (y .version) pairs log (y .image))
-    (recovery-bytes (y .version) (y .image) (k .held .cards) (k .held .image-is) (k .held .good) pairs log fp lb) h
+kept-recover v n c y k pairs log unsent fp lb h =
+    kept-sends v n c y k (recoverySends (y .version) pairs log unsent (y .image))
+    (recovery-bytes (y .version) (y .image) (k .held .cards) (k .held .image-is) (k .held .good) pairs log unsent fp lb) h

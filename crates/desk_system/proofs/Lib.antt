@@ -1,6 +1,12 @@
 pub mod Backing
 pub mod Store
 pub mod Kept
+pub mod Moves
 pub mod Claims
+pub mod OneHistory
+pub mod Stamps
+pub mod Progress
 pub mod Trials
+pub mod ProgressCases
+pub mod HistoryCases
 pub mod Uses

@@ -1,27 +1,36 @@
 -- The store among the desks: the cards that its bytes stand for, and the requests that left them, over a conversion
 -- too. Nothing here asks for the rules. Assumes nothing.
-use Prim.Native.Nat.{ℕ, zero, suc}
+use Prim.Native.Nat.{ℕ, zero, suc, _<_}
 use native.Mathlib.Omega.{arith}
 use mathlib.Core.Path.{_≡_, refl, sym, ap, subst, _∙_}
+use mathlib.Core.Logic.{_⊎_, inl, inr}
 use mathlib.Core.List.{List, [], _∷_, _++_}
-use mathlib.Core.Bool.{true}
-use borrow.Author.Tests.{not-false}
-use lib.Dec.{T, eqb}
-use lib.ListN.{length, length-map}
+use mathlib.Core.Bool.{Bool, true, false, cond}
+use borrow.Author.Tests.{eqb-true, eqb-false, ltb-true, ltb-false, not-false}
+use lib.Dec.{T, eqb, ltb}
+use lib.ListN.{length, getD, set, length-map, List·getD-eq-default}
+use lib.Seq.{getD-set-same, getD-set-other}
 use Rattle.formats.specs.Format.{Format, V1, V2}
-use Rattle.lists.proofs.Tests.{to-T, and-left}
+use Rattle.lists.proofs.Tests.{cases, to-T, and-left}
 use Rattle.lists.proofs.Table.{none-applies, unapplied}
+use Rattle.stamps.specs.Stamp.{largerOfEach, noPair}
+use Rattle.stamps.specs.declared.Pair.{Pair}
+use Rattle.commands.specs.Command.{update}
+use Rattle.commands.specs.declared.Command.{Command}
+use Rattle.commands.specs.Bytes.{fieldsOf, payload}
+use Rattle.guard.specs.Judge.{raise}
+use Rattle.guard.specs.Replies.{blankReply, replied}
 use Rattle.image.specs.Layout.{shapeOk, sizeOf}
 use Rattle.image.specs.Bytes.{countOf, roomOf}
-use Rattle.image.specs.Image.{Cards, encode, fresh, freshCards, makes, GoodCards}
+use Rattle.image.specs.Image.{Card, Cards, noCard, encode, fresh, freshCards, makes, GoodCards}
 use Rattle.image.specs.Convert.{widened, widenedCards, converted, convertNumber, convertRows}
 use Rattle.image.proofs.Cards.{count-back, room-back}
 use Rattle.image_claims.proofs.Claims.{freshSound, goodEncodes}
-use Rattle.image_claims.proofs.Conversion.{good-cards}
-use Rattle.store_model.specs.Serve.{serve}
+use Rattle.image_claims.proofs.Conversion.{good-cards, getD-map}
+use Rattle.store_model.specs.Serve.{stepped, serve}
 use Rattle.store_model.specs.Words.{Sent, Event, eventOf, imageAfter, traceFrom}
 use Rattle.store_model.specs.Claims.{SentBytes, AllBytes}
-use Rattle.store_model.proofs.Machine.{numberOn, cardsBy, cardsFrom}
+use Rattle.store_model.proofs.Machine.{numberOn, eventBy, cardsBy, cardsFrom, passed}
 use Rattle.store_model.proofs.Simulation.{good-more, same-image}
 use Rattle.store_model.proofs.Demand.{count-all, count-fresh}
 
@@ -55,6 +64,63 @@ held-fresh v n c shape =
       room = refl;
       trace = plain [] tt refl refl refl;
     }
+
+-- ---- the stored pairs
+
+-- What holds of each stored pair before a request and, where the request is accepted, of the raised pair of its card,
+-- holds of each stored pair after it; and of the pair in the reply what holds of no pair, of the card's stored pair and
+-- of the raised one.
+module _ (f : Format) (cs : Cards) (s : Sent) where
+  abbrev command : Command
+  command = fieldsOf f (s .command)
+
+  abbrev own-card : Card
+  own-card = getD (cs .cards) (command .card) (noCard f)
+
+  abbrev raisedPair : Pair
+  raisedPair = largerOfEach (own-card .pair) (update command)
+
+  pub stored-pairs : (P : ℕ → Pair → Type 0) → ((j : ℕ) → P j (getD (cs .cards) j (noCard f) .pair)) → (numberOn f cs s ≡ 0 → P (command .card) raisedPair)
+      → (number : ℕ) → numberOn f cs s ≡ number
+      → (j : ℕ) → P j (getD (cardsBy f number cs s .cards) j (noCard f) .pair)
+  unfolding stepped raise
+  stored-pairs P old new (suc i) e j = old j
+  stored-pairs P old new zero e j = go (cases (eqb (command .card) j))
+    where
+      there : command .card < length (cs .cards)
+      there = ltb-true (command .card) (length (cs .cards)) (passed f cs s e .exists)
+
+      next : Card
+      next = stepped own-card command (payload f (s .command))
+
+      go : (eqb (command .card) j ≡ true) ⊎ (eqb (command .card) j ≡ false) → P j (getD (set (cs .cards) (command .card) next) j (noCard f) .pair)
+      go (inl same) =
+          subst (λ (i : ℕ). P i (getD (set (cs .cards) (command .card) next) i (noCard f) .pair)) (eqb-true (command .card) j same)
+          (subst (λ (d : Card). P (command .card) (d .pair)) (sym (getD-set-same (cs .cards) (command .card) next (noCard f) there)) (new e))
+      go (inr other) =
+          subst (λ (d : Card). P j (d .pair)) (sym (getD-set-other (cs .cards) (command .card) j next (noCard f) (λ z. eqb-false (command .card) j other (sym z)))) (old j)
+
+  pub reply-pair : (P : Pair → Type 0) → P noPair → P (own-card .pair) → (numberOn f cs s ≡ 0 → P raisedPair) → (number : ℕ) → numberOn f cs s ≡ number
+      → P (eventBy f number cs s .answer .pair)
+  unfolding replied raise
+  reply-pair P none old new zero e = new e
+  reply-pair P none old new (suc i) e = go (blankReply (suc i))
+    where
+      go : (b : Bool) → P (cond b noPair (own-card .pair))
+      go true = none
+      go false = old
+
+-- The pairs that a conversion leaves are those that stood there.
+pub widened-pairs : (P : ℕ → Pair → Type 0) → ((j : ℕ) → P j noPair) → (cs : Cards) → ((j : ℕ) → P j (getD (cs .cards) j (noCard V1) .pair)) → (j : ℕ)
+    → P j (getD (widenedCards cs .cards) j (noCard V2) .pair)
+widened-pairs P nothing cs b j = go (cases (ltb j (length (cs .cards))))
+  where
+    go : (ltb j (length (cs .cards)) ≡ true) ⊎ (ltb j (length (cs .cards)) ≡ false) → P j (getD (widenedCards cs .cards) j (noCard V2) .pair)
+    go (inl h) = subst (λ (d : Card). P j (d .pair)) (sym (getD-map (cs .cards) j (ltb-true j (length (cs .cards)) h))) (b j)
+    go (inr h) =
+        let past = ltb-false j (length (cs .cards)) h in
+        let long = length-map (cs .cards) widened in
+        subst (λ (d : Card). P j (d .pair)) (sym (List·getD-eq-default (widenedCards cs .cards) (noCard V2) (omega arith))) (nothing j)
 
 -- ---- a request
 

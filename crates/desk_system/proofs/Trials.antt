@@ -20,12 +20,12 @@ use Rattle.redo_log.specs.Log.{shaped, lastBegun, opened, follows, total, start
 use Rattle.redo_log.specs.Append.{stored, puts, lineBytes, stores, appended}
 use Rattle.redo_log_claims.specs.Claims.{appendedAll}
 use Rattle.redo_recovery_model.specs.Recovery.{due, recoverySent, recoveryStep, recovering, recovered}
-use Rattle.lock_queue.specs.Queue.{stands, firstPlace}
+use Rattle.lock_queue.specs.Queue.{stands, firstPlace, noExclusive, holdsAt, holds}
 use Rattle.lock_queue.specs.Good.{distinct, good}
 use Rattle.lock_queue.specs.Requests.{joined, removed, without, upgrading, queueJoined, answered, number, after, answer}
 use Rattle.desk_proposals.specs.Propose.{learnt, nextT, pairFor, proposed}
 use Rattle.desk_system.specs.System.{sendSteps, stepTo, systemAfter, byRules}
-use Rattle.desk_system.specs.Trials.{Story, LongStory, RulesNeeded}
+use Rattle.desk_system.specs.Trials.{Story, LongStory, ManyManagers, RulesNeeded}
 
 pub story-holds : Story
 unfolding byRules systemAfter stepTo learnt nextT pairFor proposed answered number after answer upgrading queueJoined firstPlace good distinct stands
@@ -41,6 +41,13 @@ unfolding byRules systemAfter stepTo sendSteps due recoverySent recoveryStep rec
     translationSound tailZero decode cardAt entryAt readEntry encode bodies pad entryBytes header shapeOk fresh replied raise entrySound commandBytes
     formed payload fieldsOf wellFormed all allFrom le toLe part splice tabulate concatMap every zeros ofBits ofInt wholeFloat half add sub mul div neg lt atMost
 long-story = record { rules = refl; version = refl; answers = refl; shows = refl; not-proposed = refl; not-exclusive = refl }
+
+pub many-managers : ManyManagers
+unfolding byRules systemAfter stepTo learnt nextT pairFor proposed answered number after answer upgrading queueJoined firstPlace good distinct stands
+    noExclusive holdsAt holds joined removed without serve serveBy stepped sound headerSound cardSound translationSound tailZero decode cardAt entryAt
+    readEntry encode bodies pad entryBytes header shapeOk fresh replied raise entrySound commandBytes formed payload fieldsOf wellFormed all allFrom le
+    toLe part splice tabulate concatMap every zeros
+many-managers = record { rules = refl; answers = refl; held-0 = refl; held-1 = refl }
 
 pub rules-needed : RulesNeeded
 unfolding byRules systemAfter stepTo learnt nextT pairFor proposed answered number after answer upgrading queueJoined firstPlace good distinct stands

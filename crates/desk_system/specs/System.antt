@@ -1,12 +1,14 @@
--- Desks by the rules, a lock queue for each card, and the store (docs/RULES.md, section 10): what there is, what can
--- happen, and when it is by the rules. Minuet: clients, lock managers and a disk with its guard. A request may be
--- late, lost or repeated: a step is the moment at which it arrives, if ever and however often; an answer is learnt by
--- a step of its own. Recoveries and a conversion are steps too.
+-- Desks by the rules, lock queues for each card, and the store (docs/RULES.md, section 10): what there is, what can
+-- happen, and when it is by the rules. Minuet: clients, lock managers and a disk with its guard. A card may have any
+-- number of queues, each with a manager of its own (003, section 3.5), and a desk may ask any of them or none. A
+-- request may be late, lost or repeated: a step is the moment at which it arrives, if ever and however often; an answer
+-- is learnt by a step of its own. Appends to redo logs, recoveries and a conversion are steps too, cut anywhere.
 -- Assumes nothing.
 use Prim.Native.Nat.{ℕ, _/_, _%_}
-use mathlib.Core.List.{List, [], _∷_}
+use mathlib.Core.List.{List, [], _∷_, _++_}
 use mathlib.Core.Bool.{Bool, true, cond, not, _&&_, _||_}
 use lib.Dec.{ltb, eqb}
+use lib.ListN.{drop}
 use Rattle.lists.specs.Parts.{Bytes}
 use Rattle.lists.specs.Search.{any}
 use Rattle.lists.specs.Table.{settled}
@@ -20,6 +22,9 @@ use Rattle.image.specs.Convert.{converted, convertNumber}
 use Rattle.store_model.specs.Serve.{serve}
 use Rattle.store_model.specs.Words.{Sent, Event, eventOf}
 use Rattle.store_model.specs.Claims.{SentBytes}
+use Rattle.redo_log.specs.Log.{LogRecord, records}
+use Rattle.redo_log.specs.Append.{appendNumber, appended}
+use Rattle.redo_log_claims.specs.Life.{renewed}
 use Rattle.redo_recovery_model.specs.Recovery.{Pairs, FitsPairs, recovered}
 use Rattle.lock_queue.specs.Queue.{State, emptyQueue}
 use Rattle.lock_queue.specs.declared.Waiting.{Waiting}
@@ -43,31 +48,37 @@ pub record Told : Type 0 where
   pub number : ℕ
   pub pair : Pair
 
--- The version and the bytes of the store, and demand 3's log: the events of all that reached it, latest first; each
--- card's queue; each desk and start (a number of 32 bits, as in a stamp) that was ever used; what each of them knows
--- of each card; and all proposals and answers so far, latest first.
+-- The version and the bytes of the store, and demand 3's log: the events of all that reached it, latest first; the
+-- queues, by card and manager; each desk and start (a number of 32 bits, as in a stamp) that was ever used; what each of them knows
+-- of each card; all proposals and answers so far, latest first; the bytes of each desk's redo log, by the number of
+-- the desk, and the records that were wholly appended to it since it last began.
 pub record System : Type 0 where
   pub version : Format
   pub image : List ℕ
   pub log : List Event
-  pub queues : ℕ → State
+  pub queues : ℕ → ℕ → State
   pub started : List ℕ
   pub known : ℕ → ℕ → Pair
   pub made : List Made
   pub told : List Told
+  pub redo : ℕ → List ℕ
+  pub whole : ℕ → List LogRecord
 
--- Rule 10.11: a fresh store of a version, of n cards with room c, empty queues over any places, and nothing known.
-abbrev pub opening : Format → ℕ → ℕ → (ℕ → List Waiting) → System
-opening v n c places =
+-- Rule 10.11: a fresh store of a version, of n cards with room c, empty queues over any places, nothing known, and these
+-- bytes as redo logs.
+abbrev pub opening : Format → ℕ → ℕ → (ℕ → ℕ → List Waiting) → (ℕ → List ℕ) → System
+opening v n c places logs =
     record {
       version = v;
       image = fresh v n c;
       log = [];
-      queues = λ k. emptyQueue (places k);
+      queues = λ k m. emptyQueue (places k m);
       started = [];
       known = λ who k. noPair;
       made = [];
       told = [];
+      redo = logs;
+      whole = λ d. records (logs d);
     }
 
 -- ---- what can happen
@@ -77,19 +88,24 @@ pub data Move : Type 0 where
   begin : (who : ℕ) → Move
   -- a desk proposes
   propose : (who card mode : ℕ) → Move
-  -- a request reaches the queue of a card, whose keeper lends so many places for it: an ask, a leave or a lapse,
-  -- whoever sent it
-  atQueue : (card lent : ℕ) (r : Request) → Move
-  -- a lock manager loses the queue of a card: it is empty again, over whatever places it now has
-  lose : (card : ℕ) (places : List Waiting) → Move
+  -- a request reaches a manager's queue of a card, who lends so many places for it: an ask, a leave or a lapse, whoever
+  -- sent it
+  atQueue : (card manager lent : ℕ) (r : Request) → Move
+  -- a manager loses its queue of a card: it is empty again, over whatever places it now has
+  lose : (card manager : ℕ) (places : List Waiting) → Move
   -- lent bytes, with a reply buffer, reach the store
   send : (s : Sent) → Move
-  -- a recovery from a log, with a pair for each card
-  recoverWith : (pairs : Pairs) (log : List ℕ) → Move
+  -- a recovery from a log, a desk's own or a copy of it or any bytes, with a pair for each card; the power fails before
+  -- the last so many of its writes
+  recoverWith : (pairs : Pairs) (log : List ℕ) (unsent : ℕ) → Move
   -- a conversion of the store, into so many lent bytes
   convert : (lent : ℕ) → Move
   -- a desk learns a pair of a card
   learn : (who card : ℕ) (pair : Pair) → Move
+  -- a desk appends a record to its log, and the power may fail after so many stores
+  appendTo : (desk budget : ℕ) (r : LogRecord) → Move
+  -- a desk's log begins again
+  renewLog : (desk : ℕ) → Move
 
 -- ---- when it is by the rules
 
@@ -123,23 +139,26 @@ abbrev pub allMade : Format → List Made → List Sent → Bool
 allMade v made [] = true
 allMade v made (s ∷ sent) = sendsMade v made s && allMade v made sent
 
--- The requests of a recovery, latest first. It is for version 1: an image of version 2 it leaves as it is.
-abbrev pub recoverySends : Format → Pairs → List ℕ → List ℕ → List Sent
-recoverySends V1 pairs log image = recovered pairs log image .sent
-recoverySends V2 pairs log image = []
+-- The requests of a recovery, latest first, but for the last `unsent` of them. It is for version 1: an image of version 2
+-- it leaves as it is.
+abbrev pub recoverySends : Format → Pairs → List ℕ → ℕ → List ℕ → List Sent
+recoverySends V1 pairs log unsent image = drop unsent (recovered pairs log image .sent)
+recoverySends V2 pairs log unsent image = []
 
 abbrev pub allowed : System → Move → Bool
 -- rule 10.9: a desk and start is used once
 allowed y (begin who) = ltb who 4294967296 && not (inUse y who)
 allowed y (propose who card mode) = inUse y who
-allowed y (atQueue card lent r) = asksMade (y .made) card r
-allowed y (lose card places) = true
+allowed y (atQueue card manager lent r) = asksMade (y .made) card r
+allowed y (lose card manager places) = true
 allowed y (send s) = sendsMade (y .version) (y .made) s
 -- rule 10.8: recovery's writes are commands like others
-allowed y (recoverWith pairs log) = allMade (y .version) (y .made) (recoverySends (y .version) pairs log (y .image))
+allowed y (recoverWith pairs log unsent) = allMade (y .version) (y .made) (recoverySends (y .version) pairs log unsent (y .image))
 allowed y (convert lent) = true
 -- rule 10.1: what a desk learns of a card was in an answer for that card, s and x together
 allowed y (learn who card pair) = inUse y who && wasTold (y .told) card pair
+allowed y (appendTo desk budget r) = true
+allowed y (renewLog desk) = true
 
 -- ---- what it changes
 
@@ -151,27 +170,64 @@ module _ {A : Type 0} where
 -- A system with one thing changed, the others as they were.
 abbrev pub withStore : Format → List ℕ → List Event → System → System
 withStore version image log y =
-    record { version = version; image = image; log = log; queues = y .queues; started = y .started; known = y .known; made = y .made; told = y .told }
+    record { version = version; image = image; log = log; queues = y .queues; started = y .started; known = y .known; made = y .made; told = y .told; redo = y .redo; whole = y .whole }
 
-abbrev pub withQueue : ℕ → State → System → System
-withQueue card q y =
-    record { version = y .version; image = y .image; log = y .log; queues = with card q (y .queues); started = y .started; known = y .known; made = y .made; told = y .told }
+abbrev pub withQueue : ℕ → ℕ → State → System → System
+withQueue card manager q y =
+    record {
+      version = y .version;
+      image = y .image;
+      log = y .log;
+      queues = with card (with manager q (y .queues card)) (y .queues);
+      started = y .started;
+      known = y .known;
+      made = y .made;
+      told = y .told;
+      redo = y .redo;
+      whole = y .whole;
+    }
 
 abbrev pub withKnown : ℕ → (ℕ → Pair) → System → System
 withKnown who pairs y =
-    record { version = y .version; image = y .image; log = y .log; queues = y .queues; started = y .started; known = with who pairs (y .known); made = y .made; told = y .told }
+    record {
+      version = y .version;
+      image = y .image;
+      log = y .log;
+      queues = y .queues;
+      started = y .started;
+      known = with who pairs (y .known);
+      made = y .made;
+      told = y .told;
+      redo = y .redo;
+      whole = y .whole;
+    }
 
 abbrev pub withStart : ℕ → System → System
 withStart who y =
-    record { version = y .version; image = y .image; log = y .log; queues = y .queues; started = who ∷ y .started; known = y .known; made = y .made; told = y .told }
+    record { version = y .version; image = y .image; log = y .log; queues = y .queues; started = who ∷ y .started; known = y .known; made = y .made; told = y .told; redo = y .redo; whole = y .whole }
 
 abbrev pub withMade : Made → System → System
 withMade m y =
-    record { version = y .version; image = y .image; log = y .log; queues = y .queues; started = y .started; known = y .known; made = m ∷ y .made; told = y .told }
+    record { version = y .version; image = y .image; log = y .log; queues = y .queues; started = y .started; known = y .known; made = m ∷ y .made; told = y .told; redo = y .redo; whole = y .whole }
 
 abbrev pub withTold : Told → System → System
 withTold t y =
-    record { version = y .version; image = y .image; log = y .log; queues = y .queues; started = y .started; known = y .known; made = y .made; told = t ∷ y .told }
+    record { version = y .version; image = y .image; log = y .log; queues = y .queues; started = y .started; known = y .known; made = y .made; told = t ∷ y .told; redo = y .redo; whole = y .whole }
+
+abbrev pub withLog : ℕ → List ℕ → List LogRecord → System → System
+withLog desk log read y =
+    record {
+      version = y .version;
+      image = y .image;
+      log = y .log;
+      queues = y .queues;
+      started = y .started;
+      known = y .known;
+      made = y .made;
+      told = y .told;
+      redo = with desk log (y .redo);
+      whole = with desk read (y .whole);
+    }
 
 -- What a desk and start knows of a card, as the operations `learn` and `propose` take it; and that it now knows this
 -- pair of the card.
@@ -181,11 +237,11 @@ knows y who card = record { desk = who / 65536; start = who % 65536; pair = y .k
 abbrev pub nowKnows : ℕ → ℕ → Pair → System → System
 nowKnows who card pair y = withKnown who (with card pair (y .known who)) y
 
--- A request reaches the queue of a card, which answers as a queue of `lent` places does.
-abbrev pub queueStep : ℕ → System → ℕ → Request → System
-queueStep lent y card r =
-    withTold (record { card = card; number = answer lent (y .queues card) r .number; pair = answer lent (y .queues card) r .largest })
-    (withQueue card (after lent (y .queues card) r) y)
+-- A request reaches a manager's queue of a card, which answers as a queue of `lent` places does.
+abbrev pub queueStep : ℕ → System → ℕ → ℕ → Request → System
+queueStep lent y card manager r =
+    withTold (record { card = card; number = answer lent (y .queues card manager) r .number; pair = answer lent (y .queues card manager) r .largest })
+    (withQueue card manager (after lent (y .queues card manager) r) y)
 
 -- A request reaches the store, which answers what `serve` answers, and that is what the operation `answer` does. Its
 -- event joins the log.
@@ -220,14 +276,19 @@ stepTo y (propose who card mode) =
     (withMade (record { card = card; mode = mode; pair = proposed (knows y who card) mode .pair })
     (nowKnows who card (proposed (knows y who card) mode .known .pair) y))
     y
-stepTo y (atQueue card lent r) = queueStep lent y card r
-stepTo y (lose card places) = withQueue card (emptyQueue places) y
+stepTo y (atQueue card manager lent r) = queueStep lent y card manager r
+stepTo y (lose card manager places) = withQueue card manager (emptyQueue places) y
 stepTo y (send s) = sendStep y s
 -- rule 11.18
-stepTo y (recoverWith pairs log) = sendSteps y (recoverySends (y .version) pairs log (y .image))
+stepTo y (recoverWith pairs log unsent) = sendSteps y (recoverySends (y .version) pairs log unsent (y .image))
 stepTo y (convert lent) = convertStep (y .version) lent y
 -- rule 10.2
 stepTo y (learn who card pair) = nowKnows who card (learnt (knows y who card) pair .pair) y
+-- rules 11.11 and 11.12: the stores that are made; the record is wholly appended if the answer is 0
+stepTo y (appendTo desk budget r) =
+    withLog desk (appended budget (y .redo desk) r) (settled (appendNumber budget (y .redo desk) r) (y .whole desk ++ r ∷ []) (y .whole desk)) y
+-- rule 11.27
+stepTo y (renewLog desk) = withLog desk (renewed (y .redo desk)) [] y
 
 -- ---- runs: steps in the order in which they happen
 
@@ -240,14 +301,16 @@ unfoldable pub byRules : System → List Move → Bool
 byRules y [] = true
 byRules y (s ∷ steps) = allowed y s && byRules (stepTo y s) steps
 
--- What is sent is bytes, and stamps that a recovery is given fit in 64 bits.
+-- What is sent and appended is bytes, and stamps that a recovery is given fit in 64 bits.
 abbrev pub Fits : Move → Type 0
 Fits (send s) = SentBytes s
-Fits (recoverWith pairs log) = FitsPairs pairs × Bytes log
+Fits (recoverWith pairs log unsent) = FitsPairs pairs × Bytes log
+Fits (appendTo desk budget r) = Bytes (r .body)
+Fits (renewLog desk) = Unit {0}
 Fits (begin who) = Unit {0}
 Fits (propose who card mode) = Unit {0}
-Fits (atQueue card lent r) = Unit {0}
-Fits (lose card places) = Unit {0}
+Fits (atQueue card manager lent r) = Unit {0}
+Fits (lose card manager places) = Unit {0}
 Fits (convert lent) = Unit {0}
 Fits (learn who card pair) = Unit {0}
 

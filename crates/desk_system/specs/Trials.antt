@@ -10,7 +10,7 @@ use lib.Ieee.{binary64, ofBits}
 use Rattle.formats.specs.Format.{V1, V2}
 use Rattle.stamps.specs.Stamp.{stamp, shared, exclusive, noPair}
 use Rattle.stamps.specs.declared.Pair.{Pair}
-use Rattle.lock_queue.specs.Queue.{noWaiting}
+use Rattle.lock_queue.specs.Queue.{noWaiting, standing, holds}
 use Rattle.lock_queue.specs.Requests.{asks, leaves, lapses}
 use Rattle.lock_queue.specs.declared.LeaseExpiry.{LeaseExpiry}
 use Rattle.lock_queue.specs.declared.Waiting.{Waiting}
@@ -45,7 +45,7 @@ use Rattle.desk_system.specs.System.{
 }
 
 -- Desks 1, 2 and 3, each with start 0, and desk 2 with start 1; a store with one card of room 16, and queues of two
--- places.
+-- places; but for one story every card has one manager, 0.
 abbrev pub deskOne : ℕ
 deskOne = stamp 0 1 0
 
@@ -58,18 +58,22 @@ deskTwoAgain = stamp 0 2 1
 abbrev pub deskThree : ℕ
 deskThree = stamp 0 3 0
 
-abbrev pub twoPlaces : ℕ → List Waiting
-twoPlaces k = noWaiting ∷ noWaiting ∷ []
+abbrev pub twoPlaces : ℕ → ℕ → List Waiting
+twoPlaces k m = noWaiting ∷ noWaiting ∷ []
+
+-- Each desk's redo log is empty, with 64 bytes for bodies.
+abbrev pub blankLogs : ℕ → List ℕ
+blankLogs d = emptyLog 64
 
 -- An ask and a leave at a queue of two places.
 abbrev pub ask : ℕ → Waiting → Move
-ask card new = atQueue card 2 (asks new)
+ask card new = atQueue card 0 2 (asks new)
 
 abbrev pub leave : ℕ → ℕ → Move
-leave card desk = atQueue card 2 (leaves desk)
+leave card desk = atQueue card 0 2 (leaves desk)
 
 abbrev pub singleCard : System
-singleCard = opening V1 1 16 twoPlaces
+singleCard = opening V1 1 16 twoPlaces blankLogs
 
 abbrev pub waits : ℕ → ℕ → ℕ → Waiting
 waits mode s x = record { mode = mode; pair = pair s x }
@@ -119,7 +123,7 @@ story =
     ∷ send (record { command = 1 ∷ 2 ∷ 0 ∷ []; lent = [] })
     ∷ send (writeOriginal (stamp 0 1 0) (stamp 1 2 0) text205)
     -- the queue is lost; desk 2 starts again, knows nothing and is let in, but the guard is not taken in
-    ∷ lose 0 (noWaiting ∷ noWaiting ∷ [])
+    ∷ lose 0 0 (noWaiting ∷ noWaiting ∷ [])
     ∷ begin deskTwoAgain
     ∷ propose deskTwoAgain 0 exclusive
     ∷ ask 0 (waits exclusive 0 (stamp 0 2 1))
@@ -200,7 +204,7 @@ send2 act language s x edition text lent =
             mode = exclusive;
             language = language;
             card = 0;
-            pair = pair s x;
+            verifier = pair s x;
             opened = noPair;
             expected = record { desk = 0; transaction = 0 };
             next = record { desk = 0; transaction = 0 };
@@ -217,29 +221,29 @@ longStory =
     ∷ begin deskTwo
     -- desk 1 asks exclusive under (0, 0.1.0) and recovers under it, twice
     ∷ propose deskOne 0 exclusive
-    ∷ atQueue 0 2 (asks (waits exclusive 0 (stamp 0 1 0)))
-    ∷ recoverWith (pairsFor 0 (stamp 0 1 0)) committed
-    ∷ recoverWith (pairsFor 0 (stamp 0 1 0)) committed
+    ∷ atQueue 0 0 2 (asks (waits exclusive 0 (stamp 0 1 0)))
+    ∷ recoverWith (pairsFor 0 (stamp 0 1 0)) committed 0
+    ∷ recoverWith (pairsFor 0 (stamp 0 1 0)) committed 0
     -- no log at all, and no pair: nothing is sent, or what is malformed
-    ∷ recoverWith (pairsFor 0 0) []
-    ∷ recoverWith (pairsFor 0 0) committed
+    ∷ recoverWith (pairsFor 0 0) [] 0
+    ∷ recoverWith (pairsFor 0 0) committed 0
     -- a desk that never started leaves; desk 1 lapses: out of range, not yet, over
-    ∷ atQueue 0 2 (leaves deskThree)
-    ∷ atQueue 0 2 (lapses (expiry 1 0 0))
-    ∷ atQueue 0 2 (lapses (expiry 1 0x3ff0_0000_0000_0000 0))
-    ∷ atQueue 0 2 (lapses (expiry 1 0x3ff0_0000_0000_0000 0x3ff0_0000_0000_0000))
+    ∷ atQueue 0 0 2 (leaves deskThree)
+    ∷ atQueue 0 0 2 (lapses (expiry 1 0 0))
+    ∷ atQueue 0 0 2 (lapses (expiry 1 0x3ff0_0000_0000_0000 0))
+    ∷ atQueue 0 0 2 (lapses (expiry 1 0x3ff0_0000_0000_0000 0x3ff0_0000_0000_0000))
     -- the queue is lost and begins again with three places, then with 33, which are too many
-    ∷ lose 0 (replicate 3 noWaiting)
-    ∷ atQueue 0 3 (asks (waits exclusive 0 (stamp 0 1 0)))
-    ∷ lose 0 (replicate 33 noWaiting)
-    ∷ atQueue 0 33 (asks (waits exclusive 0 (stamp 0 1 0)))
+    ∷ lose 0 0 (replicate 3 noWaiting)
+    ∷ atQueue 0 0 3 (asks (waits exclusive 0 (stamp 0 1 0)))
+    ∷ lose 0 0 (replicate 33 noWaiting)
+    ∷ atQueue 0 0 33 (asks (waits exclusive 0 (stamp 0 1 0)))
     -- desk 2 learns from the guard's reply, the store is converted, into too few bytes and into enough, and once more
     ∷ learn deskTwo 0 (pair 0 (stamp 0 1 0))
     ∷ convert 143
     ∷ convert 144
     ∷ convert 144
     -- a recovery leaves version 2 alone; desk 1's command comes late; desk 2 reads and writes in language 3
-    ∷ recoverWith (pairsFor 0 (stamp 0 1 0)) committed
+    ∷ recoverWith (pairsFor 0 (stamp 0 1 0)) committed 0
     ∷ propose deskTwo 0 exclusive
     ∷ send (send2 1 0 0 (stamp 0 2 0) 0 [] (long 3))
     ∷ send (send2 3 0 0 (stamp 0 1 0) 0 text205 [])
@@ -271,9 +275,56 @@ pub record LongStory : Type 0 where
   pub shows :
       map (λ (e : Event). take (e .answer .length) (e .reply)) (reverse (systemAfter singleCard longStory .log)) ≡ [] ∷ [] ∷ [] ∷ text205 ∷ [] ∷ [] ∷ []
   -- a recovery under a pair that nobody proposed is not by the rules, nor under one that was proposed shared
-  pub not-proposed : allowed (systemAfter singleCard (begin deskOne ∷ [])) (recoverWith (pairsFor 0 (stamp 0 1 0)) committed) ≡ false
+  pub not-proposed : allowed (systemAfter singleCard (begin deskOne ∷ [])) (recoverWith (pairsFor 0 (stamp 0 1 0)) committed 0) ≡ false
   pub not-exclusive :
-      allowed (systemAfter singleCard (begin deskOne ∷ propose deskOne 0 shared ∷ [])) (recoverWith (pairsFor (stamp 0 1 0) (stamp 0 1 0)) committed) ≡ false
+      allowed (systemAfter singleCard (begin deskOne ∷ propose deskOne 0 shared ∷ [])) (recoverWith (pairsFor (stamp 0 1 0) (stamp 0 1 0)) committed 0) ≡ false
+
+-- ---- managers that do not agree
+
+-- A request at a manager's queue of card 0.
+abbrev pub askOf : ℕ → Waiting → Move
+askOf manager new = atQueue 0 manager 2 (asks new)
+
+-- Desks 1 and 2 know nothing, and each is granted the lock, exclusive, by a manager of its own; desk 3 asks nobody. All
+-- three write card 0. Then manager 1 loses its queue, and desk 1 asks it too, under its old pair.
+abbrev pub manyManagers : List Move
+manyManagers =
+    begin deskOne
+    ∷ begin deskTwo
+    ∷ begin deskThree
+    ∷ propose deskOne 0 exclusive
+    ∷ propose deskTwo 0 exclusive
+    ∷ propose deskThree 0 exclusive
+    ∷ askOf 0 (waits exclusive 0 (stamp 0 1 0))
+    ∷ askOf 1 (waits exclusive 0 (stamp 0 2 0))
+    ∷ send (writeOriginal 0 (stamp 0 1 0) text205)
+    ∷ send (writeOriginal 0 (stamp 0 2 0) text401)
+    -- desk 1 still holds at its manager, but its session is over
+    ∷ send (writeOriginal 0 (stamp 0 1 0) text205)
+    ∷ send (writeOriginal 0 (stamp 0 3 0) text205)
+    ∷ send (writeOriginal 0 (stamp 0 2 0) text401)
+    ∷ lose 0 1 (noWaiting ∷ noWaiting ∷ [])
+    ∷ askOf 1 (waits exclusive 0 (stamp 0 1 0))
+    -- what one manager tells is learnt as what another does
+    ∷ learn deskOne 0 (pair 0 (stamp 0 2 0))
+    ∷ []
+
+-- Rule 10.23: both desks hold, each by its manager; the guard keeps their sessions apart.
+pub record ManyManagers : Type 0 where
+  pub rules : byRules singleCard manyManagers ≡ true
+  pub answers :
+      reverse (systemAfter singleCard manyManagers .told)
+      ≡ heard 0 0 (stamp 0 1 0)
+      ∷ heard 0 0 (stamp 0 2 0)
+      ∷ heard 0 0 (stamp 0 1 0)
+      ∷ heard 0 0 (stamp 0 2 0)
+      ∷ heard 3 0 (stamp 0 2 0)
+      ∷ heard 0 0 (stamp 0 3 0)
+      ∷ heard 3 0 (stamp 0 3 0)
+      ∷ heard 0 0 (stamp 0 1 0)
+      ∷ []
+  pub held-0 : holds deskOne (standing (systemAfter singleCard manyManagers .queues 0 0)) ≡ true
+  pub held-1 : holds deskTwo (standing (systemAfter singleCard (take 13 manyManagers) .queues 0 1)) ≡ true
 
 -- ---- one rule broken
 
@@ -376,7 +427,7 @@ pub record RulesNeeded : Type 0 where
       BrokenBy (oneWrites ++ (twoReads ++ aboveElsewhere)) (send (writeOriginal (stamp 0 3 0) (stamp 0 1 0) text401)) []
   -- rule 10.8: an ask under a pair that nobody proposed, at a queue that was just lost: it is told, and learnt
   pub never-proposed-ask :
-      BrokenBy (threeAsks ++ (begin deskOne ∷ begin deskTwo ∷ lose 0 (noWaiting ∷ noWaiting ∷ []) ∷ []))
+      BrokenBy (threeAsks ++ (begin deskOne ∷ begin deskTwo ∷ lose 0 0 (noWaiting ∷ noWaiting ∷ []) ∷ []))
       (ask 0 (waits exclusive 0 (stamp 0 1 0)))
       (learn deskTwo 0 (pair 0 (stamp 0 1 0)) ∷ twoBelow ++ oneAbove)
   -- rule 10.1: desk 2 learns an x without the s beside it; a pair that was told for another card
@@ -407,5 +458,5 @@ pub record RulesNeeded : Type 0 where
       (twoLearnsAt (send (readUnder (stamp 0 2 0) 0)) ++ oneFarAbove)
   pub queued :
       BrokenWith []
-      (withQueue 0 (record { places = noWaiting ∷ noWaiting ∷ []; count = 0; largest = pair 0 (stamp 0 1 0) }))
-      (twoLearnsAt (ask 0 (waits shared (stamp 0 2 0) 0)) ++ (lose 0 (noWaiting ∷ noWaiting ∷ []) ∷ oneFarAbove))
+      (withQueue 0 0 (record { places = noWaiting ∷ noWaiting ∷ []; count = 0; largest = pair 0 (stamp 0 1 0) }))
+      (twoLearnsAt (ask 0 (waits shared (stamp 0 2 0) 0)) ++ (lose 0 0 (noWaiting ∷ noWaiting ∷ []) ∷ oneFarAbove))

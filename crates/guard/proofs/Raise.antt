@@ -42,7 +42,7 @@ still-empty false n m x y h k = k
 
 -- The update pair is one of the two that were sent.
 fits-update : (c : Command) → FitsCommand c → FitsPair (update c)
-fits-update c g = picked FitsPair (eqb (c .opened .s) 0 && eqb (c .opened .x) 0) (λ w. g .pair) (λ w. g .opened)
+fits-update c g = picked FitsPair (eqb (c .opened .s) 0 && eqb (c .opened .x) 0) (λ w. g .verifier) (λ w. g .opened)
 
 module _ {e : Entry} {c : Command} {room lent : ℕ} (a : Accepted e c room lent) where
   abbrev rules : CommandRules c

@@ -113,15 +113,5 @@ pub fn reply(judged: Judged, c: Command) -> Answer
     if is_blank(judged.number) {
         return refusal(judged.number);
     }
-    let entry = judged.entry;
-    let pair = entry.pair;
-    let mark = entry.mark;
-    Answer {
-        number: judged.number,
-        pair,
-        mark,
-        edition: entry.edition,
-        from: entry.from,
-        length: length(judged, c),
-    }
+    inner::told(judged.number, judged.entry, length(judged, c))
 }

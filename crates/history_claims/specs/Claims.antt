@@ -15,9 +15,9 @@ use Rattle.commands.specs.Command.{original, translation}
 use Rattle.commands.specs.Bytes.{fieldsOf}
 use Rattle.guard.specs.Replies.{replied}
 use Rattle.image.specs.Layout.{shapeOk}
-use Rattle.image.specs.Image.{fresh, Card, Cards, decode}
+use Rattle.image.specs.Image.{Card, Cards, decode}
 use Rattle.store_model.specs.Serve.{entryOf, serve}
-use Rattle.store_model.specs.Words.{Sent, Event, imageAfter, traceOf, received}
+use Rattle.store_model.specs.Words.{Sent, Event, freshAfter, traceOf, received}
 use Rattle.store_model.specs.Claims.{AllBytes}
 use Rattle.history.specs.WorkedOut.{entryFrom, textFrom}
 use Rattle.history.specs.Engine.{overLimits, Deduced, guardRows, engineRows, deduced}
@@ -80,7 +80,7 @@ KeepsAccepted = (n c : ℕ) (sent : List Sent) → Keeping n c sent
 -- Requests to a fresh store and to the engine: one trace, with every number, field and reply buffer, and one set of cards, with every text.
 pub record EqualSoFar (n c : ℕ) (sent : List Sent) : Type 0 where
   pub trace : engineTrace n c sent ≡ traceOf V1 n c sent
-  pub cards : cardsShown n c (keptAfter n c (reverse sent)) ≡ decode V1 (imageAfter V1 (fresh V1 n c) (reverse sent))
+  pub cards : cardsShown n c (keptAfter n c (reverse sent)) ≡ decode V1 (freshAfter V1 n c sent)
 
 abbrev pub EqualsGuard : Type 0
 EqualsGuard =
@@ -90,10 +90,10 @@ EqualsGuard =
 
 -- A request that is the first to get 22: the store, sent the same, accepts it, and 22 replies the entry that the store has for its card.
 pub record FirstRefusal (n c : ℕ) (sent : List Sent) (s : Sent) : Type 0 where
-  pub accepted-there : serve V1 (imageAfter V1 (fresh V1 n c) (reverse sent)) (s .command) (s .lent) .answer .number ≡ 0
+  pub accepted-there : serve V1 (freshAfter V1 n c sent) (s .command) (s .lent) .answer .number ≡ 0
   pub replies-stored :
       deduced n c (keptAfter n c (reverse sent)) (s .command) (s .lent) .answer
-      ≡ replied HISTORY-FULL (entryOf V1 (decode V1 (imageAfter V1 (fresh V1 n c) (reverse sent))) (fieldsOf V1 (s .command))) (fieldsOf V1 (s .command))
+      ≡ replied HISTORY-FULL (entryOf V1 (decode V1 (freshAfter V1 n c sent)) (fieldsOf V1 (s .command))) (fieldsOf V1 (s .command))
 
 abbrev pub FirstFull : Type 0
 FirstFull =

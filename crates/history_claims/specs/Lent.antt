@@ -9,8 +9,8 @@ use lib.ListN.{length}
 use Rattle.formats.specs.Format.{V1}
 use Rattle.lists.specs.Search.{none}
 use Rattle.image.specs.Layout.{shapeOk}
-use Rattle.image.specs.Image.{fresh, decode}
-use Rattle.store_model.specs.Words.{Sent, Event, imageAfter, traceOf, received}
+use Rattle.image.specs.Image.{decode}
+use Rattle.store_model.specs.Words.{Sent, Event, freshAfter, traceOf, received}
 use Rattle.store_model.specs.Claims.{AllBytes}
 use Rattle.history.specs.Engine.{deduced}
 use Rattle.history.specs.Lent.{historySize, keptIn, HistoryOutcome, historyServe}
@@ -68,7 +68,7 @@ pub record LentEqual (n c : ℕ) (bytes : List ℕ) (sent : List Sent) : Type 0 
   pub trace : eventsOver n c bytes (reverse sent) ≡ traceOf V1 n c sent
   pub cards :
       cardsShown n c (keptIn (heldAfter n c bytes (reverse sent) .bytes) (heldAfter n c bytes (reverse sent) .used))
-      ≡ decode V1 (imageAfter V1 (fresh V1 n c) (reverse sent))
+      ≡ decode V1 (freshAfter V1 n c sent)
 
 abbrev pub LentEqualsGuard : Type 0
 LentEqualsGuard =

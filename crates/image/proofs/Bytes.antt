@@ -3,7 +3,8 @@ use Prim.Native.Nat.{ℕ, suc, _+_, _-_, _≤_, _<_}
 use native.Mathlib.Omega.{arith}
 use mathlib.Core.Path.{_≡_, refl, ap, _∙_}
 use mathlib.Core.List.{List, _∷_, []}
-use mathlib.Core.Bool.{Bool, true, false}
+use mathlib.Core.Logic.{_⊎_, inl, inr}
+use mathlib.Core.Bool.{Bool, true, false, _&&_}
 use borrow.Author.Tests.{ne-eqb, leb-true, eqb-true}
 use lib.Dec.{eqb}
 use lib.ListN.{length, take, drop}
@@ -11,7 +12,8 @@ use Rattle.lists.specs.Parts.{part, zeros, every}
 use Rattle.lists.specs.Le.{field}
 use Rattle.lists.specs.Table.{all, allFrom}
 use Rattle.lists.proofs.Every.{every-fail}
-use Rattle.lists.proofs.Tests.{all-out, all-fails-at}
+use Rattle.lists.proofs.Tests.{all-out, all-fails-at, and-fails}
+use Rattle.stamps.specs.Stamp.{markWhole}
 use Rattle.guard.specs.Entry.{entrySound}
 use Rattle.guard.specs.declared.Entry.{Entry}
 use Rattle.formats.specs.Format.{Format, translations, entrySize}
@@ -19,6 +21,8 @@ use Rattle.image.specs.Layout.{sides, sizeOf, headerSize, bodyPlace, ent
 use Rattle.image.specs.Bytes.{countOf, roomOf, entryAt}
 use Rattle.image.specs.Image.{headerSound, tailZero, translationSound, cardSound, sound}
 use Rattle.formats.proofs.Numbers.{numbers}
+use Rattle.image.specs.inner.Tests.{frontTests}
+use Rattle.image.proofs.Seen.{mark-fails}
 use Rattle.image.proofs.Parts.{cut}
 use Rattle.image.proofs.Shape.{body-within, entry-within}
 
@@ -59,14 +63,23 @@ module _ (f : Format) (image : List ℕ) where
   unfolding translationSound
   translation-holds k t e = rw e
 
-  -- A card fails by its entry, by either of its blanks, and by its original's tail; without them its translations decide.
+  -- A card fails by its entry, by its mark with the zero between its numbers, by what stands behind them, and by its original's tail; without them its translations decide.
   pub entry-fails : (k : ℕ) → entrySound (roomOf image) (entryAt f image k 0) ≡ false → cardSound f image k ≡ false
   unfolding cardSound
   entry-fails k e = all-fails-at _ 2 (every-fail (translationSound f image k) (translations f) 0 (numbers f .some) (translation-fails k 0 e))
 
-  pub field-fails : (k : ℕ) → eqb (field (entryPlace f k + 18) 2 image) 0 ≡ false → cardSound f image k ≡ false
+  field-fails : (k : ℕ) → eqb (field (entryPlace f k + 18) 2 image) 0 ≡ false → cardSound f image k ≡ false
   unfolding cardSound
   field-fails k e = all-fails-at _ 0 e
+
+  pub mark-decides : (k : ℕ) → frontTests (roomOf image) (entryAt f image k 0) ≡ true →
+      (markWhole (entryAt f image k 0 .mark) && eqb (field (entryPlace f k + 18) 2 image) 0) ≡ false → cardSound f image k ≡ false
+  mark-decides k h e = go (and-fails (markWhole (entryAt f image k 0 .mark)) (eqb (field (entryPlace f k + 18) 2 image) 0) e)
+    where
+      go : (markWhole (entryAt f image k 0 .mark) ≡ false) ⊎ ((markWhole (entryAt f image k 0 .mark) ≡ true) × (eqb (field (entryPlace f k + 18) 2 image) 0 ≡ false)) →
+          cardSound f image k ≡ false
+      go (inl m) = entry-fails k (mark-fails (roomOf image) (entryAt f image k 0) h m)
+      go (inr z) = field-fails k (z .1)
 
   pub blank-fails : (k : ℕ) → zeros (part (entryPlace f k + entryEnd f) (entrySize f - entryEnd f) image) ≡ false → cardSound f image k ≡ false
   unfolding cardSound

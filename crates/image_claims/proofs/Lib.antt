@@ -2,3 +2,4 @@ pub mod Claims
 pub mod Cases
 pub mod Conversion
 pub mod Layouts
+pub mod Uses

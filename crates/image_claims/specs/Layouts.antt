@@ -96,7 +96,7 @@ numbers205 =
       mode = exclusive;
       language = 0;
       card = 0;
-      pair = record { s = stamp 1 1 0; x = stamp 1 1 0 };
+      verifier = record { s = stamp 1 1 0; x = stamp 1 1 0 };
       opened = noPair;
       expected = noMark;
       next = noMark;
@@ -111,7 +111,7 @@ numbersNew =
       mode = shared;
       language = 0;
       card = 0;
-      pair = record { s = 0; x = stamp 1 1 0 };
+      verifier = record { s = 0; x = stamp 1 1 0 };
       opened = record { s = stamp 2 2 0; x = stamp 1 1 0 };
       expected = noMark;
       next = noMark;
@@ -126,7 +126,7 @@ numbers402 =
       mode = exclusive;
       language = 1;
       card = 0;
-      pair = record { s = stamp 1 1 0; x = stamp 1 1 0 };
+      verifier = record { s = stamp 1 1 0; x = stamp 1 1 0 };
       opened = noPair;
       expected = record { desk = 1; transaction = 7 };
       next = record { desk = 1; transaction = 7 };
@@ -145,7 +145,7 @@ pub record LayoutCases : Type 0 where
         mode = 2;
         language = 0;
         card = 1027;
-        pair = record { s = 867798387104613893; x = 1446519769809227277 };
+        verifier = record { s = 867798387104613893; x = 1446519769809227277 };
         opened = record { s = 2025241152513840661; x = 2603962535218454045 };
         expected = record { desk = 9765; transaction = 707340327 };
         next = record { desk = 11307; transaction = 808398381 };
@@ -159,7 +159,7 @@ pub record LayoutCases : Type 0 where
         mode = 2;
         language = 21;
         card = 1027;
-        pair = record { s = 867798387104613893; x = 1446519769809227277 };
+        verifier = record { s = 867798387104613893; x = 1446519769809227277 };
         opened = record { s = 4340126683332294197; x = 4918848066036907581 };
         expected = record { desk = 9765; transaction = 707340327 };
         next = record { desk = 11307; transaction = 808398381 };

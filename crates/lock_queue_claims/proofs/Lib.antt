@@ -6,4 +6,6 @@ pub mod Clock
 pub mod Leases
 pub mod LeaseCases
 pub mod Answers
+pub mod Stability
+pub mod StabilityCases
 pub mod Uses

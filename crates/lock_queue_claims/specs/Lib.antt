@@ -5,3 +5,5 @@ pub mod Trials
 pub mod Leases
 pub mod LeaseCases
 pub mod Answers
+pub mod Stability
+pub mod StabilityCases

@@ -61,7 +61,8 @@ use Rattle.lock_queue_lent.proofs.inner.places.store.Symbol.{name as #s
 abbrev entry : Ty
 entry = pointee (T.the-row .written)
 
--- the locals: the result, places, kept, the request, the places by value, the outcome, the slice as it is shared and its pointer before it, its length, and the slice as it is passed on and its pointer before it
+-- the locals: the result, places, kept, the request, the places by value, the outcome, the slice as it is shared and its
+-- pointer before it, its length, and the slice as it is passed on and its pointer before it
 abbrev pub function : Name → Ty → Fn
 function judge request = record {
   lifetimes = 1;

@@ -10,7 +10,7 @@ use lib.ListN.{length, take, getD}
 use lib.Seq.{take-all, take-nil}
 use lib.Dec.{T, ltb}
 use Rattle.lists.specs.Parts.{Bytes}
-use Rattle.lists.specs.Table.{listed}
+use Rattle.lists.specs.Table.{listed, settled}
 use Rattle.lists.proofs.Tests.{cases, and-left}
 use Rattle.lists.proofs.Table.{given, unapplied, first-all}
 use Rattle.redo_log.specs.Log.{LogRecord, bodiesFrom, mostRecords, mostLog, recordCount, goodLog, logNumber, records}
@@ -112,6 +112,21 @@ module _ (k : ℕ) (log : List ℕ) (r : LogRecord) where
 
 pub appends : Appends
 appends k log r = claim k log r (accepts log r) (lacks log r) (ltb k (length (r .body) + 12)) refl refl refl
+
+-- A good log stays good, and reads back with the record exactly where the answer is 0.
+pub read-after : (k : ℕ) (log : List ℕ) (r : LogRecord) → goodLog log ≡ true
+    → (goodLog (appended k log r) ≡ true) × (records (appended k log r) ≡ settled (appendNumber k log r) (records log ++ r ∷ []) (records log))
+read-after k log r g = go (accepts log r) (lacks log r) (ltb k (needed r)) refl refl refl
+  where
+    counts : (n : ℕ) → appendNumber k log r ≡ n → settled n (records log ++ r ∷ []) (records log) ≡ settled (appendNumber k log r) (records log ++ r ∷ []) (records log)
+    counts n e = ap (λ (m : ℕ). settled m (records log ++ r ∷ []) (records log)) (sym e)
+
+    go : (a f b : Bool) → accepts log r ≡ a → lacks log r ≡ f → ltb k (needed r) ≡ b
+        → (goodLog (appended k log r) ≡ true) × (records (appended k log r) ≡ settled (appendNumber k log r) (records log ++ r ∷ []) (records log))
+    go false f b p q t = let left = left-23 k log r p in (ap goodLog (left .1) ∙ g, ap records (left .1) ∙ counts 23 (left .0))
+    go true true b p q t = let left = left-24 k log r p q in (ap goodLog (left .1) ∙ g, ap records (left .1) ∙ counts 24 (left .0))
+    go true false true p q t = let left = left-26 k log r p q t in let now = appends k log r .cut (left .0) in (now .0, now .1 ∙ counts 26 (left .0))
+    go true false false p q t = let left = left-0 k log r p q t in let now = appends k log r .whole (left .0) in (now .0, now .1 ∙ counts 0 (left .0))
 
 -- A cut append's log was good.
 pub good-before : (k : ℕ) (log : List ℕ) (r : LogRecord) → appendNumber k log r ≡ 26 → goodLog log ≡ true

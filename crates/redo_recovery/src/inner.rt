@@ -145,7 +145,7 @@ fn write_of(pair: Pair, e: Entry, body: &[u8]) -> Command
         mode: stamps::EXCLUSIVE,
         language: 0,
         card: le::read_u16(body, 0),
-        pair: pair,
+        verifier: pair,
         opened: NO_PAIR,
         expected: mark,
         next: mark,
@@ -168,7 +168,7 @@ fn carry_out(image: &mut [u8], c: Command, text: &[u8]) -> u8
         return numbers::NO_CARD;
     }
     let mut none = [0u8; 0];
-    let a = store::inner::step::carry(formats::V1, image, c, text, &mut none);
+    let a = store::inner::step::carry(formats::V1, image, c, c.update(), text, &mut none);
     a.number
 }
 

@@ -66,7 +66,7 @@ fits-write pairs image r p ib b h =
       mode = lit< tt;
       language = lit< tt;
       card = le-part-bound 0 2 (r .body) b;
-      pair = record { s = p .s (recordCard r); x = p .x (recordCard r) };
+      verifier = record { s = p .s (recordCard r); x = p .x (recordCard r) };
       opened = record { s = lit< tt; x = lit< tt };
       expected = stored-fits image (recordCard r) ib .mark;
       next = stored-fits image (recordCard r) ib .mark;

@@ -1,9 +1,10 @@
 -- Theorems on recovery, used where their hypotheses only just hold: a log that is no log, other pairs in a second run,
 -- a cut in front of the last store. A stricter hypothesis or a sentence left out is noticed here. Assumes nothing.
 use Prim.Native.Nat.{ℕ, zero, suc, _<_}
+use native.Mathlib.Omega.{arith}
 use mathlib.Core.Path.{_≡_, refl}
 use mathlib.Core.List.{List, [], _∷_, _++_}
-use mathlib.Core.Bool.{true}
+use mathlib.Core.Bool.{true, false}
 use lib.Dec.{T, eqb, lit<}
 use lib.ListN.{getD}
 use Rattle.formats.specs.Format.{V1}
@@ -22,17 +23,19 @@ use Rattle.image.specs.Image.{bodies, encode, cardAt, decode, tailZero, transla
 use Rattle.store_model.specs.Words.{traceFrom, imageAfter}
 use Rattle.store_model.specs.Serve.{stepped, serveBy, serve}
 use Rattle.store_model.specs.Cases.{stamp1, stamp2, text205}
+use Rattle.image_claims.proofs.Uses.{nothing-numbered}
 use Rattle.store_model.proofs.ByTest.{bytes-by}
 use Rattle.redo_log.specs.Log.{LogRecord, shaped, lastBegun, opened, follows, total, startAt, recordAt, recordOk, goodLog, records}
 use Rattle.redo_log.specs.Append.{stored, puts, lineBytes, stores, appendNumber, appended}
 use Rattle.redo_log_claims.specs.Claims.{appendedAll, allStores, admittedOf, wholly, cutAfter, BytesOfRecords}
 use Rattle.redo_log_claims.specs.Cases.{beginOf, updateOf, commitOf, emptyLog}
 use Rattle.redo_recovery_model.specs.Recovery.{Pairs, FitsPairs, due, recoverySent, recoveryStep, recovering, recovered}
-use Rattle.redo_recovery_model.specs.Claims.{NoneRefused, Mixed, oneRecovery, neverAnswered, textIn, textOf}
+use Rattle.redo_recovery_model.specs.Claims.{NoneRefused, Mixed, oneRecovery, neverAnswered, textIn, textOf, dueBelow, Untouched}
 use Rattle.redo_recovery_model.specs.Cases.{pairs1, pairs2, blankImage}
 use Rattle.redo_recovery_model.proofs.Never.{recovery-never}
 use Rattle.redo_recovery_model.proofs.Sending.{demand3-mixed}
 use Rattle.redo_recovery_model.proofs.Texts.{twice, cut-recovers, cut-anywhere}
+use Rattle.redo_recovery_model.proofs.Versions.{no-recovery-2}
 
 -- ---- what the uses rest on, by computation
 
@@ -122,6 +125,27 @@ same-none = twice pairs1 pairs2 [] (1 ∷ []) fits1 fits2 (bytes-by [] tt) (byte
 
 never : none (eqb (recovered pairs1 after (1 ∷ []) .number)) neverAnswered ≡ true
 never = recovery-never pairs1 after (1 ∷ []) fits1 after-bytes (bytes-by (1 ∷ []) tt)
+
+-- ---- bytes whose header has not the number 1 (rule 11.22): none at all, with a bad log, an empty one, and one with an update due
+
+untouched : (log : List ℕ) → Untouched log [] (recovered pairs1 log [])
+untouched log = no-recovery-2 pairs1 log [] (λ e. absurd (omega (arith, nothing-numbered)))
+
+kept-bad : recovered pairs1 [] [] .image ≡ []
+kept-bad = untouched [] .kept
+
+no-log : (recovered pairs1 [] [] .number ≡ 23) × (recovered pairs1 [] [] .line ≡ 0)
+unfolding goodLog
+no-log = untouched [] .bad refl
+
+nothing-due : (recovered pairs1 before [] .number ≡ 0) × (recovered pairs1 before [] .line ≡ 0)
+unfolding due dueBelow records total recordAt le part tabulate
+nothing-due = untouched before .idle before-good refl
+
+first-due : (recovered pairs1 after [] .number ≡ 9) × (recovered pairs1 after [] .line ≡ 1)
+unfolding due dueBelow appendedAll appended stores lineBytes puts stored shaped lastBegun opened follows total startAt recordAt recordOk goodLog records
+    every all allFrom le toLe part splice tabulate
+first-due = untouched after .first refl 1 (lit< tt) refl refl
 
 -- ---- a cut one store before the end of an append (rule 11.13), and one anywhere (rules 11.14 and 11.21)
 

@@ -45,7 +45,7 @@ markedImage =
       mode = 2;
       language = 0;
       card = 0;
-      pair = record { s = 8590065664; x = 8590065664 };
+      verifier = record { s = 8590065664; x = 8590065664 };
       opened = noPair;
       expected = record { desk = 0; transaction = 0 };
       next = record { desk = 5; transaction = 7 };

@@ -26,12 +26,12 @@ use Rattle.image.proofs.Encode.{length-pad}
 use Rattle.image.proofs.Entry.{entryBytes-ext}
 use Rattle.image.proofs.Decode.{count-decode, room-decode, card-decode, view-at, entry-lies, body-lies, sideLength, side-fits, side-tail, places, entry-back, long, encode-decode}
 use Rattle.image.proofs.Put.{side-written, put-entry, put-text-entry}
-use Rattle.image.specs.inner.Write.{entryWith, overOld}
+use Rattle.image.specs.inner.Write.{stampsWith, originalWith, translationWith, entryWith, overOld}
 use Rattle.image.proofs.Written.{over-body}
-use Rattle.image.proofs.EntryWritten.{seenAfter, entry-written}
+use Rattle.image.proofs.EntryWritten.{seenAfter, entry-written, stamps-enough, original-enough, translation-enough}
 use Rattle.store_model.specs.Serve.{stepped}
 use Rattle.store_model.proofs.Stepped.{text-step, seen-named, seen-other}
-use Rattle.store.specs.inner.Carried.{bodyWritten, textWritten}
+use Rattle.store.specs.inner.Carried.{bodyWritten, textWritten, actWritten}
 use Rattle.store.proofs.Texts.{one-original, one-translation}
 
 -- ---- the card after an accepted command
@@ -148,7 +148,7 @@ module _ (f : Format) (image : List ℕ) (b : Bytes image) (holds : T (sound f i
         ∙ (rw (encode-decode f image b holds) at
         (put-entry f (decode f image) k exists after (rw (room-decode f image, card-decode f image k below) same)))
 
-    pub keeps : entryWith f (c .language) e (entryPlace f k) (textWritten f image c t) ≡ encode f (withCard k after (decode f image))
+    keeps : entryWith f (c .language) e (entryPlace f k) (textWritten f image c t) ≡ encode f (withCard k after (decode f image))
     unfolding textWritten
     keeps = go (writes original c) (writesTranslation c) refl refl
       where
@@ -173,6 +173,57 @@ module _ (f : Format) (image : List ℕ) (b : Bytes image) (holds : T (sound f i
             let own : writes (translation (c .language)) c ≡ true = rw (q, eq-eqb (c .language) (c .language) refl) in
             rw (p, q) (text-kept-entry (suc (c .language)) (omega arith) (bodies-new f card c t size listed (roomOf image) (suc (c .language)) (omega arith) own (only-language p)))
         go false false p q = rw (p, q) (entry-alone (bodies-kept f card c t size listed (roomOf image) (none p q)))
+
+    -- ---- the same where only what the command changes is written
+
+    module _ (l : List ℕ) (same : length l ≡ length image) (here : part (entryPlace f k) (entrySize f) l ≡ part (entryPlace f k) (entrySize f) image) where
+      stands : part (entryPlace f k) (entrySize f) l ≡ entryBytes f (λ (i : ℕ). view i card)
+      stands = here ∙ sym (entry-back f image b holds k below)
+
+      fits-in : entryPlace f k + entrySize f ≤ length l
+      fits-in = rw same (entry-lies f image holds k below)
+
+      with-original : writesTranslation c ≡ false → stampsWith e (entryPlace f k) (originalWith f e (entryPlace f k) l) ≡ entryWith f (c .language) e (entryPlace f k) l
+      unfolding raise
+      with-original q =
+          original-enough f (c .language) e (λ (i : ℕ). view i card) (entryPlace f k) l known fits-in stands
+          (ap (λ (x : Entry). x .from) raised-view ∙ rw q)
+          (ap (λ (x : Entry). x .translation) raised-view ∙ rw q)
+
+      with-translation : writes original c ≡ false → stampsWith e (entryPlace f k) (translationWith f (c .language) e (entryPlace f k) l) ≡ entryWith f (c .language) e (entryPlace f k) l
+      unfolding raise
+      with-translation p =
+          translation-enough f (c .language) e (λ (i : ℕ). view i card) (entryPlace f k) l known fits-in stands
+          (ap (λ (x : Entry). x .edition) raised-view ∙ rw p)
+          (ap (λ (x : Entry). x .original) raised-view ∙ rw p)
+
+      with-none : writes original c ≡ false → writesTranslation c ≡ false → stampsWith e (entryPlace f k) l ≡ entryWith f (c .language) e (entryPlace f k) l
+      unfolding raise
+      with-none p q =
+          stamps-enough f (c .language) e (λ (i : ℕ). view i card) (entryPlace f k) l known fits-in stands
+          (ap (λ (x : Entry). x .edition) raised-view ∙ rw p)
+          (ap (λ (x : Entry). x .original) raised-view ∙ rw p)
+          (ap (λ (x : Entry). x .from) raised-view ∙ rw q)
+          (ap (λ (x : Entry). x .translation) raised-view ∙ rw q)
+
+    kept-long : (side : ℕ) → side < sides f → length (bodyWritten f image k side t) ≡ length image
+    kept-long side within = length-splice (place side within) (pad (roomOf image) t) image (inside side within)
+
+    kept-here : (side : ℕ) → side < sides f → part (entryPlace f k) (entrySize f) (bodyWritten f image k side t) ≡ part (entryPlace f k) (entrySize f) image
+    kept-here side within = splice-before (place side within) (entryPlace f k) (entrySize f) (pad (roomOf image) t) image (omega (arith, inside side within)) (behind-entries side within)
+
+    pub keeps-parts : stampsWith e (entryPlace f k) (actWritten f image c e t) ≡ encode f (withCard k after (decode f image))
+    unfolding actWritten textWritten
+    keeps-parts = go (writes original c) (writesTranslation c) refl refl ∙ keeps
+      where
+        go : (x y : Bool) → writes original c ≡ x → writesTranslation c ≡ y →
+            stampsWith e (entryPlace f k) (actWritten f image c e t) ≡ entryWith f (c .language) e (entryPlace f k) (textWritten f image c t)
+        go true y p q =
+            let act = eqb-true (c .act) 3 p in
+            let none : writesTranslation c ≡ false = rw act in
+            rw p (with-original (bodyWritten f image k 0 t) (kept-long 0 (omega arith)) (kept-here 0 (omega arith)) none)
+        go false true p q = rw (p, q) (with-translation (bodyWritten f image k (suc (c .language)) t) (kept-long (suc (c .language)) (omega arith)) (kept-here (suc (c .language)) (omega arith)) p)
+        go false false p q = rw (p, q) (with-none image refl refl p q)
 
 -- A sound image has a whole header.
 pub header-in : (f : Format) (image : List ℕ) → sound f image ≡ true → headerSize ≤ length image
@@ -209,9 +260,12 @@ module _ (f : Format) (image : List ℕ) (s : sound f image ≡ true) (c : Comma
     pub original-room : (length t ≤ mostRoom) × (at + length t ≤ length image) × (at + e .original ≤ length image)
     original-room = side-room 0 (omega arith) place (one-original f image s c below known p)
 
-    pub written-original : {after : List ℕ} → after ≡ splice at (overOld (e .original) t) image → writes original c ≡ true → after ≡ textWritten f image c t
-    unfolding textWritten
-    written-original done h = rw h (side-over 0 (omega arith) place (one-original f image s c below known p) done)
+    pub written-original : (r : Entry) {x : Entry} {after last : List ℕ} → x ≡ r → after ≡ splice at (overOld (e .original) t) image →
+        last ≡ originalWith f x (entryPlace f (c .card)) after → writes original c ≡ true → last ≡ actWritten f image c r t
+    unfolding actWritten
+    written-original r {x} {after} same done more h =
+        rw h (more ∙ ap (λ (y : Entry). originalWith f y (entryPlace f (c .card)) after) same ∙ ap (originalWith f r (entryPlace f (c .card))) (side-over 0
+        (omega arith) place (one-original f image s c below known p) done))
 
   module _ {at : ℕ} (place : at ≡ bodyOf (c .language + 1)) where
     here : at ≡ bodyOf (suc (c .language))
@@ -220,10 +274,13 @@ module _ (f : Format) (image : List ℕ) (s : sound f image ≡ true) (c : Comma
     pub translation-room : (length t ≤ mostRoom) × (at + length t ≤ length image) × (at + e .translation ≤ length image)
     translation-room = side-room (suc (c .language)) (omega arith) here (one-translation f image s c below known p)
 
-    pub written-translation : {after : List ℕ} → after ≡ splice at (overOld (e .translation) t) image → writes original c ≡ false → writesTranslation c ≡ true → after ≡ textWritten f image c t
-    unfolding textWritten
-    written-translation done g h = rw (g, h) (side-over (suc (c .language)) (omega arith) here (one-translation f image s c below known p) done)
+    pub written-translation : (r : Entry) {x : Entry} {after last : List ℕ} → x ≡ r → after ≡ splice at (overOld (e .translation) t) image →
+        last ≡ translationWith f (c .language) x (entryPlace f (c .card)) after → writes original c ≡ false → writesTranslation c ≡ true → last ≡ actWritten f image c r t
+    unfolding actWritten
+    written-translation r {x} {after} same done more g h =
+        rw (g, h) (more ∙ ap (λ (y : Entry). translationWith f (c .language) y (entryPlace f (c .card)) after) same ∙ ap (translationWith f (c .language) r
+        (entryPlace f (c .card))) (side-over (suc (c .language)) (omega arith) here (one-translation f image s c below known p) done))
 
-pub written-none : (f : Format) (image : List ℕ) (c : Command) (t : List ℕ) → writes original c ≡ false → writesTranslation c ≡ false → image ≡ textWritten f image c t
-unfolding textWritten
-written-none f image c t h g = rw (h, g)
+pub written-none : (f : Format) (image : List ℕ) (c : Command) (r : Entry) (t : List ℕ) → writes original c ≡ false → writesTranslation c ≡ false → image ≡ actWritten f image c r t
+unfolding actWritten
+written-none f image c r t h g = rw (h, g)

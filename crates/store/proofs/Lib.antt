@@ -4,3 +4,4 @@ pub mod Step
 pub mod Running
 pub mod One
 pub mod Line
+pub mod Acts

@@ -3,14 +3,13 @@ use Prim.Native.Nat.{ℕ, _-_, _<_, _≤_}
 use native.Mathlib.Omega.{arith}
 use mathlib.Core.Path.{_≡_, refl, sym, ap, _∙_}
 use mathlib.Core.List.{List}
-use mathlib.Core.Logic.{_⊎_, inl, inr}
 use mathlib.Core.Bool.{Bool, true, false}
-use borrow.Author.Tests.{lt-ltb, ltb-true, ltb-false}
+use borrow.Author.Tests.{lt-ltb, ltb-false}
 use lib.ListN.{length, take, drop, length-drop}
 use lib.Seq.{take-all}
 use lib.Dec.{ltb}
 use Rattle.lists.specs.Parts.{splice}
-use Rattle.lists.proofs.Tests.{cases, never-both, to-T}
+use Rattle.lists.proofs.Tests.{to-T}
 use Rattle.commands.specs.Command.{original, reads, readsTranslation}
 use Rattle.commands.specs.Bytes.{fieldsOf, payload, formed}
 use Rattle.lists.specs.Table.{first}
@@ -20,9 +19,9 @@ use Rattle.guard.specs.declared.Answer.{Answer}
 use Rattle.commands.specs.declared.Command.{Command}
 use Rattle.guard.specs.declared.Entry.{Entry}
 use Rattle.guard.specs.declared.Judged.{Judged}
-use Rattle.commands.proofs.CommandBytes.{formed-short, language-within}
-use Rattle.guard.proofs.Judge.{Accepted, accepted, accepted-raises}
-use Rattle.lists.proofs.Table.{settled-old}
+use Rattle.commands.proofs.CommandBytes.{language-within}
+use Rattle.guard.proofs.Judge.{Accepted, accepted, judged-by}
+use Rattle.lists.proofs.Table.{settled-new, settled-old}
 use Rattle.image.proofs.Decode.{count-decode, card-decode, view-at}
 use Rattle.store.specs.inner.Carried.{judgedAt, carried}
 use Rattle.store.specs.Runs.{numbersOf}
@@ -58,15 +57,7 @@ read-fits e c room lent h = go (reads original c) (readsTranslation c) refl refl
 module _ (f : Format) where
   -- ---- lent bytes as a command
 
-  -- Its fixed part is whole, and what stands behind it is its payload, as long as it says.
-  pub fixed-in : (bytes : List ℕ) → formed f bytes ≡ true → fixed f ≤ length bytes
-  unfolding formed
-  fixed-in bytes u = go (cases (ltb (length bytes) (fixed f)))
-    where
-      go : (ltb (length bytes) (fixed f) ≡ true) ⊎ (ltb (length bytes) (fixed f) ≡ false) → fixed f ≤ length bytes
-      go (inl t) = absurd (never-both u (formed-short f bytes (ltb-true (length bytes) (fixed f) t)))
-      go (inr h) = ltb-false (length bytes) (fixed f) h
-
+  -- What stands behind its fixed part is its payload.
   pub behind-fixed : (bytes : List ℕ) → take (length bytes - fixed f) (drop (fixed f) bytes) ≡ payload f bytes
   unfolding payload
   behind-fixed bytes = take-all (length bytes - fixed f) (drop (fixed f) bytes) (rw length-drop (omega arith))
@@ -151,6 +142,17 @@ module _ (f : Format) where
 
   -- ---- what a judged command leaves, by its number
 
+  module _ (image : List ℕ) (c : Command) (reply : List ℕ) {n : ℕ}
+      (p : n ≡ first (judgeRows (entryAt f image (c .card) (c .language)) c (roomOf image) (length reply))) where
+    abbrev stored : Entry
+    stored = entryAt f image (c .card) (c .language)
+
+    pub as-refused : (n ≡ 0 → ⊥) → _≡_ {A = Judged} (record { number = n; entry = stored }) (judgedAt f image c (length reply))
+    as-refused h = judged-by stored c (roomOf image) (length reply) p (sym (settled-old {n = n} (raise stored c) stored h))
+
+    pub as-accepted : n ≡ 0 → _≡_ {A = Judged} (record { number = n; entry = raise stored c }) (judgedAt f image c (length reply))
+    as-accepted z = judged-by stored c (roomOf image) (length reply) p (sym (settled-new {n = n} (raise stored c) stored z))
+
   module _ (image : List ℕ) (c : Command) (text reply : List ℕ) {j : Judged} (p : j ≡ judgedAt f image c (length reply)) where
     pub refuses : (j .number ≡ 0 → ⊥) → carried f image c text reply ≡ refusal (replied (j .number) (j .entry) c) image reply
     unfolding carried
@@ -178,15 +180,12 @@ module _ (f : Format) where
       known : Accepted (entryAt f image (c .card) (c .language)) c (roomOf image) (length reply)
       known = accepted (entryAt f image (c .card) (c .language)) c (roomOf image) (length reply) zero-number
 
-      -- Its payload fits the room, its text the lent buffer, and its entry is the raised one.
+      -- Its payload fits the room, and its text the lent buffer.
       pub payload-fits : c .length ≤ roomOf image
       payload-fits = known .length
 
       pub lent-fits : {e : Entry} → e ≡ entryAt f image (c .card) (c .language) → readLength e c ≤ length reply
       lent-fits e = rw e (read-fits (entryAt f image (c .card) (c .language)) c (roomOf image) (length reply) known)
-
-      pub raises : j .entry ≡ raise (entryAt f image (c .card) (c .language)) c
-      raises = ap (λ (x : Judged). x .entry) p ∙ accepted-raises (entryAt f image (c .card) (c .language)) c (roomOf image) (length reply) zero-number
 
 -- The same for a place that was found to be the end of the fixed part.
 pub behind-place : (f : Format) (bytes : List ℕ) {n : ℕ} → n ≡ fixed f → take (length bytes - n) (drop n bytes) ≡ payload f bytes

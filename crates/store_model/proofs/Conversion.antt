@@ -48,10 +48,10 @@ use Rattle.image.proofs.Cards.{count-back, room-back}
 use Rattle.image_claims.proofs.Claims.{freshSound, goodEncodes}
 use Rattle.image_claims.proofs.Conversion.{getD-map, good-cards}
 use Rattle.store_model.specs.Serve.{stepped, serveBy, serve}
-use Rattle.store_model.specs.Words.{Sent, Event, imageAfter, traceFrom, traceOf, lastText}
+use Rattle.store_model.specs.Words.{Sent, Event, imageAfter, freshAfter, traceFrom, traceOf, lastText}
 use Rattle.store_model.specs.Claims.{AllBytes}
 use Rattle.store_model.specs.Cases.{run}
-use Rattle.store_model.specs.Conversion.{imageBefore, traceAcross, Demand3Across, StoryAcross}
+use Rattle.store_model.specs.Conversion.{traceAcross, Demand3Across, StoryAcross}
 use Rattle.store_model.proofs.Machine.{numberOn, cardsBy, cardsFrom, eventsFrom, Tied, Ties}
 use Rattle.store_model.proofs.Sentences.{Told}
 use Rattle.store_model.proofs.Simulation.{all-good, same-images, same-events}
@@ -127,8 +127,7 @@ module _ (n c : ℕ) (ok : T (shapeOk V2 n c)) (sent more : List Sent) (b : AllB
   good : GoodCards V1 cs
   good = all-good V1 (freshCards V1 n c) (reverse sent) (freshSound V1 n c old .good) (bytes-reverse sent [] b tt)
 
-  image-is : imageBefore n c sent ≡ encode V1 cs
-  unfolding imageBefore
+  image-is : freshAfter V1 n c sent ≡ encode V1 cs
   image-is =
       ap (λ (image : List ℕ). imageAfter V1 image (reverse sent)) (sym (freshSound V1 n c old .cards))
       ∙ same-images V1 (freshCards V1 n c) (reverse sent) (freshSound V1 n c old .good) (bytes-reverse sent [] b tt)
@@ -144,11 +143,11 @@ module _ (n c : ℕ) (ok : T (shapeOk V2 n c)) (sent more : List Sent) (b : AllB
   new : GoodCards V2 (widenedCards cs)
   new = good-cards cs good (rw (count-is, room-is) ok)
 
-  converted-is : converted (imageBefore n c sent) ≡ encode V2 (widenedCards cs)
+  converted-is : converted (freshAfter V1 n c sent) ≡ encode V2 (widenedCards cs)
   unfolding converted
   converted-is = ap (λ (image : List ℕ). encode V2 (widenedCards (decode V1 image))) image-is ∙ ap (λ (l : Cards). encode V2 (widenedCards l)) (goodEncodes V1 cs good .same)
 
-  converts : convertNumber (imageBefore n c sent) (sizeOf V2 n c) ≡ 0
+  converts : convertNumber (freshAfter V1 n c sent) (sizeOf V2 n c) ≡ 0
   converts =
       let lies : makes V2 n c (sizeOf V2 n c) ≡ true = made V2 n c (sizeOf V2 n c) (from-T (shapeOk V2 n c) ok) refl in
       rw (image-is, from-T (sound V1 (encode V1 cs)) (goodEncodes V1 cs good .sounds), count-back V1 cs good, room-back V1 cs good, count-is, room-is, lies)
@@ -171,8 +170,8 @@ module _ (n c : ℕ) (ok : T (shapeOk V2 n c)) (sent more : List Sent) (b : AllB
   unfolding traceAcross traceOf
   whole-across =
       rw (
-        map-append (λ (e : Event). e .sent) (traceFrom V2 (converted (imageBefore n c sent)) (reverse more)) (traceFrom V1 (fresh V1 n c) (reverse sent)),
-        whole-history V2 (converted (imageBefore n c sent)) (reverse more),
+        map-append (λ (e : Event). e .sent) (traceFrom V2 (converted (freshAfter V1 n c sent)) (reverse more)) (traceFrom V1 (fresh V1 n c) (reverse sent)),
+        whole-history V2 (converted (freshAfter V1 n c sent)) (reverse more),
         whole-history V1 (fresh V1 n c) (reverse sent),
         reverse-append sent more,
       )
@@ -188,7 +187,7 @@ demand3-across n c ok sent more b m =
 -- ---- the story, by computation
 
 pub story-across : StoryAcross
-unfolding converted imageBefore imageAfter run serve serveBy stepped sound headerSound cardSound translationSound tailZero decode cardAt entryAt
+unfolding converted imageAfter run serve serveBy stepped sound headerSound cardSound translationSound tailZero decode cardAt entryAt
     readEntry encode bodies pad entryBytes header shapeOk fresh replied raise entrySound commandBytes formed payload fieldsOf wellFormed all allFrom
     le toLe part splice tabulate concatMap every zeros
 story-across = refl

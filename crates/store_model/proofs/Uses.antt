@@ -3,30 +3,16 @@
 -- Assumes nothing.
 use mathlib.Core.Path.{_≡_}
 use mathlib.Core.List.{List, [], _∷_, _++_}
-use lib.Dec.{T}
 use Rattle.formats.specs.Format.{V1, V2}
-use Rattle.lists.specs.Table.{all, allFrom}
-use Rattle.image.specs.Layout.{shapeOk, sizeOf}
+use Rattle.image.specs.Layout.{sizeOf}
 use Rattle.image.specs.Convert.{convertNumber}
-use Rattle.store_model.specs.Words.{Sent, traceOf}
+use Rattle.image_claims.proofs.Uses.{largest1, largest2}
+use Rattle.store_model.specs.Words.{Sent, freshAfter, traceOf}
 use Rattle.store_model.specs.Claims.{AllBytes, Claim}
-use Rattle.store_model.specs.Conversion.{imageBefore, traceAcross}
+use Rattle.store_model.specs.Conversion.{traceAcross}
 use Rattle.store_model.proofs.ByTest.{sent-bytes}
 use Rattle.store_model.proofs.Conversion.{demand3-across}
 use Rattle.store_model.proofs.Demand.{demand3}
-
--- The largest shapes of each version, and the smallest.
-largest1 : T (shapeOk V1 89 352)
-unfolding shapeOk all allFrom
-largest1 = tt
-
-largest2 : T (shapeOk V2 15 864)
-unfolding shapeOk all allFrom
-largest2 = tt
-
-smallest2 : T (shapeOk V2 1 16)
-unfolding shapeOk all allFrom
-smallest2 = tt
 
 -- Malformed bytes, in either version.
 abbrev odd : List Sent
@@ -43,7 +29,7 @@ odd-sent = demand3 V2 15 864 largest2 odd odd-bytes
 
 -- Over a conversion, with the whole limit of 65,536 bytes used by the new image: nothing before it and nothing behind
 -- it; nothing before it; the story of both.
-converts-nothing : convertNumber (imageBefore 15 864 []) (sizeOf V2 15 864) ≡ 0
+converts-nothing : convertNumber (freshAfter V1 15 864 []) (sizeOf V2 15 864) ≡ 0
 converts-nothing = demand3-across 15 864 largest2 [] [] tt tt .converts
 
 claims-nothing : Claim 15 ([] ++ odd) (traceAcross 15 864 [] odd)

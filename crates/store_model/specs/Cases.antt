@@ -64,7 +64,7 @@ pair s x = record { s = s; x = x }
 -- The numbers of a command with two pairs, and of one whose update pair is its verifier.
 abbrev pub withPairs : ℕ → ℕ → ℕ → Pair → Pair → Mark → Mark → ℕ → ℕ → Command
 withPairs act mode card p opened expected next edition n =
-    record { act = act; mode = mode; language = 0; card = card; pair = p; opened = opened; expected = expected; next = next; edition = edition; length = n }
+    record { act = act; mode = mode; language = 0; card = card; verifier = p; opened = opened; expected = expected; next = next; edition = edition; length = n }
 
 abbrev pub withNumbers : ℕ → ℕ → ℕ → Pair → Mark → Mark → ℕ → ℕ → Command
 withNumbers act mode card p expected next edition n = withPairs act mode card p noPair expected next edition n
@@ -624,7 +624,7 @@ opens act language opened edition text lent =
             mode = exclusive;
             language = language;
             card = 0;
-            pair = pair stamp1 stamp1;
+            verifier = pair stamp1 stamp1;
             opened = opened;
             expected = noMark;
             next = noMark;
@@ -775,7 +775,7 @@ BytesOf2 =
       mode = 2;
       language = 3;
       card = 7;
-      pair = pair 1 2;
+      verifier = pair 1 2;
       opened = pair 3 4;
       expected = markOf 5 6;
       next = markOf 8 9;

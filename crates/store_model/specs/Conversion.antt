@@ -7,24 +7,23 @@ use lib.Dec.{T}
 use lib.ListN.{replicate}
 use Rattle.formats.specs.Format.{V1, V2}
 use Rattle.image.specs.Layout.{shapeOk, sizeOf}
-use Rattle.image.specs.Image.{fresh}
 use Rattle.image.specs.Convert.{converted, convertNumber}
-use Rattle.store_model.specs.Words.{Sent, Event, imageAfter, traceFrom, traceOf}
+use Rattle.store_model.specs.Words.{Sent, Event, imageAfter, freshAfter, traceFrom, traceOf}
 use Rattle.store_model.specs.Claims.{AllBytes, Claim}
 use Rattle.store_model.specs.Cases.{run, names, gotIn, stamp1, writeOriginal, writeTranslation}
 
--- The image of version 1 that a list of requests leaves of a fresh one.
-unfoldable pub imageBefore : ℕ → ℕ → List Sent → List ℕ
-imageBefore n c sent = imageAfter V1 (fresh V1 n c) (reverse sent)
+-- The image that both lists leave: the first is sent to a fresh image of version 1, the second to the image that this one is converted to.
+abbrev pub imageAcross : ℕ → ℕ → List Sent → List Sent → List ℕ
+imageAcross n c sent more = imageAfter V2 (converted (freshAfter V1 n c sent)) (reverse more)
 
--- The events of both lists, latest first: those after the conversion as version 2 reads them, from the converted image, and those before it as version 1 does.
+-- Their events, latest first: those after the conversion as version 2 reads them, and those before it as version 1 does.
 unfoldable pub traceAcross : ℕ → ℕ → List Sent → List Sent → List Event
-traceAcross n c sent more = traceFrom V2 (converted (imageBefore n c sent)) (reverse more) ++ traceOf V1 n c sent
+traceAcross n c sent more = traceFrom V2 (converted (freshAfter V1 n c sent)) (reverse more) ++ traceOf V1 n c sent
 
 -- Rule 15.12: the image that the first list leaves is converted where as many bytes are lent as an image of version 2 has, and of both lists together every sentence of
 -- demand 3 holds. A translation of version 1 is named by language 0, as its commands are read.
 pub record Across (n c : ℕ) (sent more : List Sent) : Type 0 where
-  pub converts : convertNumber (imageBefore n c sent) (sizeOf V2 n c) ≡ 0
+  pub converts : convertNumber (freshAfter V1 n c sent) (sizeOf V2 n c) ≡ 0
   pub claim : Claim n (sent ++ more) (traceAcross n c sent more)
 
 abbrev pub Demand3Across : Type 0
@@ -50,7 +49,7 @@ sentAfter =
 
 abbrev pub StoryAcross : Type 0
 StoryAcross =
-    run V2 (converted (imageBefore 1 16 sentBefore)) sentAfter
+    run V2 (converted (freshAfter V1 1 16 sentBefore)) sentAfter
     ≡ (gotIn 0 1 1 3 (52 ∷ 48 ∷ 49 ∷ [])
     ∷ gotIn 6 1 0 0 (replicate 3 0)
     ∷ gotIn 0 1 1 0 []

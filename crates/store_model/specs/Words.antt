@@ -51,7 +51,10 @@ traceFrom f start [] = []
 traceFrom f start (s ∷ earlier) =
     eventOf f s (serve f (imageAfter f start earlier) (s .command) (s .lent)) ∷ traceFrom f start earlier
 
--- The trace of requests in the order in which they are sent, from a fresh image of their version (rule 9.1).
+-- The image and the trace of requests in the order in which they are sent, from a fresh image of their version (rule 9.1).
+abbrev pub freshAfter : Format → ℕ → ℕ → List Sent → List ℕ
+freshAfter f n c sent = imageAfter f (fresh f n c) (reverse sent)
+
 unfoldable pub traceOf : Format → ℕ → ℕ → List Sent → List Event
 traceOf f n c sent = traceFrom f (fresh f n c) (reverse sent)
 

@@ -4,3 +4,4 @@ pub mod Places
 pub mod Claims
 pub mod Deciding
 pub mod Cases
+pub mod Uses

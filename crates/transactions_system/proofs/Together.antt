@@ -42,6 +42,8 @@ use Rattle.desk_system.specs.System.{
   recoverWith,
   convert,
   learn,
+  appendTo,
+  renewLog,
   opening,
   samePair,
   isMade,
@@ -92,13 +94,15 @@ fit-each (s ∷ l) b = (b .0, fit-each l (b .1))
 
 fit-none : (m : Move) → sendsNone m ≡ true → Fits m
 fit-none (send s) e = absurd (never-both refl (sym e))
-fit-none (recoverWith pairs log) e = absurd (never-both refl (sym e))
+fit-none (recoverWith pairs log unsent) e = absurd (never-both refl (sym e))
 fit-none (convert lent) e = absurd (never-both refl (sym e))
 fit-none (begin who) e = tt
 fit-none (propose who card mode) e = tt
-fit-none (atQueue card lent r) e = tt
-fit-none (lose card places) e = tt
+fit-none (atQueue card manager lent r) e = tt
+fit-none (lose card manager places) e = tt
 fit-none (learn who card pair) e = tt
+fit-none (appendTo desk budget r) e = absurd (never-both refl (sym e))
+fit-none (renewLog desk) e = absurd (never-both refl (sym e))
 
 systemAfter-both : (y : System) (a b : List Move) → systemAfter y (a ++ b) ≡ systemAfter (systemAfter y a) b
 unfolding systemAfter
@@ -132,7 +136,7 @@ has-each (s ∷ l) image y h =
 has-none : (image : List ℕ) (y : System) (m : Move) → sendsNone m ≡ true → Has image y → Has image (stepTo y m)
 unfolding stepTo
 has-none image y (send s) e h = absurd (never-both refl (sym e))
-has-none image y (recoverWith pairs log) e h = absurd (never-both refl (sym e))
+has-none image y (recoverWith pairs log unsent) e h = absurd (never-both refl (sym e))
 has-none image y (convert lent) e h = absurd (never-both refl (sym e))
 has-none image y (begin who) e h = record { version = h .version; bytes = h .bytes }
 has-none image y (propose who card mode) e h = go (proposed (knows y who card) mode .number)
@@ -143,9 +147,11 @@ has-none image y (propose who card mode) e h = go (proposed (knows y who card) m
     go : (number : ℕ) → Has image (settled number next y)
     go zero = record { version = h .version; bytes = h .bytes }
     go (suc n) = h
-has-none image y (atQueue card lent r) e h = record { version = h .version; bytes = h .bytes }
-has-none image y (lose card places) e h = record { version = h .version; bytes = h .bytes }
+has-none image y (atQueue card manager lent r) e h = record { version = h .version; bytes = h .bytes }
+has-none image y (lose card manager places) e h = record { version = h .version; bytes = h .bytes }
 has-none image y (learn who card pair) e h = record { version = h .version; bytes = h .bytes }
+has-none image y (appendTo desk budget r) e h = absurd (never-both refl (sym e))
+has-none image y (renewLog desk) e h = absurd (never-both refl (sym e))
 
 -- ---- one step: what it sends is bytes, and leaves the image that the step leaves
 
@@ -243,13 +249,13 @@ both-are-one n c places ruled logs deals r =
       led = refl;
     } in
     let j : Joint ruled start = joint-opening ruled (afterDeskSteps start (stepsIn deals)) moment in
-    let run = runs ruled start deals (opening V1 n c places) j (r .bytes) (r .steps) (r .sends) (record { version = refl; bytes = refl }) in
-    let conduct : ByRules V1 n c places moves = record { shape = r .shape; fits = run .fits; rules = r .moves } in
+    let run = runs ruled start deals (opening V1 n c places logs) j (r .bytes) (r .steps) (r .sends) (record { version = refl; bytes = refl }) in
+    let conduct : ByRules V1 n c places logs moves = record { shape = r .shape; fits = run .fits; rules = r .moves } in
     record {
       store = run .has .bytes;
       conduct = conduct;
       moment = moment;
-      premised = λ k. premise-kept V1 n c places moves conduct k;
+      premised = λ k. premise-kept V1 n c places logs moves conduct k;
       refines = desks-commit-at-once ruled (afterDeskSteps start (stepsIn deals)) moment;
     }
 

@@ -18,7 +18,7 @@ use Rattle.lock_queue.specs.declared.Waiting.{Waiting}
 use Rattle.redo_log.specs.Log.{records}
 use Rattle.redo_recovery_model.specs.Recovery.{recovering}
 use Rattle.desk_proposals.specs.Propose.{learnt, proposed}
-use Rattle.desk_system.specs.System.{System, Move, begin, propose, atQueue, lose, send, recoverWith, convert, learn, opening, allowed, knows, systemAfter, byRules}
+use Rattle.desk_system.specs.System.{System, Move, begin, propose, atQueue, lose, send, recoverWith, convert, learn, appendTo, renewLog, opening, allowed, knows, systemAfter, byRules}
 use Rattle.desk_system.specs.Claims.{ByRules, finally}
 use Rattle.transactions.specs.System.{Shown, other, order, arrive, append, crash, recover, renew, noOrder, commandIn, opensAbove}
 use Rattle.transactions.specs.Claims.{Blank}
@@ -61,15 +61,17 @@ stepsIn (along m ∷ deals) = m ∷ stepsIn deals
 
 abbrev pub sendsNone : Move → Bool
 sendsNone (send s) = false
-sendsNone (recoverWith pairs log) = false
+sendsNone (recoverWith pairs log unsent) = false
 sendsNone (convert lent) = false
 sendsNone (begin who) = true
 sendsNone (propose who card mode) = true
-sendsNone (atQueue card lent r) = true
-sendsNone (lose card places) = true
+sendsNone (atQueue card manager lent r) = true
+sendsNone (lose card manager places) = true
 sendsNone (learn who card pair) = true
+sendsNone (appendTo desk budget r) = false
+sendsNone (renewLog desk) = false
 
--- Whatever reaches the store reaches it by a step of section 16, and it stays of version 1.
+-- Whatever reaches the store or a log reaches it by a step of section 16, and the store stays of version 1.
 unfoldable pub sendsAlong : List Deal → Bool
 sendsAlong [] = true
 sendsAlong (beside m ∷ deals) = sendsNone m && sendsAlong deals
@@ -79,29 +81,29 @@ sendsAlong (along m ∷ deals) = sendsAlong deals
 
 -- A run from a fresh store of any N and C that can be made, empty queues over any places, nothing known and empty logs:
 -- its moves are by section 10, its steps by section 16.
-pub record ByBoth (n c : ℕ) (places : ℕ → List Waiting) (ruled : ℕ → Bool) (logs : ℕ → List ℕ) (deals : List Deal) : Type 0 where
+pub record ByBoth (n c : ℕ) (places : ℕ → ℕ → List Waiting) (ruled : ℕ → Bool) (logs : ℕ → List ℕ) (deals : List Deal) : Type 0 where
   pub shape : T (shapeOk V1 n c)
   pub nobody : ruled 0 ≡ false
   pub blank : (d : ℕ) → Blank (logs d)
   pub bytes : AllDeskSteps (stepsIn deals)
   pub sends : sendsAlong deals ≡ true
-  pub moves : byRules (opening V1 n c places) (movesIn (desksOpening (fresh V1 n c) logs) deals) ≡ true
+  pub moves : byRules (opening V1 n c places logs) (movesIn (desksOpening (fresh V1 n c) logs) deals) ≡ true
   pub steps : lawfulDeskSteps ruled (desksOpening (fresh V1 n c) logs) (stepsIn deals) ≡ true
 
 -- Rule 16.16: it is a run of section 10 and a moment of section 16 over one store, so all claims of both hold of it:
 -- demand 3's premise is kept, and a commit is one step.
-pub record OneRun (n c : ℕ) (places : ℕ → List Waiting) (ruled : ℕ → Bool) (logs : ℕ → List ℕ) (deals : List Deal) : Type 0 where
+pub record OneRun (n c : ℕ) (places : ℕ → ℕ → List Waiting) (ruled : ℕ → Bool) (logs : ℕ → List ℕ) (deals : List Deal) : Type 0 where
   pub store :
-      finally V1 n c places (movesIn (desksOpening (fresh V1 n c) logs) deals) .image
+      finally V1 n c places logs (movesIn (desksOpening (fresh V1 n c) logs) deals) .image
       ≡ afterDeskSteps (desksOpening (fresh V1 n c) logs) (stepsIn deals) .image
-  pub conduct : ByRules V1 n c places (movesIn (desksOpening (fresh V1 n c) logs) deals)
+  pub conduct : ByRules V1 n c places logs (movesIn (desksOpening (fresh V1 n c) logs) deals)
   pub moment : DesksMoment ruled (afterDeskSteps (desksOpening (fresh V1 n c) logs) (stepsIn deals))
-  pub premised : (k : ℕ) → premise k (commandsIn (finally V1 n c places (movesIn (desksOpening (fresh V1 n c) logs) deals) .log)) ≡ true
+  pub premised : (k : ℕ) → premise k (commandsIn (finally V1 n c places logs (movesIn (desksOpening (fresh V1 n c) logs) deals) .log)) ≡ true
   pub refines : DesksRefine ruled (afterDeskSteps (desksOpening (fresh V1 n c) logs) (stepsIn deals))
 
 abbrev pub BothAreOne : Type 0
 BothAreOne =
-    (n c : ℕ) (places : ℕ → List Waiting) (ruled : ℕ → Bool) (logs : ℕ → List ℕ) (deals : List Deal)
+    (n c : ℕ) (places : ℕ → ℕ → List Waiting) (ruled : ℕ → Bool) (logs : ℕ → List ℕ) (deals : List Deal)
     → ByBoth n c places ruled logs deals → OneRun n c places ruled logs deals
 
 -- ---- an order by a proposal

@@ -16,6 +16,7 @@ const ROUNDS: usize = 100;
 #[derive(Clone, Copy)]
 pub struct Times {
     pub rust: f64,
+    pub tuned: f64,
     pub ours: f64,
     pub limit: f64,
     /// Where an image is checked, the check that looks at every byte.
@@ -23,6 +24,7 @@ pub struct Times {
 }
 
 impl Times {
+    /// Ours by the straightforward version's.
     pub fn ratio(&self) -> f64 {
         self.ours / self.rust
     }
@@ -35,13 +37,13 @@ pub fn measured(all: &[Workload]) -> Vec<Times> {
 
 fn times(workload: &Workload) -> Times {
     let mut lent = Lent::new(workload);
-    let mut best = [f64::MAX; 3];
+    let mut best = [f64::MAX; Side::ALL.len()];
     let mut at_once = f64::MAX;
     let begun = Instant::now();
     let mut round = 0;
     while round < ROUNDS || begun.elapsed() < LONG {
-        for turn in 0..3 {
-            let side = (turn + round) % 3;
+        for turn in 0..best.len() {
+            let side = (turn + round) % best.len();
             lent.renew(workload);
             best[side] = best[side].min(time(|| {
                 work(Side::ALL[side], black_box(workload), &mut lent)
@@ -56,13 +58,15 @@ fn times(workload: &Workload) -> Times {
     }
     Times {
         rust: best[0],
-        ours: best[1],
-        limit: best[2],
+        tuned: best[1],
+        ours: best[2],
+        limit: best[3],
         at_once: matches!(workload.work, Work::Check(_)).then_some(at_once),
     }
 }
 
-fn time(work: impl FnOnce()) -> f64 {
+/// The nanoseconds that some work takes.
+pub fn time(work: impl FnOnce()) -> f64 {
     let begun = Instant::now();
     work();
     begun.elapsed().as_nanos() as f64

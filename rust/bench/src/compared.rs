@@ -1,10 +1,11 @@
 //! Before anything is measured: on every workload the straightforward version,
-//! the proved library's run and the proved library command by command leave
-//! the same lines, image and reply buffer.
+//! the tuned one, the proved library's run and the proved library command by
+//! command leave the same lines, image and reply buffer.
 
 use crate::clock::at_once_sound;
 use crate::plain;
 use crate::sides::{answer, sound, work, Lent, Side};
+use crate::tuned;
 use crate::workloads::{Work, Workload};
 use second::Format;
 
@@ -21,11 +22,16 @@ pub fn or_exit(all: &[Workload]) {
 
 fn compared(workload: &Workload) -> Result<(), &'static str> {
     let mut by_rust = Lent::new(workload);
+    let mut by_tuned = Lent::new(workload);
     let mut by_ours = Lent::new(workload);
     work(Side::Rust, workload, &mut by_rust);
+    work(Side::Tuned, workload, &mut by_tuned);
     work(Side::Ours, workload, &mut by_ours);
     if by_rust != by_ours {
         return Err("the proved library and the straightforward version differ");
+    }
+    if by_rust != by_tuned {
+        return Err("the tuned and the straightforward version differ");
     }
     match workload.work {
         Work::Run(_) => {
@@ -48,13 +54,21 @@ fn compared(workload: &Workload) -> Result<(), &'static str> {
         }
         Work::Answer(_) | Work::Check(_) => {}
     }
-    let image = &workload.image;
-    if sound(Format::V1, image) != plain::is_sound(image, plain::zeros)
-        || sound(Format::V2, image) != plain::is_sound_v2(image, plain::zeros)
-    {
-        return Err("the checks of the image differ");
+    same_checks::<plain::V1>(Format::V1, &workload.image)?;
+    same_checks::<plain::V2>(Format::V2, &workload.image)
+}
+
+/// Every check says the same of an image, whichever version it is of.
+fn same_checks<V: plain::Version>(format: Format, image: &[u8]) -> Result<(), &'static str> {
+    let ours = sound(format, image);
+    let others = [
+        V::is_sound(image, plain::zeros),
+        tuned::is_sound::<V>(image),
+    ];
+    match others == [ours; 2] {
+        true => Ok(()),
+        false => Err("the checks of the image differ"),
     }
-    Ok(())
 }
 
 /// The lines, the image and the reply buffer after each command was answered

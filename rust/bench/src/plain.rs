@@ -2,8 +2,8 @@
 //! it who has no proof to think of. It checks the image once for a run and
 //! then judges each command in place.
 
-const HEADER: usize = 16;
-const MOST_AHEAD: u64 = 1_000_000;
+pub const HEADER: usize = 16;
+pub const MOST_AHEAD: u64 = 1_000_000;
 
 /// What differs between the versions: how long an entry is, how many
 /// translations a card has, where in an entry the original's length and, of
@@ -58,7 +58,7 @@ impl Version for V2 {
 /// and length.
 pub type Line = [u64; 8];
 
-fn u16_at(bytes: &[u8], at: usize) -> u16 {
+pub fn u16_at(bytes: &[u8], at: usize) -> u16 {
     u16::from_le_bytes(bytes[at..at + 2].try_into().unwrap())
 }
 
@@ -66,7 +66,7 @@ fn u32_at(bytes: &[u8], at: usize) -> u32 {
     u32::from_le_bytes(bytes[at..at + 4].try_into().unwrap())
 }
 
-fn u64_at(bytes: &[u8], at: usize) -> u64 {
+pub fn u64_at(bytes: &[u8], at: usize) -> u64 {
     u64::from_le_bytes(bytes[at..at + 8].try_into().unwrap())
 }
 

@@ -1,8 +1,9 @@
-//! The three sides of a measurement, over the same lent bytes: the
-//! straightforward version, the proved library, and the limit.
+//! The four sides of a measurement, over the same lent bytes: the
+//! straightforward version, the tuned one, the proved library, and the limit.
 
 use crate::limit;
 use crate::plain;
+use crate::tuned;
 use crate::workloads::{Work, Workload};
 use lupaniele::raw;
 use second::Format;
@@ -11,12 +12,13 @@ use second::Format;
 #[derive(Clone, Copy, PartialEq, Eq)]
 pub enum Side {
     Rust,
+    Tuned,
     Ours,
     Limit,
 }
 
 impl Side {
-    pub const ALL: [Side; 3] = [Side::Rust, Side::Ours, Side::Limit];
+    pub const ALL: [Side; 4] = [Side::Rust, Side::Tuned, Side::Ours, Side::Limit];
 }
 
 /// What is lent, and what a side left in it.
@@ -51,43 +53,45 @@ impl Lent {
 /// A side does a workload's work.
 #[inline(never)]
 pub fn work(side: Side, workload: &Workload, lent: &mut Lent) {
-    match (workload.work, side) {
-        (Work::Run(format), Side::Ours) => run(format, workload, lent),
-        (Work::Run(Format::V1), _) => plain_run::<plain::V1>(side, workload, lent),
-        (Work::Run(Format::V2), _) => plain_run::<plain::V2>(side, workload, lent),
-        (Work::Answer(Format::V1), Side::Rust) => {
-            let (image, reply) = (&mut lent.image, &mut lent.reply);
-            lent.lines[0] = plain::answer::<plain::V1>(image, workload.first(), reply);
-        }
-        (Work::Answer(Format::V2), Side::Rust) => {
-            let (image, reply) = (&mut lent.image, &mut lent.reply);
-            lent.lines[0] = plain::answer::<plain::V2>(image, workload.first(), reply);
-        }
-        (Work::Answer(format), Side::Ours) => {
-            let (image, reply) = (&mut lent.image, &mut lent.reply);
-            lent.lines[0] = answer(format, image, workload.first(), reply);
-        }
-        (Work::Check(Format::V1), Side::Rust) => {
-            lent.count = plain::is_sound(&lent.image, plain::zeros).into();
-        }
-        (Work::Check(Format::V2), Side::Rust) => {
-            lent.count = plain::is_sound_v2(&lent.image, plain::zeros).into();
-        }
-        (Work::Check(format), Side::Ours) => lent.count = sound(format, &lent.image).into(),
-        (Work::Answer(_) | Work::Check(_), Side::Limit) => {
-            lent.count = (limit::look(&lent.image) != 0).into();
-        }
+    match workload.work.format() {
+        Format::V1 => work_of::<plain::V1>(side, workload, lent),
+        Format::V2 => work_of::<plain::V2>(side, workload, lent),
     }
 }
 
-/// A run by the straightforward version of a version's rules, or by its limit.
-fn plain_run<V: plain::Version>(side: Side, workload: &Workload, lent: &mut Lent) {
-    let (image, reply) = (&mut lent.image, &mut lent.reply);
-    let (stream, lines) = (&workload.stream, &mut lent.lines);
-    if side == Side::Rust {
-        (lent.count, lent.end) = plain::run::<V>(image, stream, reply, lines);
-    } else {
-        lent.count = limit::run::<V>(image, stream, reply, lines);
+fn work_of<V: plain::Version>(side: Side, workload: &Workload, lent: &mut Lent) {
+    let (image, reply) = (&mut lent.image[..], &mut lent.reply[..]);
+    let (stream, lines) = (&workload.stream[..], &mut lent.lines[..]);
+    match (workload.work, side) {
+        (Work::Run(_), Side::Rust) => {
+            (lent.count, lent.end) = plain::run::<V>(image, stream, reply, lines);
+        }
+        (Work::Run(_), Side::Tuned) => {
+            (lent.count, lent.end) = tuned::run::<V>(image, stream, reply, lines);
+        }
+        (Work::Run(format), Side::Ours) => {
+            (lent.count, lent.end) = run(format, image, stream, reply, lines);
+        }
+        (Work::Run(_), Side::Limit) => {
+            lent.count = limit::run::<V>(image, stream, reply, lines);
+        }
+        (Work::Answer(_), Side::Rust) => {
+            lines[0] = plain::answer::<V>(image, workload.first(), reply);
+        }
+        (Work::Answer(_), Side::Tuned) => {
+            lines[0] = tuned::answer::<V>(image, workload.first(), reply);
+        }
+        (Work::Answer(format), Side::Ours) => {
+            lines[0] = answer(format, image, workload.first(), reply);
+        }
+        (Work::Check(_), Side::Rust) => {
+            lent.count = V::is_sound(image, plain::zeros).into();
+        }
+        (Work::Check(_), Side::Tuned) => lent.count = tuned::is_sound::<V>(image).into(),
+        (Work::Check(format), Side::Ours) => lent.count = sound(format, image).into(),
+        (Work::Answer(_) | Work::Check(_), Side::Limit) => {
+            lent.count = (limit::look(image) != 0).into();
+        }
     }
 }
 
@@ -119,14 +123,20 @@ pub fn answer(format: Format, image: &mut [u8], command: &[u8], reply: &mut [u8]
     ]
 }
 
-fn run(format: Format, workload: &Workload, lent: &mut Lent) {
-    let (image, reply) = (&mut lent.image, &mut lent.reply);
-    let (stream, lines) = (&workload.stream, lent.lines.as_flattened_mut());
+/// A run, by the proved library: how many commands, and the byte where it
+/// stopped.
+fn run(
+    format: Format,
+    image: &mut [u8],
+    stream: &[u8],
+    reply: &mut [u8],
+    lines: &mut [plain::Line],
+) -> (usize, usize) {
+    let lines = lines.as_flattened_mut();
     let mut end = 0;
     let count = match format {
         Format::V1 => raw::run(image, stream, reply, lines, &mut end),
         Format::V2 => raw::run_v2(image, stream, reply, lines, &mut end),
     };
-    lent.count = count as usize;
-    lent.end = end as usize;
+    (count as usize, end as usize)
 }

@@ -11,6 +11,8 @@ const ROOM: u64 = 512;
 const CARDS_V2: u64 = 25;
 /// The usual stream, in bytes.
 const STREAM: usize = 30_000;
+/// As many bytes as the program reads: an image and a stream.
+const INPUT: usize = 65_536;
 
 /// How long the texts of an image are at first.
 #[derive(Clone, Copy)]
@@ -447,16 +449,11 @@ fn growth(all: &mut Vec<Workload>, random: &mut Random) {
 
 fn version_2(all: &mut Vec<Workload>, random: &mut Random) {
     let format = Format::V2;
-    let mut pushed = |name, work, acts, random: &mut Random| {
-        let start = image_of(
-            format,
-            CARDS_V2,
-            Texts::Full,
-            false,
-            Mark::default(),
-            random,
-        );
-        let stream = accepted_of(format, CARDS_V2, STREAM, acts, Manner::Exclusive, random);
+    let mut pushed = |name, work, acts, cards, random: &mut Random| {
+        let mark = Mark::default();
+        let start = image_of(format, cards, Texts::Full, false, mark, random);
+        let size = STREAM.max(INPUT - start.len());
+        let stream = accepted_of(format, cards, size, acts, Manner::Exclusive, random);
         all.push(Workload {
             work,
             ..run_of(VERSION_2, name, start, stream)
@@ -464,10 +461,12 @@ fn version_2(all: &mut Vec<Workload>, random: &mut Random) {
     };
     for (name, acts) in Acts::ALL {
         let name = format!("{name}, full texts, version 2");
-        pushed(name, Work::Run(format), acts, random);
+        pushed(name, Work::Run(format), acts, CARDS_V2, random);
     }
     for (name, acts) in [("verify", Acts::Verify), ("read", Acts::Read)] {
         let name = format!("one answer, {name}, full texts, version 2");
-        pushed(name, Work::Answer(format), acts, random);
+        pushed(name, Work::Answer(format), acts, CARDS_V2, random);
     }
+    let name = "mix, 12 cards, in the program's sizes, version 2";
+    pushed(name.into(), Work::Run(format), Acts::Mix, 12, random);
 }

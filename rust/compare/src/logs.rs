@@ -9,6 +9,7 @@ use second::log::{ReadBack, Record, BODIES, LINE_BYTES, LOG_LIMIT, OTHER_STORES,
 use second::random::Random;
 use second::recovery::recover_by;
 use second::short::fresh;
+use second::steps::{self, Next, Seen};
 use second::Format::V1;
 use second::{read_back, Language, Layout, Recovered};
 
@@ -36,6 +37,27 @@ pub fn proved_recover(log: &[u8], image: &mut [u8], s: &[u64], x: &[u64]) -> Rec
     let mut line = UNWRITTEN;
     let number = raw::recover(log, image, s, x, &mut line);
     Recovered { number, line }
+}
+
+/// What a desk has seen of a card, as the proved library has it.
+fn in_numbers(seen: Seen) -> [u16; 4] {
+    [
+        u16::from(seen.known),
+        u16::from(seen.held),
+        seen.mark,
+        seen.reach,
+    ]
+}
+
+/// The proved next step.
+fn proved_next(log: &[u8], desk: u16, card: u16, going: bool, seen: &[u16; 4]) -> Next {
+    let (mut line, mut transaction) = (UNWRITTEN, UNWRITTEN);
+    let step = raw::next_step(log, desk, card, going, seen, &mut line, &mut transaction);
+    Next {
+        step,
+        line,
+        transaction,
+    }
 }
 
 /// A record to be appended: its kind and its body.
@@ -118,6 +140,66 @@ fn recover(run: &mut Run, log: &[u8], image: &mut [u8], pairs: &Pairs) -> Compar
         run.seen_at(Kind::Recoveries, at);
         Ok(proved)
     })
+}
+
+/// Next steps for some desk and card of a log by both, after answers of all
+/// kinds, and a log that begins again.
+fn next_steps(run: &mut Run, random: &mut Random, log: &[u8], cards: u16) -> Compared<()> {
+    for _ in 0..3 {
+        let desk = random.pick(&[0, 1, 1, 1, 2, 65_535]);
+        let card = random.below(u64::from(cards) + 1) as u16;
+        let other = random.number() as u16;
+        let mark = random.pick(&[0, desk, desk, other]);
+        let lines = u64::from(log.first().copied().unwrap_or(0));
+        let within = random.below(lines + 1) as u8;
+        let line = random.pick(&[0, within, 255]);
+        let (step, number) = (
+            random.below(9) as u8,
+            random.pick(&[0, 0, 0, 1, 2, 3, 4, 9, 17]),
+        );
+        let going = !random.one_in(4);
+        let seen = heard(run, step, line, number, mark)?;
+        let input = || {
+            bytes("log", log) + &format!("  desk {desk}, card {card}, going {going}, {seen:?}\n")
+        };
+        let numbers = in_numbers(seen);
+        let proved = proved_next(log, desk, card, going, &numbers);
+        let second = steps::next_step(log, desk, card, going, seen);
+        same("next step", proved, second, input)?;
+        run.seen_at(Kind::Steps, usize::from(proved.step));
+    }
+    let (mut proved, mut second) = (log.to_vec(), log.to_vec());
+    let again = raw::log_begin_again(&mut proved);
+    same(
+        "begins again",
+        again,
+        steps::begin_again(&mut second),
+        || bytes("log", log),
+    )?;
+    same("log begun again", &proved, &second, || bytes("log", log))?;
+    let bad = usize::from(second::check(log) != 0);
+    run.seen_at(Kind::BegunAgain, usize::from(!again) + bad);
+    Ok(())
+}
+
+/// What an answer to a step tells, by both.
+fn heard(run: &mut Run, step: u8, line: u8, number: u8, mark: u16) -> Compared<Seen> {
+    let mut numbers = [0x5a5a; 4];
+    raw::heard(step, line, number, mark, &mut numbers);
+    let second = steps::heard(step, line, number, mark);
+    same("what is seen", numbers, in_numbers(second), || {
+        format!("  step {step}, line {line}, number {number}, mark {mark}\n")
+    })?;
+    let tells = [
+        !second.known,
+        second.held,
+        second.reach > 0 && line < 255,
+        second.reach > 0,
+        true,
+    ];
+    let at = tells.iter().position(|&so| so);
+    run.seen_at(Kind::Heard, at.unwrap_or(0));
+    Ok(second)
 }
 
 // ---- histories
@@ -223,6 +305,7 @@ fn cut_everywhere(run: &mut Run, random: &mut Random) -> Compared<()> {
     let stores: usize = history.iter().filter_map(|(_, needed)| *needed).sum();
     for cut in 0..=stores {
         let (log, wholly) = cut_log(run, &start, &history, cut)?;
+        next_steps(run, random, &log, cards)?;
         let mut recovered = image.clone();
         let told = recover(run, &log, &mut recovered, &pairs)?;
         if told.number == 0 {
@@ -356,6 +439,7 @@ fn limits(run: &mut Run, random: &mut Random) -> Compared<()> {
         }
     }
     recover(run, &log, &mut image.clone(), &pairs_for(random, &image))?;
+    next_steps(run, random, &log, 3)?;
     roomy(run, random)
 }
 
@@ -447,6 +531,7 @@ fn any_bytes(run: &mut Run, random: &mut Random) -> Compared<()> {
         );
         check(run, &log)?;
         recover(run, &log, &mut image, &pairs)?;
+        next_steps(run, random, &log, 2)?;
         let record = any_record(random, 1);
         let stores = random.below(30);
         append(run, &mut log, &record, stores)?;

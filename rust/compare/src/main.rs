@@ -2,7 +2,8 @@
 //! N` runs N cases, 2,000,000 at the least, with a new seed, which it prints.
 //! `compare seed S N` runs any seed again. Each prints the coverage table at
 //! its end, and fails at the first difference, and where a number or a kind of
-//! the table never came.
+//! the table never came. `compare some S N` runs N cases, however few, and asks
+//! for no kind: for runs under tools that make it slow.
 
 use std::process::ExitCode;
 use std::time::{Instant, SystemTime, UNIX_EPOCH};
@@ -27,19 +28,26 @@ const LEAST: u64 = 2_000_000;
 fn main() -> ExitCode {
     let words: Vec<String> = std::env::args().skip(1).collect();
     let words: Vec<&str> = words.iter().map(String::as_str).collect();
+    let few = matches!(words[..], ["some", ..]);
     let (seed, cases, inputs) = match words[..] {
         ["test"] => (Some(SEED), Some(CASES), INPUTS),
+        ["some", seed, cases] => (seed.parse().ok(), cases.parse().ok(), 0),
         ["soak", cases] => (Some(new_seed()), cases.parse().ok(), 0),
         ["seed", seed, cases] => (seed.parse().ok(), cases.parse().ok(), 0),
         _ => (None, None, 0),
     };
-    let Some((seed, cases)) = seed.zip(cases.map(|cases| LEAST.max(cases))) else {
-        eprintln!("usage: compare test | compare soak CASES | compare seed SEED CASES");
+    let least = if few { 0 } else { LEAST };
+    let Some((seed, cases)) = seed.zip(cases.map(|cases| least.max(cases))) else {
+        eprintln!("usage: compare test | compare soak CASES | compare seed SEED CASES | compare some SEED CASES");
         return ExitCode::from(2);
     };
     println!("compare: seed {seed}, {cases} cases");
     let mut run = Run::default();
     match compared(&mut run, seed, cases, inputs.max(cases / 1_000)) {
+        Ok(()) if few => {
+            println!("compare: no difference in {} cases", run.cases);
+            ExitCode::SUCCESS
+        }
         Ok(()) => told(&run),
         Err(difference) => {
             eprintln!(

@@ -1,7 +1,7 @@
 use std::fmt;
 
 use crate::bytes::{slice_at, u16_at};
-use crate::cards::Card;
+use crate::cards::{Card, HEADER};
 use crate::image::named_version;
 use crate::{Image, Language, Stamp, Version};
 
@@ -66,6 +66,8 @@ pub enum BrokenCard {
     OriginalUnwritten,
     /// Bytes behind the original.
     OriginalTail,
+    /// A translation in a language that the version does not have; no bytes say this.
+    NoLanguage(Language),
     /// A translation longer than the room.
     TranslationLong(Language),
     /// A translation made from an edition that is not there yet.
@@ -77,6 +79,56 @@ pub enum BrokenCard {
 }
 
 impl Broken {
+    /// The rule of docs/RULES.md that is broken. Those of version 2 (15.2, 15.3 and 15.5) point back to these.
+    ///
+    /// ```
+    /// use lupaniele::{Broken, Image};
+    /// assert_eq!(Image::check(&b"no image"[..]).map_err(|broken| broken.rule()), Err("2.3"));
+    /// assert_eq!(Broken::Shape { cards: 1, room: 60 }.rule(), "2.2");
+    /// ```
+    #[must_use]
+    pub fn rule(&self) -> &'static str {
+        match self {
+            Broken::Header => "2.3",
+            Broken::Shape { .. } => "2.2",
+            Broken::Card { why, .. } => match why {
+                BrokenCard::Stamp(_) => "1.2",
+                BrokenCard::Mark => "1.7",
+                BrokenCard::NoLanguage(_) => "15.1",
+                _ => "2.6",
+            },
+            Broken::Length { .. } | Broken::Other => "2.6",
+        }
+    }
+
+    /// The first byte to look at, of the bytes that [`Image::check`] refused with this; their length where they end
+    /// too early.
+    ///
+    /// ```
+    /// use lupaniele::{Image, Version};
+    /// let mut bytes = Image::make(Version::One, 2, 16)?.into_bytes();
+    /// bytes[16 + 32 + 16] = 5; // card 1: the desk of a mark, and no transaction
+    /// let broken = Image::check(&bytes[..]).unwrap_err();
+    /// assert_eq!((broken.rule(), broken.place(&bytes)), ("1.7", 64));
+    /// # Ok::<(), lupaniele::Number>(())
+    /// ```
+    #[must_use]
+    pub fn place(&self, bytes: &[u8]) -> usize {
+        match *self {
+            Broken::Header => in_header(bytes),
+            Broken::Shape { cards, room } => match Image::make(Version::One, cards, SMALLEST) {
+                Ok(_) if Image::make(Version::One, 1, room).is_err() => ROOM,
+                _ => CARDS,
+            },
+            Broken::Length { length, needed } => length.min(needed),
+            Broken::Card { card, why } => {
+                let version = named_version(bytes).unwrap_or(Version::One);
+                Card::new(version, bytes, card).place(why)
+            }
+            Broken::Other => 0,
+        }
+    }
+
     /// The first rule that bytes break which are no sound image.
     pub(crate) fn first(bytes: &[u8]) -> Broken {
         let signed = slice_at(bytes, 0, 4) == b"RC1\0" && slice_at(bytes, 10, 6) == [0; 6];
@@ -96,6 +148,60 @@ impl Broken {
             Some(Broken::Card { card, why })
         });
         broken.unwrap_or(Broken::Other)
+    }
+}
+
+/// Where the header names its cards and their room (rule 2.3).
+const CARDS: usize = 6;
+const ROOM: usize = 8;
+
+/// The smallest room (rule 2.2).
+const SMALLEST: u16 = 16;
+
+/// The first byte of a header that is none.
+fn in_header(bytes: &[u8]) -> usize {
+    let fresh = |version| Image::make(version, 1, SMALLEST);
+    let Ok(fresh) = fresh(named_version(bytes).unwrap_or(Version::One)) else {
+        return 0;
+    };
+    let header = fresh.bytes().iter().take(HEADER).enumerate();
+    let mut wrong = header.filter(|(at, byte)| {
+        let named = (CARDS..ROOM + 2).contains(at);
+        bytes.get(*at).is_none_or(|there| !named && there != *byte)
+    });
+    wrong.next().map_or(0, |(at, _)| at)
+}
+
+impl Card<'_> {
+    /// The byte of the image where something is wrong with this card.
+    fn place(&self, why: BrokenCard) -> usize {
+        let pair = self.pair();
+        match why {
+            BrokenCard::Stamp(stamp) if stamp == pair.s => self.entry_place(),
+            BrokenCard::Stamp(_) => self.entry_place() + 8,
+            BrokenCard::Mark => self.entry_place() + 16,
+            BrokenCard::Zeros if u16_at(self.entry(), 18) != 0 => self.entry_place() + 18,
+            BrokenCard::Zeros => self.entry_place() + 44,
+            BrokenCard::OriginalLong => self.length_place(None),
+            BrokenCard::OriginalUnwritten => self.entry_place() + 24,
+            BrokenCard::OriginalTail => self.tail_place(0, self.original_length()),
+            BrokenCard::TranslationLong(language) => self.length_place(Some(language)),
+            BrokenCard::TranslationAhead(language) | BrokenCard::TranslationUnwritten(language) => {
+                self.translated_from_place(language)
+            }
+            BrokenCard::TranslationTail(language) => {
+                let length = self.translation_length(language).unwrap_or(0);
+                self.tail_place(1 + usize::from(language.number()), length)
+            }
+            BrokenCard::NoLanguage(_) => self.entry_place(),
+        }
+    }
+
+    /// The first byte behind a text that is not zero.
+    fn tail_place(&self, at: usize, length: u16) -> usize {
+        let mut tail = self.body(at).iter().enumerate().skip(length.into());
+        let first = tail.find(|(_, byte)| **byte != 0);
+        self.body_place(at) + first.map_or(0, |(at, _)| at)
     }
 }
 
@@ -176,6 +282,7 @@ impl fmt::Display for BrokenCard {
             BrokenCard::OriginalLong => to.write_str("the original is longer than the room"),
             BrokenCard::OriginalUnwritten => to.write_str("an original stands at edition 0"),
             BrokenCard::OriginalTail => to.write_str("bytes stand behind the original"),
+            BrokenCard::NoLanguage(language) => write!(to, "the version has no {language}"),
             BrokenCard::TranslationLong(language) => {
                 write!(to, "{language} is longer than the room")
             }
@@ -194,3 +301,74 @@ impl fmt::Display for BrokenCard {
 }
 
 impl std::error::Error for Broken {}
+
+#[cfg(test)]
+mod tests {
+    use super::*;
+    use crate::{Contents, Mark, Pair};
+    use second::random::Random;
+
+    /// An image of two cards, each with all that a card can have.
+    fn full(version: Version) -> Image {
+        let stamp = Stamp::new(3, 2, 1);
+        let mut card = Contents {
+            pair: Pair::new(stamp, stamp),
+            mark: Mark::new(5, 7),
+            edition: 2,
+            original: b"Drop at 205",
+            ..Contents::default()
+        };
+        for language in version.languages() {
+            card.translations[usize::from(language.number())] = (1, b"T\xc3\xb8m");
+        }
+        Image::of_cards(version, 16, &[card, card]).expect("a sound image")
+    }
+
+    /// Whether a byte is in the entry or the bodies of a card.
+    fn belongs(card: &Card, version: Version, place: usize) -> bool {
+        let bodies = 1 + version.languages().len();
+        let entry = card.entry_place()..card.entry_place() + version.entry_bytes();
+        entry.contains(&place) || (card.body_place(0)..card.body_place(bodies)).contains(&place)
+    }
+
+    #[test]
+    fn the_place_is_where_the_rule_is_broken() {
+        let mut random = Random::new(34);
+        let mut seen = [0; 4];
+        for version in [Version::One, Version::Two] {
+            let good = full(version).into_bytes();
+            for _ in 0..50_000 {
+                let (mut bytes, at) = (good.clone(), random.index(good.len()));
+                bytes[at] = random.byte();
+                let length = random.index(good.len() + 1);
+                bytes.truncate(if random.one_in(8) { length } else { good.len() });
+                let Err(broken) = Image::check(&bytes[..]) else {
+                    continue;
+                };
+                let place = broken.place(&bytes);
+                seen[match broken {
+                    Broken::Header => {
+                        assert!(place < HEADER && place <= bytes.len());
+                        0
+                    }
+                    Broken::Shape { .. } => {
+                        assert!(at == place || at == place + 1, "{at} {place}");
+                        1
+                    }
+                    Broken::Length { .. } => {
+                        assert!(place <= bytes.len());
+                        2
+                    }
+                    Broken::Card { card, .. } => {
+                        let card = Card::new(version, &bytes, card);
+                        assert!(belongs(&card, version, place), "{broken}: {place}");
+                        assert!(belongs(&card, version, at), "{broken}: {at}");
+                        3
+                    }
+                    Broken::Other => panic!("{version}: a rule without a name is broken"),
+                }] += 1;
+            }
+        }
+        assert!(seen.iter().all(|count| *count > 100), "{seen:?}");
+    }
+}

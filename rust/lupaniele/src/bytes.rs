@@ -1,4 +1,4 @@
-//! Little-endian numbers in bytes, for reading what stands there: zero where the bytes end first.
+//! Little-endian numbers in bytes, for reading what stands there: zero where the bytes end first; and parts put there.
 
 fn part<const N: usize>(bytes: &[u8], at: usize) -> [u8; N] {
     let part = at.checked_add(N).and_then(|end| bytes.get(at..end));
@@ -25,4 +25,10 @@ pub(crate) fn u64_at(bytes: &[u8], at: usize) -> u64 {
 pub(crate) fn slice_at(bytes: &[u8], at: usize, length: usize) -> &[u8] {
     let part = at.checked_add(length).and_then(|end| bytes.get(at..end));
     part.unwrap_or(&[])
+}
+
+/// Puts bytes at a place, as far as there is room.
+pub(crate) fn put(bytes: &mut [u8], at: usize, part: &[u8]) {
+    let room = bytes.get_mut(at..).unwrap_or_default();
+    room.iter_mut().zip(part).for_each(|(to, byte)| *to = *byte);
 }

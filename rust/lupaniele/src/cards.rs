@@ -53,20 +53,67 @@ impl<'a> Card<'a> {
         self.card
     }
 
-    /// Its entry, in bytes.
-    pub(crate) fn entry(&self) -> &'a [u8] {
-        let bytes = self.version.entry_bytes();
-        slice_at(self.image, HEADER + bytes * usize::from(self.card), bytes)
+    /// Where its entry begins (rules 2.4 and 15.3).
+    pub(crate) fn entry_place(&self) -> usize {
+        HEADER + self.version.entry_bytes() * usize::from(self.card)
     }
 
-    /// The whole body of its text at a place: 0 the original, then the translations.
-    pub(crate) fn body(&self, at: usize) -> &'a [u8] {
+    /// Its entry, in bytes.
+    pub(crate) fn entry(&self) -> &'a [u8] {
+        slice_at(self.image, self.entry_place(), self.version.entry_bytes())
+    }
+
+    /// The room of each of its texts.
+    ///
+    /// ```
+    /// use lupaniele::{Image, Version};
+    /// let image = Image::make(Version::One, 1, 16)?;
+    /// assert_eq!(image.card(0).map(|card| card.room()), Some(16));
+    /// # Ok::<(), lupaniele::Number>(())
+    /// ```
+    #[must_use]
+    pub fn room(&self) -> u16 {
+        u16_at(self.image, 8)
+    }
+
+    /// Where the body of its text at a place begins: 0 the original, then the translations (rules 2.5 and 15.4).
+    pub(crate) fn body_place(&self, at: usize) -> usize {
         let cards = usize::from(u16_at(self.image, 6));
-        let room = usize::from(u16_at(self.image, 8));
         let entries = self.version.entry_bytes() * cards;
         let bodies = 1 + self.version.languages().len();
         let place = bodies * usize::from(self.card) + at;
-        slice_at(self.image, HEADER + entries + place * room, room)
+        HEADER + entries + place * usize::from(self.room())
+    }
+
+    /// The whole body of its text at a place.
+    pub(crate) fn body(&self, at: usize) -> &'a [u8] {
+        slice_at(self.image, self.body_place(at), self.room().into())
+    }
+
+    /// Where the edition that a translation was made from stands.
+    pub(crate) fn translated_from_place(&self, language: Language) -> usize {
+        self.entry_place()
+            + match self.version {
+                Version::One => 26,
+                Version::Two => 28 + 2 * usize::from(language.number()),
+            }
+    }
+
+    /// Where the length of the original stands, or of a translation.
+    pub(crate) fn length_place(&self, language: Option<Language>) -> usize {
+        let at = language.map(|language| 2 * usize::from(language.number()));
+        self.entry_place()
+            + match (self.version, at) {
+                (Version::One, None) => 28,
+                (Version::One, Some(_)) => 30,
+                (Version::Two, None) => 26,
+                (Version::Two, Some(at)) => 36 + at,
+            }
+    }
+
+    /// Whether its version has a language.
+    fn has(&self, language: Language) -> bool {
+        self.version.languages().contains(&language)
     }
 
     /// The stored pair.
@@ -123,26 +170,17 @@ impl<'a> Card<'a> {
     /// ```
     #[must_use]
     pub fn translated_from(&self, language: Language) -> Option<u16> {
-        let at = usize::from(language.number());
-        match self.version {
-            Version::One => (at == 0).then(|| u16_at(self.entry(), 26)),
-            Version::Two => Some(u16_at(self.entry(), 28 + 2 * at)),
-        }
+        let there = self.has(language);
+        there.then(|| u16_at(self.image, self.translated_from_place(language)))
     }
 
     pub(crate) fn original_length(&self) -> u16 {
-        match self.version {
-            Version::One => u16_at(self.entry(), 28),
-            Version::Two => u16_at(self.entry(), 26),
-        }
+        u16_at(self.image, self.length_place(None))
     }
 
     pub(crate) fn translation_length(&self, language: Language) -> Option<u16> {
-        let at = usize::from(language.number());
-        match self.version {
-            Version::One => (at == 0).then(|| u16_at(self.entry(), 30)),
-            Version::Two => Some(u16_at(self.entry(), 36 + 2 * at)),
-        }
+        let there = self.has(language);
+        there.then(|| u16_at(self.image, self.length_place(Some(language))))
     }
 
     /// Its original.

@@ -1,7 +1,7 @@
 use std::fmt;
 
 use crate::bytes::{slice_at, u8_at, u16_at, u32_at, u64_at};
-use crate::{Act, Language, Mark, Mode, Pair, Version};
+use crate::{Act, DeskId, Language, Mark, Mode, Pair, Version};
 
 /// What a command does, with what it needs for it (rule 3.2).
 ///
@@ -305,6 +305,18 @@ impl<'a> Command<'a> {
             Some(update) if update != Pair::NONE => update,
             _ => self.verifier,
         }
+    }
+
+    /// The desk and start that it is of: that of its mode's own stamp in its update pair (rule 1.5).
+    ///
+    /// ```
+    /// use lupaniele::{Command, DeskId, Pair, Stamp};
+    /// let pair = Pair::new(Stamp::new(2, 2, 5), Stamp::new(1, 1, 0));
+    /// assert_eq!(Command::verify(0).shared(pair).desk_id(), DeskId::new(2, 5));
+    /// ```
+    #[must_use]
+    pub fn desk_id(&self) -> DeskId {
+        self.update_pair().own(self.mode).desk_id()
     }
 
     /// How many bytes it takes.

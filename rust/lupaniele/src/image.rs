@@ -9,6 +9,26 @@ use crate::{Answer, Broken, BuildError, Command, Number, Version, raw};
 /// ```
 pub const LARGEST_IMAGE: usize = 65_536;
 
+/// The most cards that an image has (rule 2.2).
+///
+/// ```
+/// use lupaniele::{Image, MOST_CARDS, Version};
+/// assert!(Image::make(Version::One, MOST_CARDS, 16).is_ok());
+/// assert!(Image::make(Version::One, MOST_CARDS + 1, 16).is_err());
+/// ```
+pub const MOST_CARDS: u16 = 128;
+
+/// The rooms that a text can have, in order (rule 2.2).
+///
+/// ```
+/// use lupaniele::{Image, Version, rooms};
+/// let made = (0..=u16::MAX).filter(|room| Image::make(Version::One, 1, *room).is_ok());
+/// assert!(made.eq(rooms()));
+/// ```
+pub fn rooms() -> impl DoubleEndedIterator<Item = u16> {
+    (16..=1_024).step_by(16)
+}
+
 /// A sound image: the store's cards in bytes (sections 2, 4 and 15 of the rules), owned or lent. It is sound when it is
 /// made or checked, and every request leaves it so.
 ///

@@ -1,7 +1,7 @@
 use std::fmt;
 
 use crate::bytes::{slice_at, u8_at, u16_at, u32_at};
-use crate::desk::due::due;
+use crate::due::due;
 use crate::{Image, Number, Pair, raw};
 
 /// The bytes of a log in front of its bodies (rule 11.1), the fewest that a log has.
@@ -134,6 +134,17 @@ impl<'a> Record<'a> {
                 [&card.to_le_bytes()[..], &transaction.to_le_bytes()].concat()
             }
         }
+    }
+
+    /// How many stores of one byte its append makes (rule 11.10): its body, its line, the count.
+    ///
+    /// ```
+    /// use lupaniele::Record;
+    /// assert_eq!(Record::Begin(7).stores(), 16);
+    /// ```
+    #[must_use]
+    pub fn stores(&self) -> u64 {
+        (self.body().len() + LINE + 1) as u64
     }
 
     /// The record of this kind with that body, if they are one.
@@ -313,6 +324,25 @@ impl<B: AsRef<[u8]>> Log<B> {
         begun.last().unwrap_or(0)
     }
 
+    /// The updates that are due, each by its record, from 0, and its transaction (rule 11.15).
+    ///
+    /// ```
+    /// use lupaniele::{Log, Record, Side};
+    /// let mut log = Log::empty(4_096)?;
+    /// log.append(&Record::Begin(7))?;
+    /// log.append(&Record::Update { card: 0, side: Side::Original, text: b"205" })?;
+    /// assert_eq!(log.due(), []);
+    /// log.append(&Record::Commit(7))?;
+    /// assert_eq!(log.due(), [(1, 7)]);
+    /// # Ok::<(), lupaniele::Number>(())
+    /// ```
+    #[must_use]
+    pub fn due(&self) -> Vec<(usize, u32)> {
+        let due = due(self).into_iter();
+        due.map(|update| (update.record, update.transaction))
+            .collect()
+    }
+
     /// Kind, place and length of a line.
     fn line(&self, at: usize) -> (u8, usize, usize) {
         let line = slice_at(self.bytes(), 1 + LINE * at, LINE);
@@ -334,6 +364,35 @@ impl<B: AsRef<[u8]>> Log<B> {
         }
     }
 
+    /// Whether nothing in it is due (rule 11.15), so that it may begin again.
+    ///
+    /// ```
+    /// use lupaniele::{Log, Record, Side};
+    /// let mut log = Log::empty(4_096)?;
+    /// log.append(&Record::Begin(7))?;
+    /// log.append(&Record::Update { card: 0, side: Side::Original, text: b"205" })?;
+    /// assert!(log.nothing_due());
+    /// log.append(&Record::Commit(7))?;
+    /// assert!(!log.nothing_due());
+    /// # Ok::<(), lupaniele::Number>(())
+    /// ```
+    #[must_use]
+    pub fn nothing_due(&self) -> bool {
+        raw::log_begin_again(&mut self.bytes().to_vec())
+    }
+
+    /// The cards that it updates, committed or not, in the order of their first updates.
+    pub(crate) fn updated(&self) -> Vec<u16> {
+        let mut cards = Vec::new();
+        for record in self.records() {
+            match record {
+                Record::Update { card, .. } if !cards.contains(&card) => cards.push(card),
+                _ => {}
+            }
+        }
+        cards
+    }
+
     /// A log of the same length that begins again, if nothing of this one is due (rule 11.15): it has no record but the
     /// begin of the last transaction that began here, so that transactions go on rising.
     ///
@@ -351,7 +410,7 @@ impl<B: AsRef<[u8]>> Log<B> {
     /// ```
     #[must_use]
     pub fn begun_again(&self) -> Option<Log> {
-        if !due(self).is_empty() {
+        if !self.nothing_due() {
             return None;
         }
         let mut log = Log::empty(self.bytes().len()).ok()?;
@@ -402,6 +461,12 @@ impl<B: AsRef<[u8]>> Log<B> {
     }
 }
 
+impl<B: AsRef<[u8]>> AsRef<[u8]> for Log<B> {
+    fn as_ref(&self) -> &[u8] {
+        self.bytes.as_ref()
+    }
+}
+
 impl<B: AsRef<[u8]> + AsMut<[u8]>> Log<B> {
     /// Appends a record.
     ///
@@ -438,6 +503,21 @@ impl<B: AsRef<[u8]> + AsMut<[u8]>> Log<B> {
             &body,
             stores,
         ))
+    }
+
+    /// Begins again by one store, if nothing in it is due (rule 16.27); whether it did. Its transactions may then have any
+    /// numbers; [`begun_again`](Log::begun_again) has them go on rising.
+    ///
+    /// ```
+    /// use lupaniele::{Log, Record};
+    /// let mut log = Log::empty(4_096)?;
+    /// log.append(&Record::Begin(7))?;
+    /// assert!(log.begin_again());
+    /// assert_eq!(log.count(), 0);
+    /// # Ok::<(), lupaniele::Number>(())
+    /// ```
+    pub fn begin_again(&mut self) -> bool {
+        raw::log_begin_again(self.bytes.as_mut())
     }
 
     /// Appends a record in three steps, and has each written out before the next: its body, its line, the count (rule

@@ -496,3 +496,59 @@ pub fn recover(log: &[u8], image: &mut [u8], s: &[u64], x: &[u64], line: &mut u6
         )
     }
 }
+
+/// What a desk sees by the answer to a step (rule 16.24): `seen` is written.
+///
+/// ```
+/// let mut seen = [7; 4];
+/// lupaniele::raw::heard(2, 0, 0, 5, &mut seen); // a prepare of desk 5 was accepted
+/// assert_eq!(seen, [1, 1, 5, 0]);
+/// ```
+#[inline]
+pub fn heard(step: u8, line: u8, number: u8, mark: u16, seen: &mut [u16; 4]) {
+    unsafe { sys::lupaniele_heard(step, line, number, mark, seen) }
+}
+
+/// The next step of a desk for a card (rule 16.25), and in `line` and `transaction` what it is about.
+///
+/// ```
+/// let (mut line, mut transaction) = (7, 7);
+/// let step = lupaniele::raw::next_step(&[0; 2_201], 5, 0, false, &[0; 4], &mut line, &mut transaction);
+/// assert_eq!((step, line, transaction), (1, 0, 0)); // nothing is seen yet
+/// ```
+#[inline]
+#[must_use]
+pub fn next_step(
+    log: &[u8],
+    desk: u16,
+    card: u16,
+    going: bool,
+    seen: &[u16; 4],
+    line: &mut u64,
+    transaction: &mut u64,
+) -> u8 {
+    unsafe {
+        sys::lupaniele_next_step(
+            log.as_ptr(),
+            log.len(),
+            desk,
+            card,
+            going,
+            seen,
+            line,
+            transaction,
+        )
+    }
+}
+
+/// Lets a log begin again by one store, if it is good and nothing in it is due (rule 16.27).
+///
+/// ```
+/// assert!(lupaniele::raw::log_begin_again(&mut [0; 2_201]));
+/// assert!(!lupaniele::raw::log_begin_again(&mut [0; 2_200]));
+/// ```
+#[inline]
+#[must_use]
+pub fn log_begin_again(log: &mut [u8]) -> bool {
+    unsafe { sys::lupaniele_log_begin_again(log.as_mut_ptr(), log.len()) }
+}

@@ -1,6 +1,8 @@
 use std::fmt;
 use std::str::FromStr;
 
+use crate::Mode;
+
 /// A desk and its start: who sends (rule 1.5). A desk that starts again under another start is another desk.
 ///
 /// ```
@@ -200,6 +202,21 @@ impl Pair {
     #[must_use]
     pub const fn new(s: Stamp, x: Stamp) -> Pair {
         Pair { s, x }
+    }
+
+    /// The mode's own stamp: s if shared, x if exclusive (rule 1.4).
+    ///
+    /// ```
+    /// use lupaniele::{Mode, Pair, Stamp};
+    /// let pair = Pair::new(Stamp::new(2, 2, 0), Stamp::new(1, 1, 0));
+    /// assert_eq!(pair.own(Mode::Exclusive), Stamp::new(1, 1, 0));
+    /// ```
+    #[must_use]
+    pub const fn own(self, mode: Mode) -> Stamp {
+        match mode {
+            Mode::Shared => self.s,
+            Mode::Exclusive => self.x,
+        }
     }
 
     pub(crate) const fn of([s, x]: [u64; 2]) -> Pair {

@@ -184,4 +184,19 @@ unsafe extern "C" {
         x_length: usize,
         line: *mut u64,
     ) -> u8;
+
+    pub fn lupaniele_heard(step: u8, line: u8, number: u8, mark: u16, seen: *mut [u16; 4]);
+
+    pub fn lupaniele_next_step(
+        log: *const u8,
+        log_length: usize,
+        desk: u16,
+        card: u16,
+        going: bool,
+        seen: *const [u16; 4],
+        line: *mut u64,
+        transaction: *mut u64,
+    ) -> u8;
+
+    pub fn lupaniele_log_begin_again(log: *mut u8, log_length: usize) -> bool;
 }

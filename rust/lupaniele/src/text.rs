@@ -4,7 +4,27 @@ use crate::bytes::{slice_at, u8_at, u16_at};
 use crate::{Number, raw};
 
 /// How deep sections stand within one another at most, the outermost counted (rule 12.4).
-const DEEPEST: usize = 8;
+///
+/// ```
+/// use lupaniele::{DEEPEST, Step, Text};
+/// let deep = |sections| (1..sections).fold(Text::default(), |text, _| Text::new([Step::Section(text)]));
+/// assert!(deep(DEEPEST).to_bytes().is_ok() && deep(DEEPEST + 1).to_bytes().is_err());
+/// ```
+pub const DEEPEST: usize = 8;
+
+/// Drops are near that differ by at most so many hundredths of a degree Fahrenheit, but for some that differ by exactly
+/// as many, which rounding refuses (rule 12.7).
+///
+/// ```
+/// use lupaniele::{NEAR, Step, Text, Unit, agree};
+/// let alone = |tenths| Text::new([Step::drop(tenths, Unit::Fahrenheit)]).to_bytes();
+/// let near = |first, second| Ok::<_, lupaniele::TextError>(agree(&alone(first)?, &alone(second)?).is_ok());
+/// assert!(near(4_010, 4_015)? && !near(4_010, 4_016)?);
+/// assert!(!near(6, 11)?); // which rounding refuses
+/// # assert_eq!(NEAR, 50);
+/// # Ok::<(), lupaniele::TextError>(())
+/// ```
+pub const NEAR: u64 = 50;
 
 /// The unit of a drop (rule 12.3).
 ///
@@ -71,6 +91,28 @@ impl Step {
     #[must_use]
     pub fn drop(tenths: u16, unit: Unit) -> Step {
         Step::Drop { tenths, unit }
+    }
+
+    /// By how much two drops differ, to the hundredth of a degree: in Fahrenheit and in Celsius, without the rounding of
+    /// rule 12.6; nothing where one of them is another step.
+    ///
+    /// ```
+    /// use lupaniele::{Step, Unit};
+    /// let (first, second) = (Step::drop(2_050, Unit::Celsius), Step::drop(4_020, Unit::Fahrenheit));
+    /// assert_eq!(first.apart(&second), Some((100, 56))); // 1.00 F, 0.56 C
+    /// assert_eq!(first.apart(&Step::words("Drop")), None);
+    /// ```
+    #[must_use]
+    pub fn apart(&self, other: &Step) -> Option<(u64, u64)> {
+        let fiftieths = |step: &Step| match step {
+            Step::Drop { tenths, unit } => Some(match unit {
+                Unit::Celsius => i64::from(*tenths) * 9 + 32 * 50,
+                Unit::Fahrenheit => i64::from(*tenths) * 5,
+            }),
+            _ => None,
+        };
+        let apart = (fiftieths(self)? - fiftieths(other)?).unsigned_abs();
+        Some((apart * 2, (apart * 10 + 4) / 9))
     }
 
     /// How many bytes it takes, where it can be written.

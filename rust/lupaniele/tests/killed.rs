@@ -6,6 +6,7 @@ use std::fs;
 use std::io::{Read, Write};
 use std::path::{Path, PathBuf};
 use std::process::{Command, Stdio};
+use std::sync::atomic::{AtomicBool, Ordering};
 use std::time::Duration;
 
 use lupaniele::desk::Desk;
@@ -184,5 +185,30 @@ fn one_writer() {
     drop(files);
     assert!(ImageFile::open(folder.join("cards")).is_ok());
     assert!(LogFile::open(folder.join("log")).is_ok());
+    fs::remove_dir_all(&folder).expect("the folder is gone");
+}
+
+/// A process that is just starting has every file of its parent open for a moment; what the parent closes is free all
+/// the same.
+#[test]
+fn free_while_processes_start() {
+    let folder = folder("starting");
+    drop(start(&folder));
+    let done = AtomicBool::new(false);
+    std::thread::scope(|threads| {
+        threads.spawn(|| {
+            while !done.load(Ordering::Relaxed) {
+                let _ = Command::new("true").status();
+            }
+        });
+        for _ in 0..2_000 {
+            let opened = ImageFile::open(folder.join("cards"));
+            if opened.is_err() {
+                done.store(true, Ordering::Relaxed);
+            }
+            drop(opened.expect("nobody has it"));
+        }
+        done.store(true, Ordering::Relaxed);
+    });
     fs::remove_dir_all(&folder).expect("the folder is gone");
 }

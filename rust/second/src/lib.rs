@@ -18,7 +18,7 @@
 //! - [`lease`]: desks that fall silent, numbers 21 and 25.
 //! - [`history`]: the history engine, number 22.
 //! - [`log`], [`recovery`]: a desk's redo log, numbers 23, 24 and 26, and
-//!   recovery from it.
+//!   recovery from it. [`steps`]: the steps of a transaction.
 //! - [`stream`], [`program`]: streams and the program's output.
 //! - [`number`]: the names of the numbers. [`endian`]: little-endian numbers.
 //!   [`random`]: random numbers for tests. [`short`], [`generate`], [`trials`]:
@@ -54,6 +54,7 @@ pub mod random;
 pub mod recovery;
 pub mod short;
 pub mod stamp;
+pub mod steps;
 pub mod store;
 pub mod stream;
 pub mod texts;

@@ -56,6 +56,23 @@ pub fn recover_by(
     }
 }
 
+/// Whether a record is an update that is due (rule 11.15).
+pub fn is_due(records: &[Logged], logged: &Logged) -> bool {
+    let Record::Update { card, .. } = logged.record else {
+        return false;
+    };
+    let transaction = logged.transaction;
+    let committed = |other: &Logged| other.record == Record::Commit(transaction);
+    let synced = |other: &Logged| match other.record {
+        Record::Synced {
+            card: of,
+            transaction: since,
+        } => of == card && since >= transaction,
+        _ => false,
+    };
+    records.iter().any(committed) && !records.iter().any(synced)
+}
+
 /// The write of an update that is due (rules 11.15 and 11.17); none for any
 /// other record.
 fn write(
@@ -68,16 +85,7 @@ fn write(
     let Record::Update { card, side, text } = logged.record else {
         return None;
     };
-    let transaction = logged.transaction;
-    let committed = |other: &Logged| other.record == Record::Commit(transaction);
-    let synced = |other: &Logged| match other.record {
-        Record::Synced {
-            card: of,
-            transaction: since,
-        } => of == card && since >= transaction,
-        _ => false,
-    };
-    if !records.iter().any(committed) || records.iter().any(synced) {
+    if !is_due(records, logged) {
         return None;
     }
     let stored = Layout::of_sound(V1, image).and_then(|layout| layout.entry(image, card));

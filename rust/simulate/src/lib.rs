@@ -7,20 +7,16 @@
 //! - [`checks`]: the rules. [`tally`]: what is counted.
 //! - [`town`]: the desks, managers, logs and the post, and what befalls them.
 //!   [`rule`]: rules that a run may break.
-//! - [`run`]: many towns. [`scene`]: what happened, in words.
-//! - [`text`]: commands and lists as lines of text. [`story`]: such a list, run.
-//! - [`picture`]: what happened, as SVG.
+//! - [`run`]: many towns. [`scenes`]: what happens, as the crate `story` tells and
+//!   draws it.
 
 #![deny(missing_docs)]
 
 pub mod checks;
 pub mod library;
 mod named;
-pub mod picture;
 pub mod rule;
 pub mod run;
-pub mod scene;
-pub mod story;
+pub mod scenes;
 pub mod tally;
-pub mod text;
 pub mod town;

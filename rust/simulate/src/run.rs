@@ -1,14 +1,17 @@
 //! A run: town after town from one seed, then towns in which one rule is
 //! broken, and the tables.
 
+use std::collections::BTreeMap;
+use std::io::Write;
 use std::time::Instant;
 
 use second::random::Random;
+use story::picture::{self, Picture};
+use story::Scene;
 
 use crate::checks::Breach;
 use crate::library::Library;
 use crate::rule::Rule;
-use crate::scene::Scene;
 use crate::tally::{grouped, Tally};
 use crate::town::{Outcome, Shape, Town};
 
@@ -73,7 +76,11 @@ pub fn run<L: Library>(library: &mut L, tally: &mut Tally, plan: Plan) -> Result
         let seconds = started.elapsed().as_secs();
         if plan.progress && seconds >= shown {
             let (steps, rate) = (grouped(tally.steps), grouped(tally.steps / seconds));
-            println!("simulate: {steps} steps, {seconds} s, {rate} steps a second");
+            let mut to = std::io::stderr();
+            let _ = writeln!(
+                to,
+                "simulate: {steps} steps, {seconds} s, {rate} steps a second"
+            );
             shown = seconds + 5;
         }
     }
@@ -213,11 +220,17 @@ fn last_words(scenes: &[Scene]) -> Vec<String> {
     scenes[from..].iter().map(Scene::to_string).collect()
 }
 
-/// A small town, for a picture.
-pub fn small<L: Library>(library: &mut L, seed: u64) -> Result<Vec<Scene>, Breach> {
+/// A picture of a small town.
+pub fn drawn<L: Library>(library: &mut L, seed: u64) -> Result<String, Breach> {
     let mut tally = Tally::default();
     let mut town = Town::new(library, &mut tally, seed, Shape::small(), None)?;
+    let opening = town.standings();
     town.scenes = Some(Vec::new());
     town.run()?;
-    Ok(town.scenes.take().unwrap_or_default())
+    Ok(picture::draw(&Picture {
+        title: &format!("A town of three desks, seed {seed}"),
+        names: &BTreeMap::new(),
+        opening: &opening,
+        scenes: &town.scenes.take().unwrap_or_default(),
+    }))
 }

@@ -6,7 +6,7 @@ use simulate::checks::isolation::Lists;
 use simulate::checks::log::{appended, due, read, BEGIN, COMMIT, SYNCED, UPDATE};
 use simulate::checks::{formed, Check, Made};
 use simulate::library::{Answer, Library, Proved};
-use simulate::text;
+use story::{Event, Story};
 
 /// The stamp T.desk.0.
 fn stamp(time: u64, desk: u64) -> u64 {
@@ -125,18 +125,19 @@ fn a_check_that_fails_says_so() {
 fn trials_a_and_b() {
     let top = concat!(
         env!("CARGO_MANIFEST_DIR"),
-        "/../../docs/pictures/late-exclusive.txt"
+        "/../../docs/pictures/late-card.txt"
     );
-    let list = text::read(&std::fs::read_to_string(top).unwrap()).unwrap();
-    let mut store = simulate::checks::store::Store::new(1, 16, true);
-    let numbers = list.lines.iter().map(|(_, line)| match line {
-        text::Line::Command(bytes) => {
+    let story = Story::read(&std::fs::read_to_string(top).unwrap()).unwrap();
+    let room = usize::from(story.image.room());
+    let mut store = simulate::checks::store::Store::new(1, room, true);
+    let numbers = story.events.iter().filter_map(|(_, event)| match event {
+        Event::Command { bytes, .. } => {
             let sent = formed::formed(bytes);
-            let number = store.number(sent.as_ref(), 16);
+            let number = store.number(sent.as_ref(), room);
             store.recovering(&mut Made::default(), bytes).unwrap();
-            number
+            Some(number)
         }
-        _ => 99,
+        _ => None,
     });
     assert_eq!(numbers.collect::<Vec<u8>>(), [0, 0, 0, 0, 0, 0, 3, 0]);
 }

@@ -18,12 +18,15 @@ returns c = c .refusal .ensures ∙ sym (replied-blank _ _ _ (sym (c .before .be
 length-requires : tie.Need-length-requires
 length-requires c κs = search needs
 
+told-requires : tie.Need-told-requires
+told-requires c κs = search needs
+
 returns-2 : tie.Need-returns-2
 unfolding replied
 returns-2 c =
-    let shown = c .before .before .before .before in
-    rw (c .length .ensures, sym (shown .before .is-blank .ensures) ∙ shown .if1 .left)
+    let shown = c .before .before in
+    rw (c .told .ensures, c .before .length .ensures, sym (shown .before .is-blank .ensures) ∙ shown .if1 .left)
 
 pub reply-spec : {M : Type 1} → statement M
 reply-spec =
-    tie.close (tie.spec is-blank-requires refusal-requires returns length-requires returns-2)
+    tie.close (tie.spec is-blank-requires refusal-requires returns length-requires told-requires returns-2)

@@ -3,12 +3,12 @@ ghost use mathlib.Core.Path.{_≡_};
 ghost use mathlib.Core.Bool.{true};
 ghost use Rattle.guard.specs.Judge.{actRows, entryRows, judged};
 ghost use Rattle.commands.specs.Command.{update, wellFormed};
-ghost use Rattle.stamps.specs.Stamp.{tooFar};
 ghost use Rattle.lists.specs.Table.{first};
 use crate::Entry;
 use crate::Judged;
 use crate::behind;
 use commands::Command;
+use commands::VERIFY;
 use numbers::ACCEPTED;
 use numbers::EDITION_WRONG;
 use numbers::EDITIONS_SPENT;
@@ -17,6 +17,7 @@ use numbers::PAYLOAD_LONG;
 use numbers::REPLY_SHORT;
 use numbers::STALE;
 use numbers::TOO_FAR;
+use stamps::Pair;
 use stamps::mark_fits;
 use stamps::stale;
 use stamps::too_far;
@@ -25,19 +26,15 @@ use stamps::too_far;
 const LAST_EDITION: u16 = 65535;
 
 impl Entry {
-    // Row 17: a stamp of the update pair is too far ahead of the stored one on its side.
-    fn far_ahead(self, c: Command) -> bool
-        ensures { λ r. ⌜ r ≡ tooFar (self .pair) (update c) ⌝ }
-    {
-        too_far(self.pair, c.update())
-    }
-
-    // The number of the first of the rows 5 to 8 that applies, by the act: act 1 has row 8, act 2 rows 6 and 8, act 3 rows 5 and 7, act 4 rows 5
-    // and 6, act 5 none. A command that writes nothing has no payload.
+    // The number of the first of the rows 5 to 8 that applies, by the act: act 5, which is asked most, has none, act 1 row 8, act 2 rows 6 and 8, act 3
+    // rows 5 and 7, act 4 rows 5 and 6. A command that writes nothing has no payload.
     fn act_number(self, c: Command, room: u16, lent: usize) -> u8
         requires { ⌜ wellFormed c ≡ true ⌝ }
         ensures { λ r. ⌜ r ≡ first (actRows self c room lent) ⌝ }
     {
+        if c.act == VERIFY {
+            return ACCEPTED;
+        }
         if c.reads_original() {
             if lent < self.original as usize {
                 return REPLY_SHORT;
@@ -70,15 +67,15 @@ impl Entry {
         ACCEPTED
     }
 
-    // The number of the first row from 3 on that applies.
-    fn number(self, c: Command, room: u16, lent: usize) -> u8
-        requires { ⌜ wellFormed c ≡ true ⌝ }
+    // The number of the first row from 3 on that applies, to a command whose update pair is `new`.
+    pub fn number(self, c: Command, new: Pair, room: u16, lent: usize) -> u8
+        requires { ⌜ (wellFormed c ≡ true) × (new ≡ update c) ⌝ }
         ensures { λ r. ⌜ r ≡ first (entryRows self c room lent) ⌝ }
     {
-        if stale(c.mode, self.pair, c.pair) {
+        if stale(c.mode, self.pair, c.verifier) {
             return STALE;
         }
-        if self.far_ahead(c) {
+        if too_far(self.pair, new) {
             return TOO_FAR;
         }
         if !mark_fits(self.mark, c.expected) {
@@ -92,7 +89,8 @@ impl Entry {
         requires { ⌜ wellFormed c ≡ true ⌝ }
         ensures { λ r. ⌜ r ≡ judged self c room lent ⌝ }
     {
-        let number = self.number(c, room, lent);
+        let new = c.update();
+        let number = self.number(c, new, room, lent);
         if number != ACCEPTED {
             return Judged {
                 number,
@@ -101,7 +99,7 @@ impl Entry {
         }
         Judged {
             number,
-            entry: self.raised(c),
+            entry: self.raised(c, new),
         }
     }
 }

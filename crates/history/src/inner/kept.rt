@@ -57,7 +57,7 @@ fn taken(e: Entry, c: Command, card: u16) -> Entry
     ensures { λ r. ⌜ r ≡ cond (eqb (c .card) card) (raise e c) e ⌝ }
 {
     if c.card == card {
-        return e.raised(c);
+        return e.raised(c, c.update());
     }
     e
 }

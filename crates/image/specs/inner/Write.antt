@@ -10,15 +10,21 @@ use Rattle.formats.specs.Format.{Format, originalAt, fromsAt, lengthsAt}
 use Rattle.commands.specs.Bytes.{pairBytes}
 use Rattle.image.specs.Bytes.{entryMark}
 
--- The edition, the original's length, and of translation t the edition that it was made from and its length.
-abbrev pub countsWith : Format → ℕ → Entry → ℕ → List ℕ → List ℕ
-countsWith f t e at l =
-    splice (at + (lengthsAt f + 2 * t)) (toLe 2 (e .translation))
-    (splice (at + (fromsAt f + 2 * t)) (toLe 2 (e .from))
-    (splice (at + originalAt f) (toLe 2 (e .original)) (splice (at + 24) (toLe 2 (e .edition)) l)))
+-- The parts of an entry that change apart: the pair and the mark; the edition and the original's length; of translation t the edition that it was made
+-- from and its length.
+unfoldable pub stampsWith : Entry → ℕ → List ℕ → List ℕ
+stampsWith e at l = splice (at + 16) (entryMark (e .mark)) (splice at (pairBytes (e .pair)) l)
 
+unfoldable pub originalWith : Format → Entry → ℕ → List ℕ → List ℕ
+originalWith f e at l = splice (at + originalAt f) (toLe 2 (e .original)) (splice (at + 24) (toLe 2 (e .edition)) l)
+
+unfoldable pub translationWith : Format → ℕ → Entry → ℕ → List ℕ → List ℕ
+translationWith f t e at l =
+    splice (at + (lengthsAt f + 2 * t)) (toLe 2 (e .translation)) (splice (at + (fromsAt f + 2 * t)) (toLe 2 (e .from)) l)
+
+-- The entry as seen in translation t.
 unfoldable pub entryWith : Format → ℕ → Entry → ℕ → List ℕ → List ℕ
-entryWith f t e at l = countsWith f t e at (splice (at + 16) (entryMark (e .mark)) (splice at (pairBytes (e .pair)) l))
+entryWith f t e at l = translationWith f t e at (originalWith f e at (stampsWith e at l))
 
 -- A text over an old one of this length: the text, and zeros in place of what is left of the old one.
 unfoldable pub overOld : ℕ → List ℕ → List ℕ

@@ -1,13 +1,13 @@
 // Writing an entry and a text into an image.
 ghost use mathlib.Core.Path.{_≡_};
-ghost use Prim.Native.Nat.{_+_, _*_, _≤_, _<_};
+ghost use Prim.Native.Nat.{_+_, _≤_, _<_};
 ghost use lib.ListN.{length};
 ghost use Rattle.lists.specs.Parts.{splice};
-ghost use Rattle.formats.specs.Format.{formatOf, translations, entrySize, originalAt, fromsAt, lengthsAt};
+ghost use Rattle.formats.specs.Format.{formatOf, translations, entrySize};
 ghost use Rattle.image.specs.Layout.{entryPlace, mostRoom};
 ghost use Rattle.commands.specs.Bytes.{pairBytes};
 ghost use Rattle.image.specs.Bytes.{entryMark};
-ghost use Rattle.image.specs.inner.Write.{countsWith, entryWith, overOld};
+ghost use Rattle.image.specs.inner.Write.{stampsWith, originalWith, translationWith, entryWith, overOld};
 use crate::inner::layout;
 use formats::Version;
 use guard::Entry;
@@ -34,17 +34,35 @@ fn write_mark(image: &mut [u8], at: usize, mark: Mark)
     le::write_u32(image, at + 4, mark.transaction);
 }
 
-// Writes the counts and lengths of the entry at `at`, as seen in translation t.
-fn write_counts(v: Version, image: &mut [u8], at: usize, t: u8, e: Entry)
-    requires { ⌜ (at + 26 ≤ length (now image)) × (at + originalAt (formatOf v) + 2 ≤ length (now image))
-        × (at + (fromsAt (formatOf v) + 2 * t) + 2 ≤ length (now image)) × (at + (lengthsAt (formatOf v) + 2 * t) + 2 ≤ length (now image)) ⌝ }
-    ensures { λ _. ⌜ now (image .exit) ≡ countsWith (formatOf v) t e at (now (image .entry)) ⌝ }
+// Writes the pair and the mark of the entry of card k.
+pub fn store_stamps(v: Version, image: &mut [u8], k: u16, e: Entry)
+    requires { ⌜ entryPlace (formatOf v) k + entrySize (formatOf v) ≤ length (now image) ⌝ }
+    ensures { λ _. ⌜ now (image .exit) ≡ stampsWith e (entryPlace (formatOf v) k) (now (image .entry)) ⌝ }
 {
+    let at = layout::entry_place(v, k);
+    write_pair(image, at, e.pair);
+    write_mark(image, at + 16, e.mark);
+}
+
+// Writes its edition and its original's length.
+pub fn store_original(v: Version, image: &mut [u8], k: u16, e: Entry)
+    requires { ⌜ entryPlace (formatOf v) k + entrySize (formatOf v) ≤ length (now image) ⌝ }
+    ensures { λ _. ⌜ now (image .exit) ≡ originalWith (formatOf v) e (entryPlace (formatOf v) k) (now (image .entry)) ⌝ }
+{
+    let at = layout::entry_place(v, k);
     let original = formats::inner::original_at(v);
-    let from = layout::from_place(v, t);
-    let length = layout::length_place(v, t);
     le::write_u16(image, at + 24, e.edition);
     le::write_u16(image, at + original, e.original);
+}
+
+// Writes the edition that translation t was made from, and its length.
+pub fn store_translation(v: Version, image: &mut [u8], k: u16, t: u8, e: Entry)
+    requires { ⌜ (entryPlace (formatOf v) k + entrySize (formatOf v) ≤ length (now image)) × (t < translations (formatOf v)) ⌝ }
+    ensures { λ _. ⌜ now (image .exit) ≡ translationWith (formatOf v) t e (entryPlace (formatOf v) k) (now (image .entry)) ⌝ }
+{
+    let at = layout::entry_place(v, k);
+    let from = layout::from_place(v, t);
+    let length = layout::length_place(v, t);
     le::write_u16(image, at + from, e.from);
     le::write_u16(image, at + length, e.translation);
 }
@@ -54,10 +72,9 @@ pub fn store_entry(v: Version, image: &mut [u8], k: u16, t: u8, e: Entry)
     requires { ⌜ (entryPlace (formatOf v) k + entrySize (formatOf v) ≤ length (now image)) × (t < translations (formatOf v)) ⌝ }
     ensures { λ _. ⌜ now (image .exit) ≡ entryWith (formatOf v) t e (entryPlace (formatOf v) k) (now (image .entry)) ⌝ }
 {
-    let at = layout::entry_place(v, k);
-    write_pair(image, at, e.pair);
-    write_mark(image, at + 16, e.mark);
-    write_counts(v, image, at, t, e);
+    store_stamps(v, image, k, e);
+    store_original(v, image, k, e);
+    store_translation(v, image, k, t, e);
 }
 
 // Writes a text at `at`, and makes zero what is left there of an old text of this length.

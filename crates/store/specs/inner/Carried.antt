@@ -7,7 +7,9 @@ use Rattle.lists.specs.Parts.{splice}
 use Rattle.commands.specs.Command.{original, writesTranslation, writes}
 use Rattle.commands.specs.declared.Command.{Command}
 use Rattle.formats.specs.Format.{Format}
-use Rattle.image.specs.Layout.{bodyPlace}
+use Rattle.image.specs.Layout.{entryPlace, bodyPlace}
+use Rattle.image.specs.inner.Write.{originalWith, translationWith}
+use Rattle.guard.specs.declared.Entry.{Entry}
 use Rattle.image.specs.Bytes.{countOf, roomOf, pad, entryAt}
 use lib.ListN.{length}
 use Rattle.guard.specs.Judge.{judged}
@@ -28,6 +30,17 @@ textWritten f image c text =
     (writes original c)
     (bodyWritten f image (c .card) 0 text)
     (cond (writesTranslation c) (bodyWritten f image (c .card) (suc (c .language)) text) image)
+
+-- The same with what the entry e, the raised one, says of that text.
+unfoldable pub actWritten : Format → List ℕ → Command → Entry → List ℕ → List ℕ
+actWritten f image c e text =
+    cond
+    (writes original c)
+    (originalWith f e (entryPlace f (c .card)) (bodyWritten f image (c .card) 0 text))
+    (cond
+    (writesTranslation c)
+    (translationWith f (c .language) e (entryPlace f (c .card)) (bodyWritten f image (c .card) (suc (c .language)) text))
+    image)
 
 -- ---- One well-formed command for an existing card, on a sound image, in the terms of the step's own functions: the judging entry, and what is
 -- left. A request as a whole is `serve`.

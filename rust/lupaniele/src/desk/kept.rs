@@ -1,6 +1,6 @@
 use crate::{Action, Answer, Command, DeskId, Held, Known, Language, Mark, Mode, Number, Pair};
 
-use super::{Failed, NotShown};
+use super::{Failed, NotShown, Seen};
 
 /// What a desk keeps of one card.
 #[derive(Clone, Debug)]
@@ -11,6 +11,8 @@ pub(super) struct Kept {
     pub(super) shown: Option<Pair>,
     /// The commit mark that the guard last showed.
     pub(super) mark: Mark,
+    /// What it has seen of the card (rule 16.24).
+    pub(super) seen: Seen,
     /// The largest edition that the guard showed.
     pub(super) edition: u16,
     /// The mode and the pair under which it stands in the card's queue.
@@ -27,6 +29,7 @@ impl Kept {
             known: Known::nothing(id),
             shown: None,
             mark: Mark::NONE,
+            seen: Seen::NOTHING,
             edition: 0,
             asked: None,
             original: None,

@@ -4,13 +4,13 @@
 //! - [`Desk`]: reads and writes cards; [`Session`]: several commands that nobody else comes between.
 //! - [`Store`], [`Locks`], [`Journal`]: what the caller brings: the way to the store, to the lock managers, and the
 //!   desk's log.
-//! - [`Transaction`]: several cards, all or nothing.
+//! - [`Transaction`]: several cards, all or nothing; [`NextStep`], [`Seen`]: its steps, for a desk of one's own.
 //! - [`Failed`], [`Refusal`], [`NotShown`]: why not, as types.
 
-pub(crate) mod due;
 mod kept;
 mod refused;
 mod session;
+mod step;
 mod transaction;
 
 use std::collections::BTreeMap;
@@ -24,6 +24,7 @@ use crate::{
 use kept::Kept;
 pub use refused::{Failed, NotShown, Refusal};
 pub use session::{Exclusive, InMode, Original, Session, Shared};
+pub use step::{NextStep, Seen};
 pub use transaction::{Recovered, Transaction, Undone, Why};
 
 /// The most room that a text has in any image (rule 2.2): what a desk lends for a reply.
@@ -296,15 +297,28 @@ impl Desk {
         store: &mut S,
         command: &Command,
     ) -> Result<(Answer, Vec<u8>), Failed<S::Error>> {
+        self.send_as(NextStep::Look, store, command)
+    }
+
+    /// The same of a step of a transaction. Until its answer comes nothing is seen of the card (rule 16.24).
+    fn send_as<S: Store>(
+        &mut self,
+        step: NextStep,
+        store: &mut S,
+        command: &Command,
+    ) -> Result<(Answer, Vec<u8>), Failed<S::Error>> {
         let bytes = command.to_bytes(store.version()).map_err(Failed::Command)?;
         let reading = matches!(
             command.action.act(),
             Act::ReadOriginal | Act::ReadTranslation
         );
         let mut reply = vec![0; if reading { LARGEST_ROOM } else { 0 }];
+        self.kept(command.card).seen = Seen::NOTHING;
         let answer = store.send(&bytes, &mut reply).map_err(Failed::Transport)?;
         reply.truncate(answer.length.into());
-        self.kept(command.card).hear(command, &answer, &reply);
+        let kept = self.kept(command.card);
+        kept.hear(command, &answer, &reply);
+        kept.seen = Seen::heard(step, &answer);
         Ok((answer, reply))
     }
 

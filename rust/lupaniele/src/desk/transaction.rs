@@ -1,11 +1,10 @@
 use std::fmt;
 
 use crate::{
-    Action, AppendError, Command, Language, Log, Mark, Mode, Number, Record, Side, Version,
+    Action, Answer, AppendError, Command, Language, Log, Mark, Mode, Number, Record, Side, Version,
 };
 
-use super::due::{due, updated};
-use super::{Desk, Failed, Journal, Original, Refusal, Store};
+use super::{Desk, Failed, Journal, NextStep, Original, Refusal, Seen, Store};
 
 /// Several cards that are changed at once, all or nothing, whatever is cut (after 003, section 3.4.2): the updates go
 /// to the desk's log, the cards get its mark, a commit is appended, and then the cards are written one by one; who
@@ -146,7 +145,7 @@ impl Desk {
         }
         let log =
             Log::check(journal.log()).map_err(|number| Undone::Aborted(Why::BadLog(number)))?;
-        if !due(&log).is_empty() {
+        if !log.nothing_due() {
             return Err(Undone::Aborted(Why::Unfinished));
         }
         let Some(number) = self.begun.max(log.last_begun()).checked_add(1) else {
@@ -202,106 +201,132 @@ impl Desk {
         let log =
             Log::check(journal.log()).map_err(|number| Undone::Committed(Why::BadLog(number)))?;
         self.begun = self.begun.max(log.last_begun());
-        let mut recovered = Recovered::default();
-        for card in updated(&log) {
-            let finished = self.finish(store, journal, card, &mut recovered);
-            finished.map_err(Undone::Committed)?;
+        let (cards, tries) = (log.updated(), self.tries);
+        let mut on = Outside {
+            store,
+            journal,
+            mark: Mark::NONE,
+            recovered: Recovered::default(),
+        };
+        for card in cards {
+            let followed = self.follow(&mut on, card, false, tries);
+            followed.map_err(Undone::Committed)?;
         }
-        Ok(recovered)
+        Ok(on.recovered)
     }
 
-    /// Finishes one card: looks at it, writes what is due and releases it if it bears the mark, and notes it as synced
-    /// if something was due.
-    fn finish<S: Store, J: Journal>(
+    /// Takes the steps of rule 16.25 for a card until nothing is left to do. What is stale, or meets another mark than it
+    /// expects, is tried again by what the answer shows, so often as `tries` says.
+    fn follow<S: Store, J: Journal>(
         &mut self,
-        store: &mut S,
-        journal: &mut J,
+        on: &mut Outside<'_, S, J>,
         card: u16,
-        recovered: &mut Recovered,
+        going: bool,
+        tries: u32,
     ) -> Result<(), Stopped<S, J>> {
-        let at = |failed| Why::Store { card, failed };
-        let log = Log::check(journal.log()).map_err(Why::BadLog)?;
-        let due = due(&log).into_iter().filter(|update| update.card == card);
-        let mut last = None;
-        let mut mark = self.look(store, card).map_err(at)?;
-        for update in due {
-            last = Some(update.transaction);
-            if mark.desk == self.id.desk {
-                let action = self.writing(card, update.side, update.text);
-                mark = self
-                    .order(store, card, action, mark, mark, self.tries)
-                    .map_err(at)?;
-                recovered.written += 1;
-            }
+        let mut tried = 0;
+        loop {
+            let (desk, seen) = (self.id.desk, self.kept(card).seen);
+            let log = Log::check(on.journal.log()).map_err(Why::BadLog)?;
+            let step = NextStep::of(&log, desk, card, going, seen);
+            let answer = match step {
+                NextStep::Nothing | NextStep::Ready => return Ok(()),
+                NextStep::Bad => return Err(Why::BadLog(Number::BadLog)),
+                NextStep::Wait => {
+                    let failed = Failed::Refused(Refusal::Marked(self.kept(card).mark));
+                    return Err(Why::Store { card, failed });
+                }
+                NextStep::Note { transaction } => {
+                    let note = Record::Synced { card, transaction };
+                    on.journal.append(&note).map_err(Why::Log)?;
+                    on.recovered.synced += 1;
+                    continue;
+                }
+                NextStep::Look => self.look(on.store, card),
+                NextStep::Prepare => self.order(step, on.store, card, on.mark, Action::Verify),
+                NextStep::Release => self.order(step, on.store, card, on.mark, Action::Verify),
+                NextStep::Write { line } => {
+                    let action = self.writing(&log, card, line);
+                    self.order(step, on.store, card, on.mark, action)
+                }
+            };
+            let answer = answer.map_err(|failed| Why::Store { card, failed })?;
+            // A look that shows the card has told what it was for, whatever its number.
+            let looked = step == NextStep::Look && self.kept(card).seen != Seen::NOTHING;
+            let refusal = match answer.number {
+                Number::Accepted => {
+                    on.recovered.written += u32::from(matches!(step, NextStep::Write { .. }));
+                    tried = 0;
+                    continue;
+                }
+                _ if looked => continue,
+                Number::Stale | Number::MarkDiffers if tried + 1 < tries => {
+                    tried += 1;
+                    continue;
+                }
+                Number::Stale => Refusal::Stale { tries: tried + 1 },
+                _ => Refusal::of(&answer),
+            };
+            let failed = Failed::Refused(refusal);
+            return Err(Why::Store { card, failed });
         }
-        if mark.desk == self.id.desk {
-            let tries = self.tries;
-            self.order(store, card, Action::Verify, mark, Mark::NONE, tries)
-                .map_err(at)?;
-        }
-        if let Some(transaction) = last {
-            journal
-                .append(&Record::Synced { card, transaction })
-                .map_err(Why::Log)?;
-            recovered.synced += 1;
-        }
-        Ok(())
     }
 
-    /// The write of an update; a translation names the edition that stands.
-    fn writing<'t>(&mut self, card: u16, side: Side, text: &'t [u8]) -> Action<'t> {
-        match side {
-            Side::Original => Action::WriteOriginal(text),
-            Side::Translation => Action::WriteTranslation {
+    /// The write of a line of the log; a translation names the edition that stands.
+    fn writing<'t, B: AsRef<[u8]>>(&mut self, log: &'t Log<B>, card: u16, line: u8) -> Action<'t> {
+        match log.records().nth(line.into()) {
+            Some(Record::Update {
+                side: Side::Translation,
+                text,
+                ..
+            }) => Action::WriteTranslation {
                 language: Language::First,
                 edition: self.kept(card).edition,
                 text,
             },
+            Some(Record::Update { text, .. }) => Action::WriteOriginal(text),
+            _ => Action::Verify,
         }
     }
 
-    /// The mark that a card bears now, by an answer that shows its entry.
-    fn look<S: Store>(&mut self, store: &mut S, card: u16) -> Result<Mark, Failed<S::Error>> {
+    /// A command without a mark of the desk's, for its answer.
+    fn look<S: Store>(&mut self, store: &mut S, card: u16) -> Result<Answer, Failed<S::Error>> {
         let pair = self.kept(card).propose(Mode::Shared)?;
         let (answer, _) = self.send(store, &Command::verify(card).shared(pair))?;
-        match answer.number {
-            Number::Unsound | Number::Malformed | Number::NoCard => {
-                Err(Failed::Refused(Refusal::of(&answer)))
-            }
-            _ => Ok(answer.mark),
-        }
+        Ok(answer)
     }
 
-    /// A command with a mark, and the mark that the card then bears. It opens a session of its own, and relies on what
-    /// the guard last showed of the card: so it is accepted at most once, and only while nobody else was.
+    /// An order (rules 16.3 and 16.4): it opens a session of its own and relies on the pair that the guard last showed
+    /// for the card, so that it is accepted at most once, and only while nobody else was.
     fn order<S: Store>(
         &mut self,
+        step: NextStep,
         store: &mut S,
         card: u16,
+        mark: Mark,
         action: Action,
-        expected: Mark,
-        next: Mark,
-        tries: u32,
-    ) -> Result<Mark, Failed<S::Error>> {
-        if self.kept(card).shown.is_none() {
-            self.look(store, card)?;
-        }
-        let mut tried = 0;
-        loop {
-            tried += 1;
-            let kept = self.kept(card);
-            let relied_on = kept.shown.unwrap_or_default();
-            let pair = kept.propose(Mode::Exclusive)?;
-            let draft = Command::doing(card, action).opening(Mode::Exclusive, relied_on, pair);
-            let (answer, _) = self.send(store, &draft.expecting(expected).leaving(next))?;
-            match answer.number {
-                Number::Accepted => return Ok(answer.mark),
-                Number::Stale if tried < tries => {}
-                Number::Stale => return Err(Failed::Refused(Refusal::Stale { tries: tried })),
-                _ => return Err(Failed::Refused(Refusal::of(&answer))),
-            }
-        }
+    ) -> Result<Answer, Failed<S::Error>> {
+        let kept = self.kept(card);
+        let (relied_on, stored) = (kept.shown.unwrap_or_default(), kept.mark);
+        let pair = kept.propose(Mode::Exclusive)?;
+        let (expected, next) = match step {
+            NextStep::Prepare => (Mark::NONE, mark),
+            NextStep::Release => (stored, Mark::NONE),
+            _ => (stored, stored),
+        };
+        let draft = Command::doing(card, action).opening(Mode::Exclusive, relied_on, pair);
+        let command = draft.expecting(expected).leaving(next);
+        let (answer, _) = self.send_as(step, store, &command)?;
+        Ok(answer)
     }
+}
+
+/// What a desk works on outside itself, the mark that it prepares cards with, and what it has done.
+struct Outside<'a, S, J> {
+    store: &'a mut S,
+    journal: &'a mut J,
+    mark: Mark,
+    recovered: Recovered,
 }
 
 impl<S: Store, J: Journal> Transaction<'_, S, J> {
@@ -473,48 +498,48 @@ impl<S: Store, J: Journal> Transaction<'_, S, J> {
     /// ```
     pub fn commit(mut self) -> Result<(), Halted<S, J>> {
         let cards = self.cards();
-        let mut prepared = Vec::new();
-        let ready = self.prepare(&cards, &mut prepared);
-        if let Err(why) = ready {
-            self.release(&prepared);
+        if let Err(why) = self.prepare(&cards) {
+            self.release(&cards);
             return Err(Undone::Aborted(why));
         }
         match self.journal.append(&Record::Commit(self.number)) {
             Ok(()) => {}
             Err(AppendError::Unknown(why)) => return Err(Undone::Unknown(why)),
             Err(why) => {
-                self.release(&prepared);
+                self.release(&cards);
                 return Err(Undone::Aborted(Why::Log(why)));
             }
         }
-        let mut recovered = Recovered::default();
         for card in cards {
-            let finished = self
-                .desk
-                .finish(self.store, self.journal, card, &mut recovered);
-            finished.map_err(Undone::Committed)?;
+            self.follow(card, true, self.desk.tries)
+                .map_err(Undone::Committed)?;
         }
         Ok(())
     }
 
-    /// Marks each card, and sees to it that what is committed can also be written and noted.
-    fn prepare(&mut self, cards: &[u16], prepared: &mut Vec<u16>) -> Result<(), Stopped<S, J>> {
-        let mark = Mark::new(self.desk.id.desk, self.number);
+    /// Takes the steps of a card, as the desk does.
+    fn follow(&mut self, card: u16, going: bool, tries: u32) -> Result<(), Stopped<S, J>> {
+        let mut on = Outside {
+            store: &mut *self.store,
+            journal: &mut *self.journal,
+            mark: Mark::new(self.desk.id.desk, self.number),
+            recovered: Recovered::default(),
+        };
+        self.desk.follow(&mut on, card, going, tries)
+    }
+
+    /// Makes each card ready (rule 16.8), and sees to it that what is committed can also be written and noted (16.21).
+    fn prepare(&mut self, cards: &[u16]) -> Result<(), Stopped<S, J>> {
         for card in cards {
-            let tries = match self.relied_on.contains(card) {
-                true => 1,
-                false => self.desk.tries,
-            };
-            prepared.push(*card);
-            let order = self
-                .desk
-                .order(self.store, *card, Action::Verify, Mark::NONE, mark, tries);
-            if let Err(failed) = order {
+            let relied_on = self.relied_on.contains(card);
+            if relied_on && self.desk.kept(*card).seen == Seen::NOTHING {
+                let failed = Failed::Refused(Refusal::Stale { tries: 0 });
                 return Err(Why::Store {
                     card: *card,
                     failed,
                 });
             }
+            self.follow(*card, true, if relied_on { 1 } else { self.desk.tries })?;
         }
         for card in cards {
             let writable = self.writable(*card);
@@ -553,13 +578,8 @@ impl<S: Store, J: Journal> Transaction<'_, S, J> {
 
     /// Takes the mark off cards again, as far as the store is reached; a recovery does the rest.
     fn release(&mut self, cards: &[u16]) {
-        let mark = Mark::new(self.desk.id.desk, self.number);
         for card in cards {
-            let tries = self.desk.tries;
-            let released =
-                self.desk
-                    .order(self.store, *card, Action::Verify, mark, Mark::NONE, tries);
-            drop(released);
+            drop(self.follow(*card, false, self.desk.tries));
         }
     }
 }

@@ -3,7 +3,7 @@
 
 use std::ffi::OsString;
 use std::fs::{self, File, OpenOptions, TryLockError};
-use std::io::{self, Write};
+use std::io::{self, Read, Write};
 use std::path::{Path, PathBuf};
 
 use super::FileError;
@@ -18,7 +18,7 @@ fn beside(path: &Path, ending: &str) -> PathBuf {
 /// Held as long as somebody has a file open for writing. It is on a file of its own, since the file itself is replaced.
 #[derive(Debug)]
 pub(super) struct Lock {
-    _held: File,
+    held: File,
 }
 
 impl Lock {
@@ -29,10 +29,41 @@ impl Lock {
             .open(beside(path, ".lock"))
             .map_err(FileError::Unreadable)?;
         match held.try_lock() {
-            Ok(()) => Ok(Lock { _held: held }),
+            Ok(()) => Ok(Lock { held }),
             Err(TryLockError::WouldBlock) => Err(FileError::InUse),
             Err(TryLockError::Error(why)) => Err(FileError::Unreadable(why)),
         }
+    }
+}
+
+/// Given up by name and not by closing the file alone: a process that this one is just starting has the file open too,
+/// until it runs its program.
+impl Drop for Lock {
+    fn drop(&mut self) {
+        let _ = self.held.unlock();
+    }
+}
+
+/// The bytes of a file that has at most so many; of a longer one no more are read.
+///
+/// # Errors
+///
+/// Where it cannot be read, or is longer.
+///
+/// ```
+/// use lupaniele::LARGEST_IMAGE;
+/// use lupaniele::files::{FileError, read_bytes};
+/// let endless = read_bytes("/dev/zero", LARGEST_IMAGE);
+/// assert!(matches!(endless, Err(FileError::TooLong { most: LARGEST_IMAGE })));
+/// ```
+pub fn read_bytes(path: impl AsRef<Path>, most: usize) -> Result<Vec<u8>, FileError> {
+    let mut bytes = Vec::new();
+    let file = File::open(path).map_err(FileError::Unreadable)?;
+    let read = file.take(most as u64 + 1).read_to_end(&mut bytes);
+    read.map_err(FileError::Unreadable)?;
+    match bytes.len() {
+        length if length > most => Err(FileError::TooLong { most }),
+        _ => Ok(bytes),
     }
 }
 

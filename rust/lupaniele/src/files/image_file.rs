@@ -2,9 +2,9 @@ use std::fs;
 use std::path::{Path, PathBuf};
 
 use super::FileError;
-use super::disk::{Lock, replace};
+use super::disk::{Lock, read_bytes, replace};
 use crate::desk::Store;
-use crate::{Answer, Image, Version};
+use crate::{Answer, Image, LARGEST_IMAGE, Version};
 
 /// An image in a file, with one writer. Each change is saved whole before it is told of, or not at all. It is a
 /// [`Store`] for desks: an answer is given when the image that it left is saved.
@@ -88,7 +88,7 @@ impl ImageFile {
     pub fn open(path: impl AsRef<Path>) -> Result<ImageFile, FileError> {
         let path = path.as_ref().to_path_buf();
         let lock = Lock::on(&path)?;
-        let bytes = fs::read(&path).map_err(FileError::Unreadable)?;
+        let bytes = read_bytes(&path, LARGEST_IMAGE)?;
         let image = Image::check(bytes).map_err(FileError::Image)?;
         Ok(ImageFile {
             path,

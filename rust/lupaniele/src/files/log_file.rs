@@ -4,9 +4,9 @@ use std::os::unix::fs::FileExt;
 use std::path::{Path, PathBuf};
 
 use super::FileError;
-use super::disk::{Lock, replace};
+use super::disk::{Lock, read_bytes, replace};
 use crate::desk::Journal;
-use crate::{AppendError, Log, LogPart, Record};
+use crate::{AppendError, LARGEST_LOG, Log, LogPart, Number, Record};
 
 /// A desk's log in a file, with one writer. An append returns when its record is kept; if the power fails before, the
 /// log reads back with the record or without it.
@@ -82,8 +82,28 @@ impl LogFile {
     /// # Ok::<(), Box<dyn std::error::Error>>(())
     /// ```
     pub fn create(path: impl AsRef<Path>, length: usize) -> Result<LogFile, FileError> {
-        let path = path.as_ref();
         let log = Log::empty(length).map_err(FileError::Log)?;
+        LogFile::create_with(path, &log)
+    }
+
+    /// Makes a file with this log.
+    ///
+    /// # Errors
+    ///
+    /// Where there is such a file already, or it cannot be made.
+    ///
+    /// ```
+    /// use lupaniele::Log;
+    /// use lupaniele::files::LogFile;
+    /// # let folder = std::env::temp_dir().join(format!("lupaniele-log-kept-{}", std::process::id()));
+    /// # std::fs::create_dir_all(&folder)?;
+    /// let log = Log::empty(4_096)?;
+    /// assert_eq!(LogFile::create_with(folder.join("log"), &log)?.log(), &log);
+    /// # std::fs::remove_dir_all(&folder)?;
+    /// # Ok::<(), Box<dyn std::error::Error>>(())
+    /// ```
+    pub fn create_with(path: impl AsRef<Path>, log: &Log) -> Result<LogFile, FileError> {
+        let path = path.as_ref();
         let lock = Lock::on(path)?;
         if fs::exists(path).map_err(FileError::Unreadable)? {
             return Err(FileError::Exists);
@@ -112,7 +132,7 @@ impl LogFile {
     }
 
     fn under(lock: Lock, path: &Path) -> Result<LogFile, FileError> {
-        let bytes = fs::read(path).map_err(FileError::Unreadable)?;
+        let bytes = read_bytes(path, LARGEST_LOG)?;
         let log = Log::check(bytes).map_err(FileError::Log)?;
         let file = OpenOptions::new().write(true).open(path);
         Ok(LogFile {
@@ -201,6 +221,39 @@ impl LogFile {
             AppendError::Unknown(why) => AppendError::Unknown(FileError::Unknown(why)),
         })
     }
+
+    /// Appends a record as far as the first so many stores of one byte go, as where the power fails there (rules 11.9
+    /// to 11.12): to try what a cut leaves.
+    ///
+    /// # Errors
+    ///
+    /// Where the file could not be written.
+    ///
+    /// ```
+    /// use lupaniele::files::LogFile;
+    /// use lupaniele::{Number, Record};
+    /// # let folder = std::env::temp_dir().join(format!("lupaniele-log-cut-{}", std::process::id()));
+    /// # std::fs::create_dir_all(&folder)?;
+    /// let path = folder.join("log");
+    /// let mut file = LogFile::create(&path, 4_096)?;
+    /// assert_eq!(file.append_cut(&Record::Begin(1), 15)?, Number::AppendCut);
+    /// drop(file);
+    /// assert_eq!(LogFile::open(&path)?.log().count(), 0);
+    /// # std::fs::remove_dir_all(&folder)?;
+    /// # Ok::<(), Box<dyn std::error::Error>>(())
+    /// ```
+    pub fn append_cut(&mut self, record: &Record, stores: u64) -> Result<Number, FileError> {
+        if self.unknown {
+            return Err(FileError::OpenAgain);
+        }
+        let number = self.log.append_cut(record, stores);
+        let mut file = &self.file;
+        let written = Parts::write(&mut file, 0, self.log.bytes());
+        let kept = written.and_then(|()| file.sync());
+        self.unknown = kept.is_err();
+        kept.map_err(FileError::Unknown)?;
+        Ok(number)
+    }
 }
 
 impl Journal for LogFile {
@@ -218,7 +271,7 @@ impl Journal for LogFile {
 #[cfg(test)]
 mod tests {
     use super::*;
-    use crate::{Number, Side};
+    use crate::Side;
     use second::random::Random;
 
     /// A disk that keeps, of the bytes written since the last sync, any when the power fails; it fails after so many

@@ -11,6 +11,7 @@ use std::io;
 
 use crate::{Broken, Number};
 
+pub use disk::read_bytes;
 pub use image_file::ImageFile;
 pub use log_file::LogFile;
 pub use starts::next_start;
@@ -30,6 +31,11 @@ pub enum FileError {
     Exists,
     /// It cannot be opened or read.
     Unreadable(io::Error),
+    /// It is longer than what is looked for can be.
+    TooLong {
+        /// The most bytes that there can be.
+        most: usize,
+    },
     /// It has no sound image.
     Image(Broken),
     /// It has no good log.
@@ -52,6 +58,12 @@ impl fmt::Display for FileError {
             FileError::InUse => to.write_str("the file is in use"),
             FileError::Exists => to.write_str("there is such a file already"),
             FileError::Unreadable(why) => write!(to, "the file cannot be read: {why}"),
+            FileError::TooLong { most } => {
+                write!(
+                    to,
+                    "the file has more than {most} bytes, the most that are right"
+                )
+            }
             FileError::Image(why) => write!(to, "the file has no sound image: {why}"),
             FileError::Log(number) => write!(to, "the file has no good log: {number}"),
             FileError::Due => to.write_str("something of the log is due: recover first"),

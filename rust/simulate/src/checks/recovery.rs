@@ -6,7 +6,6 @@ use second::Pair;
 use super::log::{due, read, Update};
 use super::store::Store;
 use super::{Check, Checked, Made};
-use crate::library::Answer;
 
 /// The pair of a card, from the two lists that recovery is given (rule 11.16).
 fn pair_of(card: u16, s: &[u64], x: &[u64]) -> Pair {
@@ -35,14 +34,8 @@ pub struct Recovery<'a> {
     pub image: &'a [u8],
 }
 
-/// A recovery was answered. Its writes stand in the list (rule 11.20): those
-/// that it must have sent are told one by one, with their numbers.
-pub fn checked(
-    made: &mut Made,
-    store: &mut Store,
-    recovery: Recovery,
-    told: &mut dyn FnMut(&[u8], Answer),
-) -> Checked {
+/// A recovery was answered. Its writes stand in the list (rule 11.20).
+pub fn checked(made: &mut Made, store: &mut Store, recovery: Recovery) -> Checked {
     let Some(read) = read(recovery.log) else {
         made.same(Check::RefusedRecovery, recovery.image, &store.image[..])?;
         return made.same(Check::RecoveryNumber, recovery.answer, (23, 0));
@@ -54,9 +47,7 @@ pub fn checked(
     for (place, update) in due.iter().enumerate() {
         let (s, x) = recovery.pairs;
         let command = store.write_of(update, pair_of(update.card, s, x));
-        let answer = store.recovering(made, &command)?;
-        told(&command, answer);
-        let number = answer.number;
+        let number = store.recovering(made, &command)?.number;
         if number != 0 {
             (expected, sent) = ((number, update.line), &due[..place]);
             break;

@@ -1,7 +1,9 @@
 //! What desks do: they propose, ask, send, listen, show, fall silent, crash
 //! and come back.
 
+use lupaniele::DeskId;
 use second::{CommandFields, Mark, Pair};
+use story::Scene;
 
 use super::post::Body;
 use super::{Shape, Town};
@@ -10,7 +12,6 @@ use crate::checks::log::Update;
 use crate::checks::Checked;
 use crate::library::{Answer, Held, Library};
 use crate::rule::Rule;
-use crate::scene::{Scene, Who};
 use crate::tally::{Fault, Operation, Step};
 
 /// How a desk is.
@@ -46,7 +47,7 @@ pub struct AtCard {
 #[derive(Clone, Debug)]
 pub struct Desk {
     /// Its number and start.
-    pub who: Who,
+    pub who: DeskId,
     /// How it is.
     pub state: State,
     /// What it knows of each card, and of one that is not in the store.
@@ -68,7 +69,7 @@ pub struct Desk {
 }
 
 impl Desk {
-    pub(super) fn new(who: Who, shape: Shape) -> Desk {
+    pub(super) fn new(who: DeskId, shape: Shape) -> Desk {
         let held = Held {
             buffers: [vec![0; shape.room], vec![0; shape.room]],
             ..Held::default()
@@ -118,7 +119,7 @@ impl<L: Library> Town<'_, L> {
                 self.desks[at].state = State::Silent;
                 self.tally.fault(Fault::Silent);
                 let who = self.desks[at].who;
-                self.tell(|| Scene::Silent { who });
+                self.tell(|| Scene::Silent { desk: who });
                 Ok(())
             }
             State::Up if self.one_in(200) => {
@@ -153,7 +154,7 @@ impl<L: Library> Town<'_, L> {
         self.desks[at].state = State::Down;
         self.tally.fault(Fault::Crash);
         let who = self.desks[at].who;
-        self.tell(|| Scene::Down { who });
+        self.tell(|| Scene::Down { desk: who });
         Ok(())
     }
 
@@ -181,7 +182,7 @@ impl<L: Library> Town<'_, L> {
         self.desks[at] = desk;
         self.tally.fault(Fault::NewStart);
         self.knew_something(at);
-        self.tell(|| Scene::Started { who });
+        self.tell(|| Scene::Started { desk: who });
         self.after_start(at)
     }
 
@@ -359,7 +360,7 @@ impl<L: Library> Town<'_, L> {
 
     /// A desk hears an answer: mostly the desk that it is for, if it is still
     /// there, now and then another one.
-    pub(super) fn hears(&mut self, desk: usize, who: Who, card: usize, told: Body) -> Checked {
+    pub(super) fn hears(&mut self, desk: usize, who: DeskId, card: usize, told: Body) -> Checked {
         let elsewhere = self.one_in(12);
         let at = if elsewhere {
             self.random.index(self.desks.len())

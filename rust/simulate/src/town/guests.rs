@@ -4,13 +4,13 @@
 use lupaniele::desk::{self, Exclusive, Failed, Journal, Locks, Refusal, Session, Shared, Undone};
 use lupaniele::{AppendError, DeskId, Language, Log, Mode, Number, Record, Version};
 use second::Pair;
+use story::Scene;
 
 use super::post::{Body, Message};
 use super::Town;
 use crate::checks::queue::Turn;
 use crate::checks::{Breach, Check, Checked};
 use crate::library::Library;
-use crate::scene::{Scene, Who};
 
 crate::named! {
     /// What became of what a guest did.
@@ -42,7 +42,7 @@ pub struct Guest {
 /// that was seen on it.
 struct Line<'t, 'a, L: Library> {
     town: &'t mut Town<'a, L>,
-    who: Who,
+    who: DeskId,
     left: u64,
     breach: Option<Breach>,
 }
@@ -314,8 +314,7 @@ impl<L: Library> Town<'_, L> {
     pub(super) fn guest(&mut self) -> Checked {
         let at = self.random.index(self.guests.len());
         let mut guest = self.guests.swap_remove(at);
-        let DeskId { desk, start } = guest.desk.id();
-        let who = Who { desk, start };
+        let who = guest.desk.id();
         let [card, other] = [self.card() as u16, self.card() as u16];
         let what = self.random.below(12);
         let left = [u64::MAX, self.random.below(10)][usize::from(self.one_in(8))];
@@ -338,7 +337,7 @@ impl<L: Library> Town<'_, L> {
         self.guests.push(guest);
         if let Some(outcome) = outcome {
             self.outcomes[outcome as usize] += 1;
-            self.tell(|| Scene::Said(format!("{who}, a guest: {}", outcome.words())));
+            self.tell(|| Scene::Said(format!("desk {who}, a guest: {}", outcome.words())));
         }
         breach.map_or(Ok(()), Err)
     }

@@ -4,15 +4,15 @@
 use std::collections::BTreeSet;
 
 use second::{CommandFields, Pair};
+use story::Scene;
 
 use super::Town;
 use crate::checks::log::{checked, due, read, Update, BEGIN, COMMIT, SYNCED, UPDATE};
 use crate::checks::recovery::{self, Recovery};
 use crate::checks::{Check, Checked};
-use crate::library::{Answer, Library};
-use crate::scene::{Judged, Scene};
+use crate::library::Library;
+use crate::scenes;
 use crate::tally::{Fault, Operation, Step};
-use crate::text::record_words;
 
 /// A budget that is enough for any append.
 const ALL: u64 = 1 << 20;
@@ -30,11 +30,14 @@ impl<L: Library> Town<'_, L> {
         let number = self.library.append(&mut desk.log, kind, body, stores);
         let who = desk.who;
         self.tally.number(Operation::Append, number);
+        let records = desk.log.first().copied().unwrap_or(0);
         self.tell(|| Scene::Logged {
-            who,
-            record: record_words(kind, body),
-            number,
+            desk: who,
+            kind,
+            body: body.to_vec(),
             cut: cut.filter(|_| number == 26),
+            number: scenes::number(number),
+            records,
         });
         let (made, log) = (&mut self.tally.made, &self.desks[at].log);
         checked(made, &before, (kind, body, stores), number, log)?;
@@ -183,7 +186,7 @@ impl<L: Library> Town<'_, L> {
         desk.log.fill(0);
         (desk.open, desk.transaction) = (None, 0);
         let who = desk.who;
-        self.tell(|| Scene::Said(format!("{who} begins a new log")));
+        self.tell(|| Scene::Said(format!("desk {who} begins a new log")));
     }
 
     /// A desk writes out the first update that is due, by a command.
@@ -254,37 +257,24 @@ impl<L: Library> Town<'_, L> {
     }
 
     /// The library's recovery, checked.
-    fn recover_whole(&mut self, at: usize, [s, x]: &[Vec<u64>; 2]) -> Checked<(u8, u64)> {
+    fn recover_whole(&mut self, at: usize, pairs: &[Vec<u64>; 2]) -> Checked<(u8, u64)> {
+        let [s, x] = pairs;
         let log = &self.desks[at].log;
+        let before = self.scenes.is_some().then(|| self.image.clone());
         let answer = self.library.recover(log, &mut self.image, s, x);
         self.tally.number(Operation::Recover, answer.0);
-        let mut writes = Vec::new();
+        if let Some((scenes, before)) = self.scenes.as_mut().zip(before) {
+            let (who, images) = (self.desks[at].who, [&before[..], &self.image]);
+            scenes.push(scenes::recovered(who, pairs, answer, images));
+        }
         let recovery = Recovery {
             log,
             pairs: (s, x),
             answer,
             image: &self.image,
         };
-        let wanted = self.scenes.is_some();
-        let mut told = |command: &[u8], answer: Answer| {
-            if wanted {
-                writes.push(Scene::Judged(Judged {
-                    command: command.to_vec(),
-                    number: answer.number,
-                    fields: answer.fields,
-                    shown: Vec::new(),
-                    recovery: true,
-                }));
-            }
-        };
-        let checked = recovery::checked(&mut self.tally.made, &mut self.store, recovery, &mut told);
-        let who = self.desks[at].who;
-        if let Some(scenes) = &mut self.scenes {
-            scenes.extend(writes);
-            let (number, line) = answer;
-            scenes.push(Scene::Recovered { who, number, line });
-        }
-        checked.map(|()| answer)
+        recovery::checked(&mut self.tally.made, &mut self.store, recovery)?;
+        Ok(answer)
     }
 
     /// A recovery ended well: once in a while it is run again, which must leave

@@ -1,6 +1,8 @@
 //! The lock managers: a queue for each card, leases, and queues that are lost.
 
+use lupaniele::DeskId;
 use second::Pair;
+use story::Scene;
 
 use super::post::Body;
 use super::{empty_queue, Town};
@@ -8,7 +10,7 @@ use crate::checks::formed::{desk_of, own};
 use crate::checks::queue::{place, turned, Turn};
 use crate::checks::{Check, Checked};
 use crate::library::{Lease, Library, Queue, QueueAnswer};
-use crate::scene::{Scene, Who};
+use crate::scenes;
 use crate::tally::{Fault, Operation, Step};
 
 /// The manager of one card's queue.
@@ -35,29 +37,6 @@ impl Keeper {
     }
 }
 
-/// A request to a queue and its answer, as a scene.
-fn told(card: u16, turn: Turn, answer: &QueueAnswer) -> Scene {
-    let number = answer.number;
-    let left = |desk: u32, lease: bool| Scene::Left {
-        who: Who::of(desk.into()),
-        card,
-        number,
-        lease,
-    };
-    match turn {
-        Turn::Ask(mode, pair) => Scene::Asked {
-            who: Who::of(own(mode, pair)),
-            card,
-            mode,
-            pair,
-            number,
-            holds: answer.fields[0] == 1,
-        },
-        Turn::Leave(desk) => left(desk, false),
-        Turn::Lapse(desk, _) => left(desk, true),
-    }
-}
-
 impl<L: Library> Town<'_, L> {
     /// A request reaches a queue.
     pub(super) fn turn(&mut self, card: usize, turn: Turn) -> Checked<QueueAnswer> {
@@ -69,9 +48,9 @@ impl<L: Library> Town<'_, L> {
             Turn::Lapse(desk, lease) => (Operation::Lapse, self.library.lapse(queue, desk, lease)),
         };
         self.tally.number(operation, answer.number);
-        self.tell(|| told(card as u16, turn, &answer));
-        let queue = &self.keepers[card].queue;
-        turned(&mut self.tally.made, &before, turn, &answer, queue)?;
+        let queue = self.keepers[card].queue;
+        self.tell(|| scenes::turned(card as u16, turn, &answer, &queue));
+        turned(&mut self.tally.made, &before, turn, &answer, &queue)?;
         Ok(answer)
     }
 
@@ -79,7 +58,7 @@ impl<L: Library> Town<'_, L> {
     pub(super) fn asks(
         &mut self,
         desk: usize,
-        who: Who,
+        who: DeskId,
         card: usize,
         (mode, pair): (u8, Pair),
         denied: Option<u64>,
@@ -105,7 +84,7 @@ impl<L: Library> Town<'_, L> {
     }
 
     /// A desk leaves.
-    pub(super) fn leaves(&mut self, desk: usize, who: Who, card: usize) -> Checked {
+    pub(super) fn leaves(&mut self, desk: usize, who: DeskId, card: usize) -> Checked {
         let answer = self.turn(card, Turn::Leave(who.number()))?;
         let (number, [_, s, x, _]) = (answer.number, answer.fields);
         let accepted = self.keepers[card].accepted;
@@ -136,8 +115,12 @@ impl<L: Library> Town<'_, L> {
         let keeper = &mut self.keepers[card];
         keeper.queue.kept = [0; 3];
         keeper.failed = None;
+        let places = keeper.queue.places;
         self.tally.fault(Fault::QueueLost);
-        self.tell(|| Scene::QueueLost { card: card as u16 });
+        self.tell(|| Scene::QueueBegan {
+            card: card as u16,
+            places,
+        });
         Ok(())
     }
 

@@ -8,15 +8,17 @@ mod manager;
 mod odd;
 mod post;
 
+use lupaniele::{DeskId, Image};
 use second::random::Random;
 use second::Pair;
+use story::{Scene, Standing};
 
 use crate::checks::desk::{learnt, proposed, Proposal, Stamps};
 use crate::checks::store::{Store, AHEAD};
 use crate::checks::{Check, Checked};
 use crate::library::{Library, Queue};
 use crate::rule::Rule;
-use crate::scene::{Judged, Scene, Who};
+use crate::scenes;
 use crate::tally::{Fault, Operation, Step, Tally};
 
 use desks::Desk;
@@ -172,7 +174,7 @@ impl<'a, L: Library> Town<'a, L> {
     /// Desks start; where the opening's rule is broken, a queue is not empty.
     fn open(&mut self) {
         for number in 1..=self.shape.desks {
-            let who = Who {
+            let who = DeskId {
                 desk: number as u16,
                 start: 0,
             };
@@ -258,6 +260,12 @@ impl<'a, L: Library> Town<'a, L> {
         self.rule == Some(rule) && self.random.one_in(2)
     }
 
+    /// How the cards stand.
+    pub fn standings(&self) -> Vec<Standing> {
+        let image = Image::check(&self.image[..]);
+        image.map_or(Vec::new(), |image| story::standings(&image))
+    }
+
     /// Tells what happened, where it is wanted.
     fn tell(&mut self, scene: impl FnOnce() -> Scene) {
         if let Some(scenes) = &mut self.scenes {
@@ -269,18 +277,14 @@ impl<'a, L: Library> Town<'a, L> {
     fn judge(&mut self, command: &[u8], lent: usize) -> Checked<crate::library::Answer> {
         self.reply.clear();
         self.reply.extend_from_slice(&self.lent[..lent]);
+        let before = self.scenes.is_some().then(|| self.image.clone());
         let (image, reply) = (&mut self.image, &mut self.reply);
         let answer = self.library.answer(image, command, reply);
         self.tally.number(Operation::Store, answer.number);
-        if let Some(scenes) = &mut self.scenes {
-            let length = (answer.fields[6] as usize).min(lent);
-            scenes.push(Scene::Judged(Judged {
-                command: command.to_vec(),
-                number: answer.number,
-                fields: answer.fields,
-                shown: self.reply[..length].to_vec(),
-                recovery: false,
-            }));
+        if let Some((scenes, before)) = self.scenes.as_mut().zip(before) {
+            let shown = &self.reply[..(answer.fields[6] as usize).min(lent)];
+            let images = [&before[..], &self.image];
+            scenes.push(scenes::judged(command, &answer, shown, images));
         }
         let made = &mut self.tally.made;
         let buffers = (&self.lent[..lent], &self.reply[..]);
@@ -326,12 +330,12 @@ impl<'a, L: Library> Town<'a, L> {
             .library
             .propose((who.desk, who.start), &mut known, mode, &mut pair);
         self.tally.number(Operation::Propose, number);
-        self.tell(|| Scene::Proposed {
-            who,
-            card: card as u16,
-            mode,
-            pair: Pair::new(pair[0], pair[1]),
-            number,
+        self.tell(|| {
+            let pair = scenes::pair(Pair::new(pair[0], pair[1]));
+            let number = scenes::number(number);
+            Scene::Said(format!(
+                "desk {who} proposes {pair} for card {card}: {number}"
+            ))
         });
         let after = Proposal {
             number,
@@ -415,7 +419,7 @@ impl<'a, L: Library> Town<'a, L> {
         };
         self.tally.fault(fault);
         let who = self.desks[at].who;
-        self.tell(|| Scene::Said(format!("the clock of {who} jumps by {ahead}")));
+        self.tell(|| Scene::Said(format!("the clock of desk {who} jumps by {ahead}")));
     }
 }
 

@@ -1,12 +1,13 @@
 //! The post: messages that come late, twice, out of order or not at all.
 
+use lupaniele::DeskId;
 use second::Pair;
+use story::Scene;
 
 use super::Town;
 use crate::checks::formed::formed;
 use crate::checks::Checked;
 use crate::library::{Answer, Library};
-use crate::scene::{Scene, Who};
 use crate::tally::{Fault, Step};
 
 /// A message on its way.
@@ -15,7 +16,7 @@ pub struct Message {
     /// Who sent it, or whom it is for.
     pub desk: usize,
     /// The start of that desk when it was sent.
-    pub who: Who,
+    pub who: DeskId,
     /// The step in which it was sent.
     pub sent: u64,
     /// The card.
@@ -77,7 +78,7 @@ impl<L: Library> Town<'_, L> {
         let at = self.random.index(self.post.len());
         let message = self.post.remove(at);
         self.tally.fault(Fault::Lost);
-        self.tell(|| Scene::Said(format!("a message of {} is lost", message.who)));
+        self.tell(|| Scene::Said(format!("a message of desk {} is lost", message.who)));
         Ok(())
     }
 
@@ -90,7 +91,12 @@ impl<L: Library> Town<'_, L> {
         let at = self.random.index(self.post.len());
         let again = self.post[at].clone();
         self.tally.fault(Fault::Repeated);
-        self.tell(|| Scene::Said(format!("a message of {} is on its way twice", again.who)));
+        self.tell(|| {
+            Scene::Said(format!(
+                "a message of desk {} is on its way twice",
+                again.who
+            ))
+        });
         self.post.push(again);
         Ok(())
     }
@@ -120,7 +126,7 @@ impl<L: Library> Town<'_, L> {
 
     /// An answer goes back to who sent the message, whether that desk is still
     /// there or not.
-    pub(super) fn answer_to(&mut self, desk: usize, who: Who, card: usize, body: Body) {
+    pub(super) fn answer_to(&mut self, desk: usize, who: DeskId, card: usize, body: Body) {
         let sent = self.now;
         self.post.push(Message {
             desk,
@@ -136,7 +142,7 @@ impl<L: Library> Town<'_, L> {
     fn receive(
         &mut self,
         desk: usize,
-        who: Who,
+        who: DeskId,
         card: usize,
         bytes: &[u8],
         lent: usize,

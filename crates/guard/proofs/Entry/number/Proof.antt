@@ -17,7 +17,7 @@ past-1 : (c : tie.Else1) → let s = c .before .before in left 0 s ≡ left 1 s
 past-1 c = rw (sym (c .before .stale .ensures) ∙ c .if1 .left)
 
 past-2 : (c : tie.Else2) → let s = c .before .before .before .before in left 0 s ≡ left 2 s
-past-2 c = past-1 (c .before .before) ∙ rw (sym (c .before .far-ahead .ensures) ∙ c .if2 .left)
+past-2 c = past-1 (c .before .before) ∙ rw (← c .before .before .before .before .pre .1, sym (c .before .too-far .ensures) ∙ c .if2 .left)
 
 past-3 : (c : tie.Else3) → let s = c .before .before .before .before .before .before in left 0 s ≡ left 3 s
 past-3 c = past-2 (c .before .before) ∙ rw (ap not (sym (c .before .mark-fits .ensures)) ∙ c .if3 .left)
@@ -28,11 +28,11 @@ stale-requires c κs = search needs
 returns : tie.Need-returns
 returns c = sym (rw (sym (c .before .stale .ensures) ∙ c .if1 .taken))
 
-far-ahead-requires : tie.Need-far-ahead-requires
-far-ahead-requires c κs = search needs
+too-far-requires : tie.Need-too-far-requires
+too-far-requires c κs = search needs
 
 returns-2 : tie.Need-returns-2
-returns-2 c = sym (past-1 (c .before .before) ∙ rw (sym (c .before .far-ahead .ensures) ∙ c .if2 .taken))
+returns-2 c = sym (past-1 (c .before .before) ∙ rw (← c .before .before .before .before .pre .1, sym (c .before .too-far .ensures) ∙ c .if2 .taken))
 
 mark-fits-requires : tie.Need-mark-fits-requires
 mark-fits-requires c κs = search needs
@@ -41,7 +41,7 @@ returns-3 : tie.Need-returns-3
 returns-3 c = sym (past-2 (c .before .before) ∙ rw (ap not (sym (c .before .mark-fits .ensures)) ∙ c .if3 .taken))
 
 act-number-requires : tie.Need-act-number-requires
-act-number-requires c κs = c .before .before .before .before .before .before .pre
+act-number-requires c κs = c .before .before .before .before .before .before .pre .0
 
 returns-4 : tie.Need-returns-4
 returns-4 c = c .act-number .ensures ∙ sym (past-3 (c .before))
@@ -52,7 +52,7 @@ number-spec =
     (tie.spec
     stale-requires
     returns
-    far-ahead-requires
+    too-far-requires
     returns-2
     mark-fits-requires
     returns-3

@@ -4,9 +4,6 @@ use Rattle.guard.specs.Judge.{raise}
 use Rattle.guard.proofs.Entry.raised.Statement.{statement}
 use Rattle.guard.proofs.Entry.raised.Tie as tie
 
-update-requires : tie.Need-update-requires
-update-requires c κs = search needs
-
 larger-of-each-requires : tie.Need-larger-of-each-requires
 larger-of-each-requires c κs = search needs
 
@@ -43,14 +40,13 @@ returns c =
       c .before .before .before .before .before .writes-translation .ensures,
       c .before .before .before .before .before .before .next-edition .ensures,
       c .before .before .before .before .before .before .before .larger-of-each .ensures,
-      c .before .before .before .before .before .before .before .before .update .ensures,
+      c .before .before .before .before .before .before .before .before .before .pre .1,
     )
 
 pub raised-spec : {M : Type 1} → statement M
 raised-spec =
     tie.close
     (tie.spec
-    update-requires
     larger-of-each-requires
     next-edition-requires
     writes-translation-requires

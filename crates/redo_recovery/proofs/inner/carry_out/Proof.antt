@@ -36,36 +36,45 @@ returns-2 c =
     (omega (arith, c .before .before .count .ensures)) in
     (ap (λ (u : Outcome). u .answer .number) (sym o), (ap (λ (u : Outcome). u .image) (sym o), at8 .pre .0))
 
+update-requires : tie.Need-update-requires
+update-requires c κs = search needs
+
 slice-aggregate-carry : tie.Need-slice-aggregate-carry
 slice-aggregate-carry c = search needs
 
 carry-requires : tie.Need-carry-requires
 carry-requires c κs =
-    let at6 = c .before .before .before .before .before .before in
-    let at7 = at6 .before in
-    let at10 = at7 .before .before .before in
-    (at10 .pre .0, omega (arith, c .before .before .before .before .count .ensures), at10 .pre .3, at10 .pre .1, sym (at7 .well-formed .ensures) ∙ not-false _ (at6 .if1 .left))
+    let at7 = c .before .before .before .before .before .before .before in
+    let at8 = at7 .before in
+    let at11 = at8 .before .before .before in (
+      at11 .pre .0,
+      omega (arith, c .before .before .before .before .before .count .ensures),
+      at11 .pre .3,
+      at11 .pre .1,
+      sym (at8 .well-formed .ensures) ∙ not-false _ (at7 .if1 .left),
+      c .before .update .ensures,
+    )
 
 same-length-2 : tie.Need-same-length-2
 same-length-2 c = search needs
 
 returns-3 : tie.Need-returns-3
 returns-3 c =
-    let at8 = c .before .before .before .before .before .before .before .before in
-    let at10 = at8 .before .before in
-    let at11 = at10 .before in
+    let at9 = c .before .before .before .before .before .before .before .before .before in
+    let at11 = at9 .before .before in
     let at12 = at11 .before in
     let at13 = at12 .before in
     let at14 = at13 .before in
-    let o = serve-runs (at14 .args .image .now) (at14 .args .c) (at14 .args .text .now) (at14 .pre .0) (at14 .pre .2) (at14 .pre .3) (at14 .pre .1)
-    (sym (at11 .well-formed .ensures) ∙ not-false _ (at10 .if1 .left)) (omega (arith, at8 .count .ensures, c .before .before .before .before .before .before .if2 .left)) in
+    let at15 = at14 .before in
+    let o = serve-runs (at15 .args .image .now) (at15 .args .c) (at15 .args .text .now) (at15 .pre .0) (at15 .pre .2) (at15 .pre .3) (at15 .pre .1)
+    (sym (at12 .well-formed .ensures) ∙ not-false _ (at11 .if1 .left)) (omega (arith, at9 .count .ensures, c .before .before .before .before .before .before .before .if2 .left)) in
     let done = c .before .before .before .carry .ensures in
     let image = done .1 .0 ∙ ap (λ (u : Outcome). u .image) (sym o) in (
       ap (λ (a : Answer). a .number) (done .0) ∙ ap (λ (u : Outcome). u .answer .number) (sym o),
       (
         image,
-        ap (sound V1) image ∙ kept-sound (at14 .args .image .now) (at14 .args .c) (at14 .args .text .now) (at14 .pre .0) (at14 .pre .2)
-            (at14 .pre .3) (at14 .pre .1) (λ j. at13 .slice-known .given j .fits) (λ j. at12 .shared-slice-known .given j .fits),
+        ap (sound V1) image ∙ kept-sound (at15 .args .image .now) (at15 .args .c) (at15 .args .text .now) (at15 .pre .0) (at15 .pre .2)
+            (at15 .pre .3) (at15 .pre .1) (λ j. at14 .slice-known .given j .fits) (λ j. at13 .shared-slice-known .given j .fits),
       ),
     )
 
@@ -78,6 +87,7 @@ carry-out-spec =
     count-requires
     same-length
     returns-2
+    update-requires
     slice-aggregate-carry
     carry-requires
     same-length-2

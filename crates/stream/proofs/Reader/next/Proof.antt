@@ -1,5 +1,9 @@
--- `stream::Reader::next` meets its contract: a walk of its MIR, by hand. The struct is taken apart, `next_from` is called for version 1 on the slice and the number, and a struct is made anew of the slice and the number that it answers. All that the proof knows of `next_from` is that it meets its contract.
--- The struct is Copy: what it owns is had twice, one copy is kept whole for the exit, and of the other what stream owns goes to the callee, beside the lifetime's token, which comes back. What the result owns is the kept copy with the new number's facts in the place of at's.
+-- `stream::Reader::next` meets its contract: a walk of its MIR, by hand. The struct is taken apart, `next_from` is
+-- called for version 1 on the slice and the number, and a struct is made anew of the slice and the number that it
+-- answers. All that the proof knows of `next_from` is that it meets its contract.
+-- The struct is Copy: what it owns is had twice, one copy is kept whole for the exit, and of the other what stream owns
+-- goes to the callee, beside the lifetime's token, which comes back. What the result owns is the kept copy with the new
+-- number's facts in the place of at's.
 -- Assumes nothing.
 use mathlib.Core.Path.{_≡_, refl, ap}
 use Prim.Native.Nat.{ℕ, _<_, _^_}

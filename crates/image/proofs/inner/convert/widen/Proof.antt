@@ -80,7 +80,12 @@ returns c =
       c .before .before .before .before .before .before .before .before .before .before .before .before .before .count .ensures,
       c .before .before .before .before .before .before .before .before .before .before .before .before .before .before .before .before .pre .2,
     )
-    (widen-step (c .before .before .before .before .before .before .before .before .before .before .before .before .before .before .before .before .args .image .now) (λ j. c .before .before .before .before .before .before .before .before .before .before .before .before .before .before .before .shared-slice-known .given j .fits) (c .before .before .before .before .before .before .before .before .before .before .before .before .before .before .before .before .pre .0) (c .before .before .before .before .before .before .before .before .before .before .before .before .before .before .before .before .args .k) (c .before .before .before .before .before .before .before .before .before .before .before .before .before .before .before .before .pre .1))
+    (widen-step
+    (c .before .before .before .before .before .before .before .before .before .before .before .before .before .before .before .before .args .image .now)
+    (λ j. c .before .before .before .before .before .before .before .before .before .before .before .before .before .before .before .shared-slice-known .given j .fits)
+    (c .before .before .before .before .before .before .before .before .before .before .before .before .before .before .before .before .pre .0)
+    (c .before .before .before .before .before .before .before .before .before .before .before .before .before .before .before .before .args .k)
+    (c .before .before .before .before .before .before .before .before .before .before .before .before .before .before .before .before .pre .1))
 
 pub widen-spec : {M : Type 1} → statement M
 widen-spec =

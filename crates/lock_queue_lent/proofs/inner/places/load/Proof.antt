@@ -1,4 +1,5 @@
--- `lock_queue_lent::inner::places::load` meets its contract: a walk of its MIR, by hand. The lent slice is looked into once for each place, and the entry found there is put into places by value by `put`.
+-- `lock_queue_lent::inner::places::load` meets its contract: a walk of its MIR, by hand. The lent slice is looked into
+-- once for each place, and the entry found there is put into places by value by `put`.
 -- All that the proof knows of `empty`, `within` and `put` is that each meets its contract.
 --     Place, At     the loop's invariant: how many places are loaded, that their machine value is typed, and the memory there
 --     more          a turn from where `within` has answered yes: one more place is loaded
@@ -313,7 +314,8 @@ module _ {M : Type 1} (𝓤 : URA M) (H : Heap 𝓤) (A : Atoms 𝓤) (W : Given
       abbrev En : Env 𝓤 H
       En = (P′.mir, l₀) ∷ (slice, l₁) ∷ (P′.mir, l₂) ∷ (tyInt w64, l₃) ∷ (tyBool, l₄) ∷ (tyInt w64, l₅) ∷ (tyPtr, l₆) ∷ (T′.mir, l₇) ∷ []
 
-      -- the context, with the items at _5 and _4: the token; what s owns; room for _7; …; room for _6; …; _5; …; _4; …; _3, how many are loaded; …; _2, the places by value; …; _1, the slice; …; room for _0; …
+      -- the context, with the items at _5 and _4: the token; what s owns; room for _7; …; room for _6; …; _5; …; _4; …;
+      -- _3, how many are loaded; …; _2, the places by value; …; _1, the slice; …; room for _0; …
       abbrev Cx : ℕ → Fml → Fml → List (Item 𝓤)
       Cx i at₅ at₄ =
           ‵ (flft κ q) ∷ ‵ Own ∷ ‵ (froom T′.mir l₇ 0) ∷ ‵ (fdies T′.mir l₇) ∷ ‵ (froom tyPtr l₆ 0) ∷ ‵ (fdies tyPtr l₆) ∷ ‵ at₅ ∷ ‵ (fdies (tyInt w64) l₅) ∷ ‵ at₄ ∷ ‵ (fdies tyBool l₄)

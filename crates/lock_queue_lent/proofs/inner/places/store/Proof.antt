@@ -1,4 +1,5 @@
--- `lock_queue_lent::inner::places::store` meets its contract: a walk of its MIR, by hand. For each place the entry is read by `entry`, the lent slice is opened, the entry is stored there, and the slice is closed again.
+-- `lock_queue_lent::inner::places::store` meets its contract: a walk of its MIR, by hand. For each place the entry is
+-- read by `entry`, the lent slice is opened, the entry is stored there, and the slice is closed again.
 -- All that the proof knows of `within`, `entry` and `replied` is that each meets its contract.
 --     Place, At     the loop's invariant: how many places are written, and the memory there. The lent list is then the outcome's first entries over the list passed
 --     more          a turn from where `within` has answered yes: one more place is written
@@ -331,7 +332,8 @@ module _ {M : Type 1} (𝓤 : URA M) (H : Heap 𝓤) (A : Atoms 𝓤) (W : Given
       abbrev En : Env 𝓤 H
       En = (Y′.mir, l₀) ∷ (slice, l₁) ∷ (O′.mir, l₂) ∷ (tyInt w64, l₃) ∷ (tyBool, l₄) ∷ (tyInt w64, l₅) ∷ (T′.mir, l₆) ∷ (tyPtr, l₇) ∷ []
 
-      -- the context, with the items at _5 and _4: obs; the borrow; the token; room for _7; …; room for _6; …; _5; …; _4; …; _3, how many are written; …; _2, the outcome; …; _1, the slice; …; room for _0; …
+      -- the context, with the items at _5 and _4: obs; the borrow; the token; room for _7; …; room for _6; …; _5; …; _4;
+      -- …; _3, how many are written; …; _2, the outcome; …; _1, the slice; …; room for _0; …
       abbrev Cx : ℕ → Fml → Fml → List (Item 𝓤)
       Cx i at₅ at₄ =
           ‵ (Obs (cur i)) ∷ ‵ (Bor (cur i)) ∷ ‵ (flft κ q) ∷ ‵ (froom tyPtr l₇ 0) ∷ ‵ (fdies tyPtr l₇) ∷ ‵ (froom T′.mir l₆ 0) ∷ ‵ (fdies T′.mir l₆)

@@ -65,7 +65,10 @@ put-line-requires c κs =
 add-place : tie.Need-add-place Inv-loop μ-loop
 add-place c =
     let w = running-within
-    (c .before .before .before .before .before .before .before .before .before .before .before .before .before .before .before .before .before .loop .inv .0) _ (went V1 _ _ (c .before .before .before .before .before .before .before .before .before .before .before .before .before .before .before .before .next-from .ensures) (c .before .before .before .before .before .before .before .before .before .before .before .before .before .before .before .if1 .left)) in
+    (c .before .before .before .before .before .before .before .before .before .before .before .before .before .before .before .before .before .loop .inv .0) _
+    (went V1 _ _
+    (c .before .before .before .before .before .before .before .before .before .before .before .before .before .before .before .before .next-from .ensures)
+    (c .before .before .before .before .before .before .before .before .before .before .before .before .before .before .before .if1 .left)) in
     omega (arith, w .0, w .1, w .2, w .3)
 
 loop-less : tie.Need-loop-less Inv-loop μ-loop
@@ -78,7 +81,13 @@ loop-less c =
 loop-again : tie.Need-loop-again Inv-loop μ-loop
 loop-again c =
     let e = c .before .before .before .before .before .before .before .before .before .before .one .ensures in (
-      running-more (c .before .before .before .before .before .before .before .before .before .before .before .before .before .before .before .before .before .loop .inv .0) _ _ _ _ _ _ (went V1 _ _ (c .before .before .before .before .before .before .before .before .before .before .before .before .before .before .before .before .next-from .ensures) (c .before .before .before .before .before .before .before .before .before .before .before .before .before .before .before .if1 .left)) refl (e .0 .1 .0) (e .0 .1 .1) (line-put _ _ (e .0 .0) (c .before .before .put-line .ensures)) (search needs) (search needs),
+      running-more
+          (c .before .before .before .before .before .before .before .before .before .before .before .before .before .before .before .before .before .loop .inv .0) _ _ _ _ _ _
+          (went V1 _ _
+          (c .before .before .before .before .before .before .before .before .before .before .before .before .before .before .before .before .next-from .ensures)
+          (c .before .before .before .before .before .before .before .before .before .before .before .before .before .before .before .if1 .left)) refl
+          (e .0 .1 .0) (e .0 .1 .1) (line-put _ _ (e .0 .0) (c .before .before .put-line .ensures)) (search needs)
+          (search needs),
       sym (e .1),
       ap length (e .0 .0) ∙ per-line _,
     )

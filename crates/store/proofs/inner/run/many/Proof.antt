@@ -78,7 +78,9 @@ mul-put-line c =
     (rest-whole _ _ _ _ (sym (c .before .before .before .before .before .before .before .before .before .before .before .before .next-at .ensures)
     ∙ c .before .before .before .before .before .before .before .before .before .before .size .given .1))
     (c .before .before .before .before .before .before .before .before .before .before .before .before .before .before .if1 .left) in
-    let long : length (c .before .before .before .before .before .before .before .before .before .before .before .before .before .before .before .loop .lines) ≡ length (c .before .before .before .before .before .before .before .before .before .before .before .before .before .before .before .before .before .before .before .before .args .lines .now) = c .before .before .before .before .before .before .before .before .before .before .before .before .before .before .before .loop .inv .0 .long in
+    let long : length (c .before .before .before .before .before .before .before .before .before .before .before .before .before .before .before .loop .lines)
+    ≡ length (c .before .before .before .before .before .before .before .before .before .before .before .before .before .before .before .before .before .before .before .before .args .lines .now) =
+    c .before .before .before .before .before .before .before .before .before .before .before .before .before .before .before .loop .inv .0 .long in
     omega (
       arith,
       w .0,
@@ -101,7 +103,11 @@ put-line-requires c κs =
 add-count : tie.Need-add-count Inv-loop μ-loop
 add-count c =
     let w = running-within
-    (c .before .before .before .before .before .before .before .before .before .before .before .before .before .before .before .before .before .before .loop .inv .0) _ (rest-whole _ _ _ _ (sym (c .before .before .before .before .before .before .before .before .before .before .before .before .before .before .before .next-at .ensures) ∙ c .before .before .before .before .before .before .before .before .before .before .before .before .before .size .given .1)) (c .before .before .before .before .before .before .before .before .before .before .before .before .before .before .before .before .before .if1 .left) in
+    (c .before .before .before .before .before .before .before .before .before .before .before .before .before .before .before .before .before .before .loop .inv .0) _
+    (rest-whole _ _ _ _ (sym
+    (c .before .before .before .before .before .before .before .before .before .before .before .before .before .before .before .next-at .ensures)
+    ∙ c .before .before .before .before .before .before .before .before .before .before .before .before .before .size .given .1))
+    (c .before .before .before .before .before .before .before .before .before .before .before .before .before .before .before .before .before .if1 .left) in
     omega (
       arith,
       w .0,
@@ -121,7 +127,13 @@ loop-less c =
 loop-again : tie.Need-loop-again Inv-loop μ-loop
 loop-again c =
     let e = c .before .before .before .before .before .before .before .before .judge .ensures in (
-      running-more (c .before .before .before .before .before .before .before .before .before .before .before .before .before .before .before .before .before .before .loop .inv .0) _ _ _ _ _ (rest-whole _ _ _ _ (sym (c .before .before .before .before .before .before .before .before .before .before .before .before .before .before .before .next-at .ensures) ∙ c .before .before .before .before .before .before .before .before .before .before .before .before .before .size .given .1)) (c .before .before .before .before .before .before .before .before .before .before .before .before .before .before .before .before .before .if1 .left) (e .0 .0) (e .0 .1 .0) (e .0 .1 .1) (c .before .before .put-line .ensures) (search needs) (search needs),
+      running-more
+          (c .before .before .before .before .before .before .before .before .before .before .before .before .before .before .before .before .before .before .loop .inv .0) _ _ _ _ _
+          (rest-whole _ _ _ _ (sym
+          (c .before .before .before .before .before .before .before .before .before .before .before .before .before .before .before .next-at .ensures)
+          ∙ c .before .before .before .before .before .before .before .before .before .before .before .before .before .size .given .1))
+          (c .before .before .before .before .before .before .before .before .before .before .before .before .before .before .before .before .before .if1 .left)
+          (e .0 .0) (e .0 .1 .0) (e .0 .1 .1) (c .before .before .put-line .ensures) (search needs) (search needs),
       e .1,
       c .before .before .before .before .before .before .before .before .before .before .before .before .before .before .before .before .before .before .loop .inv .2,
     )

@@ -5,31 +5,31 @@ use mathlib.Core.Path.{_≡_, refl, sym, ap, _∙_}
 use mathlib.Core.Bool.{true}
 use borrow.Author.Tests.{le-ltb}
 use Rattle.commands.specs.Bytes.{fieldsOf, formed}
-use Rattle.commands.proofs.Parsing.{is-malformed, is-formed}
-use Rattle.commands.proofs.CommandBytes.{length-payload, language-within, formedness}
+use Rattle.commands.specs.Command.{update}
+use Rattle.commands.specs.declared.Command.{Command}
+use Rattle.commands.proofs.Opening.{is-told, is-untold}
+use Rattle.formats.proofs.Numbers.{numbers}
+use Rattle.commands.proofs.CommandBytes.{fixed-in, length-payload, language-within, formedness}
 use Rattle.image.specs.Image.{sound}
 use Rattle.store_model.proofs.Sound.{stays-sound}
 use Rattle.store.proofs.Kept.{header-in}
-use Rattle.store.proofs.Step.{serves, fixed-in, behind-place, serve-malformed, serve-no-card, serve-found}
+use Rattle.store.proofs.Step.{serves, behind-place, serve-malformed, serve-no-card, serve-found}
 use borrow.Author.Needs.{needs}
 use Rattle.store.proofs.inner.step.serve.Statement.{statement}
 use Rattle.store.proofs.inner.step.serve.Tie as tie
 
--- The command was found in the lent bytes.
-found : (c : tie.After-known-told) →
-    (formed (formatOf (c .before .before .before .before .before .before .before .args .v))
-    (c .before .before .before .before .before .before .before .args .command .now) ≡ true) ×
-    (c .before .c .given .0 .0 ≡ fieldsOf (formatOf (c .before .before .before .before .before .before .before .args .v))
-    (c .before .before .before .before .before .before .before .args .command .now))
+-- The lent bytes are a command.
+found : (c : tie.After-known-told) → let start = c .before .before .before .before .before .before .before in
+    formed (formatOf (start .args .v)) (start .args .command .now) ≡ true
 found c =
-    let at7 = c .before .before .before .before .before .before .before in
-    is-formed (formatOf (at7 .args .v)) (at7 .args .command .now) (sym (c .before .c .given .1) ∙ c .before .before .before .parse .ensures)
+    let start = c .before .before .before .before .before .before .before in
+    is-told (formed (formatOf (start .args .v)) (start .args .command .now)) (sym (c .before .new .given .1) ∙ c .before .before .before .open-as .ensures) .0
 
-parse-requires : tie.Need-parse-requires
-parse-requires c κs = search needs
+open-as-requires : tie.Need-open-as-requires
+open-as-requires c κs = search needs
 
-enum-known-c : tie.Need-enum-known-c
-enum-known-c c = search needs
+enum-known-new : tie.Need-enum-known-new
+enum-known-new c = search needs
 
 enum-told : tie.Need-enum-told
 enum-told c = search needs
@@ -39,16 +39,20 @@ refusal-requires c κs = search needs
 
 returns : tie.Need-returns
 returns c =
-    let at7 = c .before .before .before .before .before .before .before in
-    let start = at7 in
+    let start = c .before .before .before .before .before .before .before in
+    let f = formatOf (start .args .v) in
     let command = start .args .command .now in
-    let none = is-malformed (formatOf (start .args .v)) command (sym (c .before .enum-told .given .1) ∙ c .before .before .before .parse .ensures) in (
-      serves (serve-malformed (formatOf (start .args .v)) (start .args .image .now) command (start .args .reply .now) (start .pre) none) (c .refusal .ensures) refl refl,
-      start .pre,
-    )
+    let none = is-untold (formed f command) (update (fieldsOf f command)) (sym (c .before .enum-told .given .1) ∙ c .before .before .before .open-as .ensures) in
+    (serves (serve-malformed f (start .args .image .now) command (start .args .reply .now) (start .pre) none) (c .refusal .ensures) refl refl, start .pre)
+
+fields-requires : tie.Need-fields-requires
+fields-requires c κs =
+    let start = c .before .before .before .before .before .before .before in
+    let n = numbers (formatOf (start .args .v)) in
+    let whole = fixed-in (formatOf (start .args .v)) (start .args .command .now) (found c) in omega (arith, n, whole)
 
 count-requires : tie.Need-count-requires
-count-requires c κs = header-in _ _ (c .before .before .before .before .before .before .before .before .pre)
+count-requires c κs = header-in _ _ (c .before .before .before .before .before .before .before .before .before .pre)
 
 refusal-requires-2 : tie.Need-refusal-requires-2
 refusal-requires-2 c κs = search needs
@@ -58,12 +62,11 @@ same-length c = search needs
 
 returns-2 : tie.Need-returns-2
 returns-2 c =
-    let at12 = c .before .before .before .before .before .before .before .before .before .before .before .before in
-    let start = at12 in
-    let command = start .args .command .now in
-    let whole = found (c .before .before .before .before .before) in (
-      serves (serve-no-card (formatOf (start .args .v)) (start .args .image .now) command (start .args .reply .now) (start .pre) (whole .0)
-          (rw (← whole .1, ← c .before .before .before .count .ensures) (le-ltb _ _ (c .before .if1 .taken)))) (c .refusal2 .ensures) refl refl,
+    let at5 = c .before .before .before .before .before in
+    let start = at5 .before .before .before .before .before .before .before .before in
+    let command = start .args .command .now in (
+      serves (serve-no-card (formatOf (start .args .v)) (start .args .image .now) command (start .args .reply .now) (start .pre) (found (at5 .before))
+          (rw (← at5 .fields .ensures, ← c .before .before .before .count .ensures) (le-ltb _ _ (c .before .if1 .taken)))) (c .refusal2 .ensures) refl refl,
       start .pre,
     )
 
@@ -72,13 +75,13 @@ fixed-requires c κs = search needs
 
 sub-carry : tie.Need-sub-carry
 sub-carry c =
-    let at6 = c .before .before .before .before .before .before in
-    let whole = fixed-in _ _ (found (at6) .0) in omega (arith, whole, c .before .fixed .ensures)
+    let at7 = c .before .before .before .before .before .before .before in
+    let whole = fixed-in _ _ (found at7) in omega (arith, whole, c .before .fixed .ensures)
 
 part-carry-start : tie.Need-part-carry-start
 part-carry-start c =
-    let at6 = c .before .before .before .before .before .before in
-    let whole = fixed-in _ _ (found (at6) .0) in omega (arith, whole, c .before .fixed .ensures)
+    let at7 = c .before .before .before .before .before .before .before in
+    let whole = fixed-in _ _ (found at7) in omega (arith, whole, c .before .fixed .ensures)
 
 part-carry-end : tie.Need-part-carry-end
 part-carry-end c = search needs
@@ -87,15 +90,19 @@ carry-requires : tie.Need-carry-requires
 carry-requires c κs =
     let at6 = c .before .before .before .before .before .before in
     let at8 = at6 .before .before in
-    let at15 = at8 .before .before .before .before .before .before .before in
-    let start = at15 in
+    let at9 = at8 .before in
+    let at12 = at9 .before .before .before in
+    let start = at12 .before .before .before .before in
+    let f = formatOf (start .args .v) in
     let command = start .args .command .now in
-    let whole = found (at8) in (
+    let whole = found at9 in
+    let read = at8 .fields .ensures in (
       start .pre,
       rw (← at6 .count .ensures) (c .before .before .before .before .if1 .left),
-      rw (whole .1) (language-within (formatOf (start .args .v)) command (whole .0)),
-      rw (behind-place (formatOf (start .args .v)) command (c .before .before .before .fixed .ensures), whole .1) (length-payload (formatOf (start .args .v)) command (whole .0)),
-      rw (whole .1) (formedness (formatOf (start .args .v)) command (whole .0) .rules),
+      rw read (language-within f command whole),
+      rw (behind-place f command (c .before .before .before .fixed .ensures), read) (length-payload f command whole),
+      rw read (formedness f command whole .rules),
+      is-told (formed f command) (sym (at9 .before .new .given .1) ∙ at12 .open-as .ensures) .1 ∙ ap (λ (c : Command). update c) (sym read),
     )
 
 same-length-2 : tie.Need-same-length-2
@@ -110,25 +117,24 @@ returns-3 c =
     let at9 = at8 .before in
     let at11 = at9 .before .before in
     let at13 = at11 .before .before in
-    let at17 = at13 .before .before .before .before in
-    let at18 = at17 .before in
+    let at14 = at13 .before in
+    let at18 = at14 .before .before .before .before in
     let at19 = at18 .before in
     let at20 = at19 .before in
-    let start = at20 in
+    let start = at20 .before in
     let image = start .args .image .now in
     let command = start .args .command .now in
     let reply = start .args .reply .now in
-    let whole = found (at13) in
     let done = c .before .before .before .before .carry .ensures in
-    let left = serves (serve-found (formatOf (start .args .v)) image command reply (start .pre) (whole .0) (whole .1)
+    let left = serves (serve-found (formatOf (start .args .v)) image command reply (start .pre) (found at14) (at13 .fields .ensures)
     (behind-place (formatOf (start .args .v)) command (at8 .fixed .ensures)) (rw (← at11 .count .ensures) (at9 .if1 .left))) (done .0)
     (done .1 .0) (done .1 .1) in (
       left,
       ap (sound (formatOf (start .args .v))) (left .1 .0)
           ∙ stays-sound (formatOf (start .args .v)) image command reply
-          (λ j. at19 .slice-known .given j .fits)
-          (λ j. at18 .shared-slice-known .given j .fits)
-          (λ j. at17 .slice-known2 .given j .fits)
+          (λ j. at20 .slice-known .given j .fits)
+          (λ j. at19 .shared-slice-known .given j .fits)
+          (λ j. at18 .slice-known2 .given j .fits)
           (start .pre),
     )
 
@@ -136,11 +142,12 @@ pub serve-spec : {M : Type 1} → statement M
 serve-spec =
     tie.close
     (tie.spec
-    parse-requires
-    enum-known-c
+    open-as-requires
+    enum-known-new
     enum-told
     refusal-requires
     returns
+    fields-requires
     count-requires
     refusal-requires-2
     same-length

@@ -1,0 +1,46 @@
+-- The worked cases, by computation. Assumes nothing.
+use mathlib.Core.Path.{refl}
+use Rattle.lists.specs.Parts.{part, splice, tabulate, concatMap, every, zeros}
+use Rattle.lists.specs.Le.{le, toLe}
+use Rattle.lists.specs.Table.{all, allFrom}
+use Rattle.commands.specs.Command.{wellFormed}
+use Rattle.commands.specs.Bytes.{fieldsOf, payload, formed, commandBytes}
+use Rattle.guard.specs.Entry.{entrySound}
+use Rattle.guard.specs.Judge.{raise}
+use Rattle.guard.specs.Replies.{replied}
+use Rattle.image.specs.Layout.{shapeOk}
+use Rattle.image.specs.Bytes.{header, entryBytes, pad, readEntry, entryAt}
+use Rattle.image.specs.Image.{bodies, encode, cardAt, decode, tailZero, translationSound, cardSound, headerSound, sound, fresh}
+use Rattle.store_model.specs.Serve.{stepped, serveBy, serve}
+use Rattle.redo_log.specs.Log.{shaped, lastBegun, opened, follows, total, startAt, recordAt, recordOk, goodLog, records}
+use Rattle.redo_log.specs.Append.{stored, puts, lineBytes, stores, appended}
+use Rattle.redo_recovery_model.specs.Recovery.{due}
+use Rattle.redo_recovery_model.specs.Claims.{rewritten}
+use Rattle.transactions.specs.System.{withUpdates, afterStep, afterSteps}
+use Rattle.transaction_steps.specs.Steps.{firstDue, lastDue, nextStep, nextOf}
+use Rattle.transaction_steps_claims.specs.Follower.{afterDoing, allAsTold}
+use Rattle.transaction_steps_claims.specs.Cases.{StepRows, FollowerRuns}
+
+pub step-rows : StepRows
+unfolding firstDue lastDue nextStep nextOf due lastBegun opened shaped follows total startAt recordAt recordOk goodLog records all allFrom le toLe part
+    tabulate every
+step-rows =
+    record {
+      opening = refl;
+      given-up = refl;
+      another = refl;
+      writing = refl;
+      hazard = refl;
+      second = refl;
+      third = refl;
+      bytes = refl;
+      answers = refl;
+      no-entry = refl;
+    }
+
+pub follower-runs : FollowerRuns
+unfolding afterSteps allAsTold afterDoing firstDue lastDue nextStep afterStep withUpdates rewritten due stored puts lineBytes stores appended shaped lastBegun
+    opened follows total startAt recordAt recordOk goodLog records serve serveBy stepped sound headerSound cardSound translationSound tailZero decode
+    cardAt entryAt readEntry encode bodies pad entryBytes header shapeOk fresh replied raise entrySound commandBytes formed payload fieldsOf wellFormed
+    all allFrom le toLe part splice tabulate concatMap every zeros
+follower-runs = record { told = refl; whole = refl; deaf = refl; still = refl }

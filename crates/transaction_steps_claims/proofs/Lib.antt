@@ -1,0 +1,6 @@
+pub mod Next
+pub mod Sees
+pub mod Follower
+pub mod Ends
+pub mod Taken
+pub mod Cases

@@ -1,0 +1,3 @@
+pub mod Follower
+pub mod Ends
+pub mod Cases
