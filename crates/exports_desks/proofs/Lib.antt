@@ -1,4 +1,4 @@
 pub mod Proposed
 pub mod Exits
-pub mod Neither
+pub mod Languages
 pub mod Cases

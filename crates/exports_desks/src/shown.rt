@@ -1,9 +1,19 @@
 // What a desk shows, for Rust and C.
 ghost use mathlib.Core.Path.{_≡_};
 ghost use Rattle.desk_shows.specs.Show.{heldText};
-ghost use Rattle.exports_desks.specs.Numbers.{askedNumber, shownLength};
+ghost use Rattle.exports_desks.specs.Numbers.{askedOf, askedNumber, shownLength};
 use crate::inner::lengths::length_shown;
 use desk_shows::Asked;
+
+// The language by its number.
+fn language(asked: u8) -> Asked
+    ensures { λ r. ⌜ r ≡ askedOf asked ⌝ }
+{
+    if asked == 0 {
+        return Asked::Original;
+    }
+    Asked::Translation
+}
 
 // The text that a desk shows, all at its own word: 0, and in `count` how many first bytes of the buffer asked for are the text; or a number
 // and no bytes. `asked` is 0 for the original and 1 for the translation; any other gets 1.
@@ -21,33 +31,20 @@ pub extern "C" fn lupaniele_shown<'a>(
     ensures number { λ r. ⌜ r ≡ askedNumber (heldText (now (original .entry)) «original_length») (heldText (now (translation .entry)) «translation_length») edition from asked ⌝ }
     ensures count { λ _. ⌜ now (count .exit) ≡ shownLength (heldText (now (original .entry)) «original_length») (heldText (now (translation .entry)) «translation_length») edition from asked ⌝ }
 {
+    if 1 < asked {
+        *count = 0;
+        return 1;
+    }
     let mut number: u8 = 0;
-    if asked == 0 {
-        *count = length_shown(
-            original,
-            translation,
-            original_length,
-            translation_length,
-            edition,
-            from,
-            Asked::Original,
-            &mut number,
-        );
-        return number;
-    }
-    if asked == 1 {
-        *count = length_shown(
-            original,
-            translation,
-            original_length,
-            translation_length,
-            edition,
-            from,
-            Asked::Translation,
-            &mut number,
-        );
-        return number;
-    }
-    *count = 0;
-    1
+    *count = length_shown(
+        original,
+        translation,
+        original_length,
+        translation_length,
+        edition,
+        from,
+        language(asked),
+        &mut number,
+    );
+    number
 }
