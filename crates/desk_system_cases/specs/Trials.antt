@@ -386,8 +386,8 @@ aboveElsewhere =
     ∷ []
 
 -- A proposal for card 0 that is not what the desk's knowledge gives.
-abbrev pub claims : ℕ → ℕ → ℕ → System → System
-claims mode s x y = withMade (record { card = 0; mode = mode; pair = pair s x }) y
+abbrev pub forges : ℕ → ℕ → ℕ → System → System
+forges mode s x y = withMade (record { card = 0; mode = mode; pair = pair s x }) y
 
 -- Desk 2, which knows nothing, learns the x 0.1.0 at the store or at the queue, and reads under (1.2.0, 0.1.0).
 abbrev pub twoLearnsAt : Move → List Move
@@ -440,14 +440,14 @@ pub record RulesNeeded : Type 0 where
   -- rule 10.4: a shared proposal with an s that is not above the known one; with an x that is not the known one
   pub not-above :
       BrokenWith (threeAsks ++ (begin deskOne ∷ oneAbove ++ (begin deskTwo ∷ learn deskTwo 0 (pair (stamp 0 3 0) (stamp 0 1 0)) ∷ [])))
-      (claims shared (stamp 0 2 0) (stamp 0 1 0))
+      (forges shared (stamp 0 2 0) (stamp 0 1 0))
       (send (readUnder (stamp 0 2 0) (stamp 0 1 0)) ∷ [])
   pub guessed :
-      BrokenWith (threeAsks ++ (begin deskOne ∷ begin deskTwo ∷ [])) (claims shared (stamp 0 2 0) (stamp 0 1 0))
+      BrokenWith (threeAsks ++ (begin deskOne ∷ begin deskTwo ∷ [])) (forges shared (stamp 0 2 0) (stamp 0 1 0))
       (send (readUnder (stamp 0 2 0) (stamp 0 1 0)) ∷ oneAbove)
   -- rule 10.5: an exclusive proposal with an x that is not above the known one
   pub kept-x :
-      BrokenWith (oneWrites ++ twoReads) (claims exclusive (stamp 0 2 0) (stamp 0 1 0))
+      BrokenWith (oneWrites ++ twoReads) (forges exclusive (stamp 0 2 0) (stamp 0 1 0))
       (send (writeOriginal (stamp 0 2 0) (stamp 0 1 0) text401) ∷ [])
   -- rule 10.11: something known, stored or queued at the opening
   pub knew :
