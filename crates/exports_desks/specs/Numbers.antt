@@ -7,6 +7,7 @@ use lib.ListN.{length}
 use Rattle.desk_shows.specs.Show.{Text, shownNumber, shownPart}
 use Rattle.desk_shows.specs.declared.Asked.{Asked}
 use Rattle.desk_shows.specs.declared.Asked.the-variants.{Original, Translation}
+use Rattle.numbers.specs.Numbers.{MALFORMED}
 
 -- The text that a desk shows, for a caller that names the language by a number: 0 the original, 1 the translation.
 
@@ -15,9 +16,9 @@ abbrev pub askedOf : ℕ → Asked
 askedOf zero = Original
 askedOf (suc asked) = Translation
 
--- The number: what the desk's text has, and 1, malformed, where the language is neither of the two.
+-- The number: what the desk's text has, and malformed where the language is neither of the two.
 abbrev pub askedNumber : Text → Text → ℕ → ℕ → ℕ → ℕ
-askedNumber o t edition from asked = cond (ltb 1 asked) 1 (shownNumber o t edition from (askedOf asked))
+askedNumber o t edition from asked = cond (ltb 1 asked) MALFORMED (shownNumber o t edition from (askedOf asked))
 
 -- How many first bytes of the buffer asked for are shown.
 abbrev pub shownLength : Text → Text → ℕ → ℕ → ℕ → ℕ

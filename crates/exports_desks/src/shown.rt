@@ -33,7 +33,7 @@ pub extern "C" fn lupaniele_shown<'a>(
 {
     if 1 < asked {
         *count = 0;
-        return 1;
+        return numbers::MALFORMED;
     }
     let mut number: u8 = 0;
     *count = length_shown(

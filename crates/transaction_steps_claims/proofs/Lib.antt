@@ -4,3 +4,4 @@ pub mod Follower
 pub mod Ends
 pub mod Taken
 pub mod Cases
+pub mod Uses

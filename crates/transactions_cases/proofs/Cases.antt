@@ -88,7 +88,7 @@ below-tested bound [] h e i = h
 below-tested bound (b ∷ l) h e zero = ltb-true b bound (and-left (ltb b bound) (belowTest bound l) e)
 below-tested bound (b ∷ l) h e (suc i) = below-tested bound l h (and-right (ltb b bound) (belowTest bound l) e) i
 
-bytes-tested : (l : List ℕ) → belowTest 256 l ≡ true → Bytes l
+pub bytes-tested : (l : List ℕ) → belowTest 256 l ≡ true → Bytes l
 bytes-tested l e = below-tested 256 l (lit< tt) e
 
 unfoldable pub sentTest : Sent → Bool
@@ -105,7 +105,7 @@ sent-tested s e =
 unfoldable pub pairsTest : Pairs → Bool
 pairsTest p = belowTest 18446744073709551616 (p .s) && belowTest 18446744073709551616 (p .x)
 
-pairs-tested : (p : Pairs) → pairsTest p ≡ true → FitsPairs p
+pub pairs-tested : (p : Pairs) → pairsTest p ≡ true → FitsPairs p
 unfolding pairsTest
 pairs-tested p e =
     record {
@@ -132,11 +132,11 @@ step-tested crash e = tt
 step-tested (recover pairs lines) e = pairs-tested pairs e
 step-tested renew e = tt
 
-stepsTest : List Step → Bool
+unfoldable pub stepsTest : List Step → Bool
 stepsTest [] = true
 stepsTest (m ∷ steps) = stepTest m && stepsTest steps
 
-steps-tested : (steps : List Step) → stepsTest steps ≡ true → AllSteps steps
+pub steps-tested : (steps : List Step) → stepsTest steps ≡ true → AllSteps steps
 unfolding stepsTest
 steps-tested [] e = tt
 steps-tested (m ∷ steps) e = (step-tested m (and-left (stepTest m) (stepsTest steps) e), steps-tested steps (and-right (stepTest m) (stepsTest steps) e))

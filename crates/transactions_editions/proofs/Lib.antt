@@ -5,3 +5,4 @@ pub mod Appends
 pub mod Recovers
 pub mod Claims
 pub mod Cases
+pub mod Uses
