@@ -133,11 +133,11 @@ step-tested crash e = tt
 step-tested (recover pairs lines) e = pairs-tested pairs e
 step-tested renew e = tt
 
-stepsTest : List Step → Bool
+unfoldable pub stepsTest : List Step → Bool
 stepsTest [] = true
 stepsTest (m ∷ steps) = stepTest m && stepsTest steps
 
-steps-tested : (steps : List Step) → stepsTest steps ≡ true → AllSteps steps
+pub steps-tested : (steps : List Step) → stepsTest steps ≡ true → AllSteps steps
 unfolding stepsTest
 steps-tested [] e = tt
 steps-tested (m ∷ steps) e = (step-tested m (and-left (stepTest m) (stepsTest steps) e), steps-tested steps (and-right (stepTest m) (stepsTest steps) e))
