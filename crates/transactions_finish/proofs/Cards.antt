@@ -131,10 +131,9 @@ pub record Settled (d : ℕ) (z : Follower) (k : ℕ) : Type 0 where
   pub seen : z .minds k .seen ≡ saw mark reach
   pub apart : eqb mark d ≡ false
 
-pub record CardDone (d k : ℕ) (z : Follower) : Type 0 where
-  pub end : Follower
-  pub moved : Moved d k z end
-  pub settled : Settled d end k
+-- Where steps for the card have led to that.
+abbrev pub CardDone : ℕ → ℕ → Follower → Type 0
+CardDone d k z = (end : Follower) × Moved d k z end × Settled d end k
 
 module _ (d : ℕ) (small : d < 65536) (start : Follower) (begun : Going d start) (k : ℕ) (inside : k < length (cardsOf start .cards)) (low : k < 65536) where
   abbrev rs : List LogRecord
@@ -174,18 +173,17 @@ module _ (d : ℕ) (small : d < 65536) (start : Follower) (begun : Going d start
           subst (λ (l : List ℕ). nextStep d (records l) k false (saw d reach) ≡ telling releasing 0) (sym (m .moved .log)) e in
           let end : Follower = ordered d small z (m .moved .going) k within low stamps bears reach (m .facing) releasing [] Bytes-nil (lit< tt) refl 0 told tt in
           let f = order-facing d small z (m .moved .going) k within low stamps bears reach (m .facing) releasing [] Bytes-nil (lit< tt) refl 0 told tt in
-          let apart : eqb 0 d ≡ false = ne-eqb 0 d (λ q. begun .kept .some (sym q)) in
-          record {
-            end = end;
-            moved = moved-join d k start z end (m .moved) (order-moved d small z (m .moved .going) k within low stamps bears reach (m .facing) releasing [] Bytes-nil (lit< tt) refl 0 told tt);
-            settled = record {
+          let apart : eqb 0 d ≡ false = ne-eqb 0 d (λ q. begun .kept .some (sym q)) in (
+            end,
+            moved-join d k start z end (m .moved) (order-moved d small z (m .moved .going) k within low stamps bears reach (m .facing) releasing [] Bytes-nil (lit< tt) refl 0 told tt),
+            record {
               unmarked = ap (λ (w : Mark). eqb (w .desk) d) (mark-order d small z (m .moved .going) k within low stamps bears reach (m .facing) releasing [] Bytes-nil (lit< tt) refl 0 told tt) ∙ apart;
               mark = 0;
               reach = 0;
               seen = f .seen;
               apart = apart;
-            };
-          }
+            },
+          )
 
       -- The next line is written out.
       module _ (line : ℕ) (from : reach ≤ line) (is-due : dueFor rs k line ≡ true) (skip : writtenOut rs k reach line ≡ true) (e : nextStep d rs k false (saw d reach) ≡ telling (writing true) line)
@@ -291,15 +289,14 @@ module _ (d : ℕ) (small : d < 65536) (start : Follower) (begun : Going d start
     where
       go : (eqb (at (cardsOf start) k .mark .desk) d ≡ true) ⊎ (eqb (at (cardsOf start) k .mark .desk) d ≡ false) → CardDone d k start
       go (inl e) = marked-done (eqb-true (at (cardsOf start) k .mark .desk) d e) (lines e) (left e)
-      go (inr e) =
-          record {
-            end = looked d small start begun k inside low;
-            moved = look-moved d small start begun k inside low;
-            settled = record {
-              unmarked = look-unmarked d small start begun k inside low e;
-              mark = at (cardsOf (looked d small start begun k inside low)) k .mark .desk;
-              reach = 0;
-              seen = look-facing d small start begun k inside low .seen;
-              apart = look-unmarked d small start begun k inside low e;
-            };
-          }
+      go (inr e) = (
+        looked d small start begun k inside low,
+        look-moved d small start begun k inside low,
+        record {
+          unmarked = look-unmarked d small start begun k inside low e;
+          mark = at (cardsOf (looked d small start begun k inside low)) k .mark .desk;
+          reach = 0;
+          seen = look-facing d small start begun k inside low .seen;
+          apart = look-unmarked d small start begun k inside low e;
+        },
+      )

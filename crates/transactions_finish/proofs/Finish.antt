@@ -163,31 +163,31 @@ module _ (d : ℕ) (small : d < 65536) (start : Follower) (begun : Going d start
           (λ e. subst (λ (l : List ℕ). stampT (at (cardsOf here) k .pair .x) + linesDue (records l) k (length (records l)) + 1 < 4294967296) (sym (w .log))
           (subst (λ (c : Card). stampT (c .pair .x) + linesDue rs k (length rs) + 1 < 4294967296) (sym same) (left k h (marked-too e))))
 
-      stays : (j : ℕ) → eqb k j ≡ false → Settled d here j → Settled d (done .end) j
+      stays : (j : ℕ) → eqb k j ≡ false → Settled d here j → Settled d (done .0) j
       stays j e q =
           record {
-            unmarked = ap (λ (c : Card). eqb (c .mark .desk) d) (done .moved .others j e) ∙ q .unmarked;
+            unmarked = ap (λ (c : Card). eqb (c .mark .desk) d) (done .1 .others j e) ∙ q .unmarked;
             mark = q .mark;
             reach = q .reach;
-            seen = ap (λ (m : Mind). m .seen) (done .moved .minds j e) ∙ q .seen;
+            seen = ap (λ (m : Mind). m .seen) (done .1 .minds j e) ∙ q .seen;
             apart = q .apart;
           }
 
       written-next : Written k
       written-next =
           record {
-            end = done .end;
-            path = path-join d start here (done .end) (w .path) (done .moved .path);
-            going = done .moved .going;
-            log = done .moved .log ∙ w .log;
-            count = done .moved .count ∙ w .count;
-            room = done .moved .room ∙ w .room;
-            before = λ j b. done .moved .others j (ne-eqb k j (λ e. omega (arith, e, b))) ∙ w .before j (omega arith);
+            end = done .0;
+            path = path-join d start here (done .0) (w .path) (done .1 .path);
+            going = done .1 .going;
+            log = done .1 .log ∙ w .log;
+            count = done .1 .count ∙ w .count;
+            room = done .1 .room ∙ w .room;
+            before = λ j b. done .1 .others j (ne-eqb k j (λ e. omega (arith, e, b))) ∙ w .before j (omega arith);
             after = λ j a b. go j a b (cases (eqb k j));
           }
         where
-          go : (j : ℕ) → k ≤ j → j < many → (eqb k j ≡ true) ⊎ (eqb k j ≡ false) → Settled d (done .end) j
-          go j a b (inl e) = subst (Settled d (done .end)) (eqb-true k j e) (done .settled)
+          go : (j : ℕ) → k ≤ j → j < many → (eqb k j ≡ true) ⊎ (eqb k j ≡ false) → Settled d (done .0) j
+          go j a b (inl e) = subst (Settled d (done .0)) (eqb-true k j e) (done .2)
           go j a b (inr e) = stays j e (w .after j (apart-from (cases (ltb k j))) b)
             where
               apart-from : (ltb k j ≡ true) ⊎ (ltb k j ≡ false) → suc k ≤ j
