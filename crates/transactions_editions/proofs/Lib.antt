@@ -4,4 +4,5 @@ pub mod Steps
 pub mod Appends
 pub mod Recovers
 pub mod Claims
+pub mod Desks
 pub mod Cases
