@@ -1,0 +1,7 @@
+pub mod Requests
+pub mod Commands
+pub mod Walks
+pub mod Cards
+pub mod Notes
+pub mod Finish
+pub mod Cases
