@@ -96,8 +96,8 @@ impl Judge {
 
     /// Hears a note.
     pub fn hear(&mut self, line: Line) -> Judged {
-        let who = format!("{line:?}");
-        let told = |why: String| format!("{why}\nat {}", &who[..who.len().min(4_000)]);
+        let place = line.to_string();
+        let told = |why: String| format!("{why}\nbroken where {place}");
         self.heard(line).map_err(told)
     }
 

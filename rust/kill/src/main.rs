@@ -1,5 +1,5 @@
 //! Desks as processes on one machine: one image and a log for each desk in files (docs/FILES.md), killed with SIGKILL
-//! at random points. `kill test` kills 400 times, `kill run N` N times with a new seed, `kill seed S N` with this one;
+//! at random points. `kill test` kills 300 times, `kill run N` N times with a new seed, `kill seed S N` with this one;
 //! `kill desk` is a desk, which the others start. The first breach stops the run, which says what and where, and leaves
 //! the files.
 
@@ -21,7 +21,7 @@ use town::Town;
 
 /// The seed and the kills of the gate.
 const SEED: u64 = 1;
-const KILLS: u64 = 400;
+const KILLS: u64 = 300;
 
 fn main() -> ExitCode {
     let words: Vec<String> = std::env::args().skip(1).collect();

@@ -1,6 +1,7 @@
 //! What desks leave of what they did, in one file: a note before each command and one behind its answer, both while the
 //! store is theirs, and the same of their logs. A note is appended by one write; one that a kill has cut is passed over.
 
+use std::fmt;
 use std::fs::{File, OpenOptions};
 use std::io::{self, Read, Write};
 use std::path::Path;
@@ -152,6 +153,37 @@ impl Line {
         }
         let note = Note::of_parts(kind, &parts)?;
         Some(Line { desk, start, note })
+    }
+}
+
+/// The most bytes that are shown of a part.
+const SHOWN: usize = 96;
+
+/// Who notes what, its parts as bytes in hexadecimal.
+impl fmt::Display for Line {
+    fn fmt(&self, to: &mut fmt::Formatter) -> fmt::Result {
+        let what = match self.note {
+            Note::Sent { .. } => "sends to this image this command, with so many bytes lent",
+            Note::Answered { .. } => "gets this answer (a number and seven fields) and this reply",
+            Note::Opened { .. } => "has its log opened, by the process of this desk",
+            Note::Appending { .. } => "appends to its log, of this kind and with this body",
+            Note::Appended { .. } => "has that answered with this number",
+            Note::Beginning => "lets its log begin again",
+            Note::Begun { .. } => "has its log begun again",
+            Note::Recovered => "is through with its recovery",
+            Note::Told { .. } => "is through with this transaction, and it is done (1) or given up",
+        };
+        write!(to, "desk {} under start {} {what}", self.desk, self.start)?;
+        for part in self.note.parts().1 {
+            to.write_str("\n ")?;
+            for byte in part.iter().take(SHOWN) {
+                write!(to, " {byte:02x}")?;
+            }
+            if part.len() > SHOWN {
+                write!(to, " .. ({} bytes)", part.len())?;
+            }
+        }
+        Ok(())
     }
 }
 
