@@ -169,8 +169,8 @@ pub fn finish(town: &Town, desk: u16, by: u16, file: LogFile) -> Result<(), Stri
     recover(&mut desk, &mut line, &mut log)
 }
 
-/// A process.
-struct Worker {
+/// A desk at work.
+pub struct Worker {
     town: Town,
     desk: Desk,
     line: Line,
@@ -181,27 +181,10 @@ struct Worker {
 
 /// Starts a desk, which then works until it is killed.
 pub fn work(town: &Town, number: u16, seed: u64) -> Result<(), String> {
-    let path = town.log(number);
-    let file = waited(|| match path.exists() {
-        true => LogFile::open(&path),
-        false => LogFile::create(&path, LOG),
-    })?;
-    let mut log = Noted::open(town, number, number, file)?;
-    let mut line = Line::new(town, log.who, seed)?;
-    let mut desk = Desk::start(log.who).trying(3);
-    recover(&mut desk, &mut line, &mut log)?;
-    let mut worker = Worker {
-        town: town.clone(),
-        desk,
-        line,
-        log: Some(log),
-        random: Random::new(seed ^ 0x5555),
-        texts: 0,
-    };
+    let mut worker = Worker::start(town, number, seed)?;
     let since = Instant::now();
     while since.elapsed() < LIFE {
         worker.step()?;
-        worker.line.close();
     }
     Ok(())
 }
@@ -218,6 +201,34 @@ fn told<T>(done: Result<T, Failed<String>>) -> Result<(), String> {
 }
 
 impl Worker {
+    /// It opens its log, takes a start, and recovers.
+    pub fn start(town: &Town, number: u16, seed: u64) -> Result<Worker, String> {
+        let path = town.log(number);
+        let file = waited(|| match path.exists() {
+            true => LogFile::open(&path),
+            false => LogFile::create(&path, LOG),
+        })?;
+        let mut log = Noted::open(town, number, number, file)?;
+        let mut line = Line::new(town, log.who, seed)?;
+        let mut desk = Desk::start(log.who).trying(3);
+        recover(&mut desk, &mut line, &mut log)?;
+        Ok(Worker {
+            town: town.clone(),
+            desk,
+            line,
+            log: Some(log),
+            random: Random::new(seed ^ 0x5555),
+            texts: 0,
+        })
+    }
+
+    /// It does something, and closes the store's file.
+    pub fn step(&mut self) -> Result<(), String> {
+        let done = self.something();
+        self.line.close();
+        done
+    }
+
     /// A text that nobody else writes.
     fn text(&mut self) -> Vec<u8> {
         self.texts += 1;
@@ -229,7 +240,7 @@ impl Worker {
         self.random.below(self.town.cards.into()) as u16
     }
 
-    fn step(&mut self) -> Result<(), String> {
+    fn something(&mut self) -> Result<(), String> {
         let (card, text) = (self.card(), self.text());
         let (desk, line) = (&mut self.desk, &mut self.line);
         match self.random.below(13) {

@@ -8,6 +8,8 @@ mod judge;
 mod rounds;
 mod survey;
 mod tally;
+#[cfg(test)]
+mod tests;
 mod texts;
 mod town;
 mod trace;

@@ -117,13 +117,18 @@ pub fn run(seed: u64, kills: u64) -> Result<Tally, String> {
     Ok(tally)
 }
 
-/// One town from its beginning to its end.
-fn visit(town: &Town, random: &mut Random, kills: u64) -> Result<Tally, String> {
+/// The folder of a town with a fresh image and an empty trace.
+pub fn founded(town: &Town) -> Result<Reader, String> {
     fs::create_dir_all(&town.folder).map_err(|why| why.to_string())?;
     let fresh = Image::make(Version::One, town.cards, ROOM).map_err(|why| why.to_string())?;
     ImageFile::create(town.image(), fresh).map_err(|why| why.to_string())?;
     Trace::open(&town.trace())?;
-    let mut reader = Reader::open(&town.trace()).map_err(|why| why.to_string())?;
+    Reader::open(&town.trace()).map_err(|why| why.to_string())
+}
+
+/// One town from its beginning to its end.
+fn visit(town: &Town, random: &mut Random, kills: u64) -> Result<Tally, String> {
+    let mut reader = founded(town)?;
     let mut judge = Judge::new(town);
     let mut processes = Processes::new(town);
     judge.tally.count(Counted::Towns);

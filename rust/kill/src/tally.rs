@@ -3,7 +3,7 @@
 use std::fmt::Write;
 
 /// From so many kills on, what is rare has to come as well.
-const MANY: u64 = 5_000;
+const MANY: u64 = 10_000;
 
 /// What may never come: a kill inside a write to the trace.
 const NEVER: u64 = u64::MAX;
@@ -28,7 +28,7 @@ counted! {
     Saved 1 "a command was under way, and the image saved but nobody told"
     Idle MANY "a command was under way that changes nothing"
     NotAppended 1 "an append was under way, and its record does not stand"
-    Appended 1 "an append was under way, and its record stands but nobody was told"
+    Appended MANY "an append was under way, and its record stands but nobody was told"
     CommitFound MANY "the same of a commit: the transaction counts"
     NotBegun MANY "a log was to begin again, and had not"
     Begun MANY "a log had begun again, and nobody was told"
