@@ -1,7 +1,7 @@
 //! Desks as processes on one machine: one image and a log for each desk in files (docs/FILES.md), killed with SIGKILL
 //! at random points. `kill test` kills 300 times, `kill run N` N times with a new seed, `kill seed S N` with this one;
-//! `kill desk` is a desk, which the others start. The first breach stops the run, which says what and where, and leaves
-//! the files.
+//! with FOLDER behind, the files stand there and not in memory. `kill desk` is a desk, which the others start. The
+//! first breach stops the run, which says what and where, and leaves the files.
 
 mod desk;
 mod judge;
@@ -14,7 +14,7 @@ mod texts;
 mod town;
 mod trace;
 
-use std::path::PathBuf;
+use std::path::{Path, PathBuf};
 use std::process::ExitCode;
 use std::time::{Instant, SystemTime, UNIX_EPOCH};
 
@@ -28,19 +28,22 @@ const KILLS: u64 = 300;
 fn main() -> ExitCode {
     let words: Vec<String> = std::env::args().skip(1).collect();
     let words: Vec<&str> = words.iter().map(String::as_str).collect();
-    let (seed, kills) = match words[..] {
+    let (seed, kills, folder) = match words[..] {
         ["desk", folder, desks, cards, desk, seed] => {
             return a_desk(folder, [desks, cards, desk, seed]);
         }
-        ["test"] => (Some(SEED), Some(KILLS)),
-        ["run", kills] => (Some(new_seed()), kills.parse().ok()),
-        ["seed", seed, kills] => (seed.parse().ok(), kills.parse().ok()),
-        _ => (None, None),
+        ["test"] => (Some(SEED), Some(KILLS), None),
+        ["run", kills] => (Some(new_seed()), kills.parse().ok(), None),
+        ["run", kills, folder] => (Some(new_seed()), kills.parse().ok(), Some(folder)),
+        ["seed", seed, kills] => (seed.parse().ok(), kills.parse().ok(), None),
+        ["seed", seed, kills, folder] => (seed.parse().ok(), kills.parse().ok(), Some(folder)),
+        _ => (None, None, None),
     };
+    let folder = folder.map_or_else(town::top, PathBuf::from);
     match seed.zip(kills) {
-        Some((seed, kills)) => run(seed, kills),
+        Some((seed, kills)) => run(seed, kills, &folder),
         None => {
-            eprintln!("usage: kill test | kill run KILLS | kill seed SEED KILLS");
+            eprintln!("usage: kill test | kill run KILLS [FOLDER] | kill seed SEED KILLS [FOLDER]");
             ExitCode::from(2)
         }
     }
@@ -52,10 +55,10 @@ fn new_seed() -> u64 {
     now.map_or(0, |since| since.as_nanos() as u64)
 }
 
-fn run(seed: u64, kills: u64) -> ExitCode {
+fn run(seed: u64, kills: u64, folder: &Path) -> ExitCode {
     println!("kill: seed {seed}, {kills} kills");
     let since = Instant::now();
-    let tally = match rounds::run(seed, kills) {
+    let tally = match rounds::run(seed, kills, folder) {
         Ok(tally) => tally,
         Err(why) => {
             eprintln!("kill: seed {seed}: a breach\n{why}");

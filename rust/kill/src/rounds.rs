@@ -2,6 +2,7 @@
 
 use std::fs;
 use std::os::unix::process::ExitStatusExt;
+use std::path::Path;
 use std::process::{Child, Command};
 use std::thread::sleep;
 use std::time::{Duration, Instant};
@@ -14,7 +15,7 @@ use crate::desk::finish;
 use crate::judge::Judge;
 use crate::survey::survey;
 use crate::tally::{Counted, Tally};
-use crate::town::{top, waited, Town, ROOM};
+use crate::town::{waited, Town, ROOM};
 use crate::trace::{Reader, Trace};
 
 /// How many kills a town sees at the most, and how many commands about: each sentence of demand 3 is held to the whole
@@ -90,14 +91,14 @@ impl Drop for Processes {
     }
 }
 
-/// Runs towns until there were so many kills.
-pub fn run(seed: u64, kills: u64) -> Result<Tally, String> {
+/// Runs towns, each in a new folder in this one, until there were so many kills.
+pub fn run(seed: u64, kills: u64, top: &Path) -> Result<Tally, String> {
     let mut random = Random::new(seed);
     let (since, mut shown) = (Instant::now(), 0);
     let mut tally = Tally::default();
     while tally.of(Counted::Kills) < kills {
         let (number, left) = (tally.of(Counted::Towns), kills - tally.of(Counted::Kills));
-        let folder = top().join(format!("lupaniele-kill-{}-{number}", std::process::id()));
+        let folder = top.join(format!("lupaniele-kill-{}-{number}", std::process::id()));
         let town = Town {
             desks: random.between(2, 6) as u16,
             cards: random.between(1, 4) as u16,
