@@ -19,12 +19,15 @@ use crate::trace::{Note, Trace};
 
 /// A desk that nobody kills ends by itself.
 const LIFE: Duration = Duration::from_secs(20);
+/// The one language that transactions write (rule 11.4).
+const FIRST: u8 = 0;
 /// How often a recovery is tried while others are quicker.
 const RECOVERIES: u32 = 1_000;
 
 /// The way to the store: its file, opened for some commands and closed again.
 struct Line {
     image: PathBuf,
+    version: Version,
     trace: Trace,
     who: DeskId,
     file: Option<ImageFile>,
@@ -37,6 +40,7 @@ impl Line {
     fn new(town: &Town, who: DeskId, seed: u64) -> Result<Line, String> {
         Ok(Line {
             image: town.image(),
+            version: town.version,
             trace: Trace::open(&town.trace())?,
             who,
             file: None,
@@ -55,7 +59,7 @@ impl Store for Line {
     type Error = String;
 
     fn version(&self) -> Version {
-        Version::One
+        self.version
     }
 
     fn room(&self) -> u16 {
@@ -144,8 +148,11 @@ impl Journal for Noted {
     }
 }
 
-/// Finishes what stands in a log; who meets others that are quicker tries again.
+/// Finishes what stands in a log; who meets others that are quicker tries again. In version 2 nothing does.
 fn recover(desk: &mut Desk, line: &mut Line, log: &mut Noted) -> Result<(), String> {
+    if line.version == Version::Two {
+        return Ok(());
+    }
     for _ in 0..RECOVERIES {
         let recovered = desk.recover(line, log);
         line.close();
@@ -240,31 +247,36 @@ impl Worker {
         self.random.below(self.town.cards.into()) as u16
     }
 
+    fn language(&mut self) -> Language {
+        self.random.pick(self.town.version.languages())
+    }
+
     fn something(&mut self) -> Result<(), String> {
-        let (card, text) = (self.card(), self.text());
+        let (card, text, language) = (self.card(), self.text(), self.language());
         let (desk, line) = (&mut self.desk, &mut self.line);
         match self.random.below(13) {
             0 => told(desk.read_original(line, card)),
             1 => told(desk.write_original(line, card, &text)),
-            2 => told(desk.read_translation(line, card, Language::First)),
-            3 | 4 => told(self.translate(card)),
+            2 => told(desk.read_translation(line, card, language)),
+            3 | 4 => told(self.translate(card, language)),
             5 => told(self.edit(card)),
-            6 => self.both(card),
+            6 => self.both(card, language),
             7 => self.help(),
+            _ if line.version == Version::Two => told(self.translate(card, language)),
             _ => self.change(),
         }
     }
 
     /// Reads, and upgrades to write the translation of what was read.
-    fn translate(&mut self, card: u16) -> Result<(), Failed<String>> {
+    fn translate(&mut self, card: u16, language: Language) -> Result<(), Failed<String>> {
         let work = |mut session: Session<Line, Shared>| {
             let original = session.read_original()?;
             if original.edition() == 0 {
                 return Ok(());
             }
-            let text = translated(original.text());
+            let text = translated(language.number(), original.text());
             let mut session = session.upgrade()?;
-            session.write_translation(&original, Language::First, &text)
+            session.write_translation(&original, language, &text)
         };
         self.desk.session(&mut self.line, card, work)
     }
@@ -279,13 +291,13 @@ impl Worker {
     }
 
     /// Reads both languages in one session: what belongs together.
-    fn both(&mut self, card: u16) -> Result<(), String> {
+    fn both(&mut self, card: u16, language: Language) -> Result<(), String> {
         let work = |mut session: Session<Line, Shared>| {
             let original = session.read_original()?;
-            Ok((original, session.read_translation(Language::First)?))
+            Ok((original, session.read_translation(language)?))
         };
         match self.desk.session(&mut self.line, card, work) {
-            Ok((original, translation)) if translation != translated(original.text()) => {
+            Ok((original, text)) if text != translated(language.number(), original.text()) => {
                 Err(format!("card {card}: a translation of another original"))
             }
             read => told(read),
@@ -367,13 +379,13 @@ fn plan(
 ) -> Result<(), AppendError<String>> {
     match (random.below(4), early) {
         (0, _) => transaction.write_original(card, text),
-        (1, _) => transaction.write_both(card, text, &translated(text)),
+        (1, _) => transaction.write_both(card, text, &translated(FIRST, text)),
         (2, Ok(early)) if card == 0 => {
-            transaction.write_translation(early, &translated(early.text()))
+            transaction.write_translation(early, &translated(FIRST, early.text()))
         }
         _ => match (transaction.read_original(card), random.one_in(2)) {
             (Ok(original), true) => {
-                transaction.write_translation(&original, &translated(original.text()))
+                transaction.write_translation(&original, &translated(FIRST, original.text()))
             }
             (Ok(original), false) => transaction.write_original(card, &edited(original.text())),
             (Err(_), _) => Ok(()),

@@ -1,7 +1,7 @@
 //! The judge: replays the trace on the second program, answers, reply buffers, image and logs to their last byte, and
 //! holds the whole list to demand 3's sentences and every text to what is meant (rule 16.2).
 
-use std::collections::BTreeMap;
+use std::collections::{BTreeMap, HashMap};
 
 use compare::coverage::Run;
 use compare::demand3::{self, Event};
@@ -49,13 +49,14 @@ struct Book {
 /// What is so far.
 pub struct Judge {
     cards: u16,
+    format: Format,
     image: Vec<u8>,
     /// Sent, and not answered yet.
     under_way: Option<Sent>,
     list: Vec<Event>,
     logs: BTreeMap<u16, Book>,
-    /// The texts of a store in which a commit is one step, by card and side.
-    meant: BTreeMap<(u16, u8), Vec<u8>>,
+    /// The texts of a store in which a commit is one step, by card and language.
+    meant: HashMap<(u16, Language), Vec<u8>>,
     pub tally: Tally,
 }
 
@@ -80,16 +81,18 @@ pub fn something_due(log: &[u8]) -> bool {
 
 impl Judge {
     pub fn new(town: &Town) -> Judge {
-        let layout = Layout::new(Format::V1, town.cards.into(), ROOM.into());
+        let format = town.format();
+        let layout = Layout::new(format, town.cards.into(), ROOM.into());
         let mut image = vec![0; layout.map_or(0, Layout::size)];
-        second::make_fresh(&mut image, town.cards.into(), ROOM.into());
+        format.make_fresh(&mut image, town.cards.into(), ROOM.into());
         Judge {
             cards: town.cards,
+            format,
             image,
             under_way: None,
             list: Vec::new(),
             logs: BTreeMap::new(),
-            meant: BTreeMap::new(),
+            meant: HashMap::new(),
             tally: Tally::default(),
         }
     }
@@ -145,7 +148,7 @@ const SAME_IMAGE: &str =
 impl Judge {
     fn made(&self, sent: &Sent) -> Made {
         let (mut image, mut reply) = (self.image.clone(), vec![0; sent.lent]);
-        let answer = second::answer(&mut image, &sent.command, &mut reply);
+        let answer = self.format.answer(&mut image, &sent.command, &mut reply);
         let mut line = [answer.number.into(); 8];
         line[1..].copy_from_slice(&answer.fields.numbers());
         Made { line, image, reply }
@@ -200,7 +203,7 @@ impl Judge {
         }
         let told = proved::Answer { number, fields };
         let lent = vec![0; sent.lent];
-        let event = Event::new(Format::V1, &sent.command, lent, told, &made.reply);
+        let event = Event::new(self.format, &sent.command, lent, told, &made.reply);
         self.list.push(event);
         self.image = made.image;
         match number {
@@ -211,7 +214,9 @@ impl Judge {
 
     /// The whole list.
     pub fn keeps_the_sentences(&mut self) -> Judged {
-        demand3::holds(self.cards, &self.list, &mut Run::default())?;
+        let mut run = Run::default();
+        run.format = self.format;
+        demand3::holds(self.cards, &self.list, &mut run)?;
         let pairs = demand3::isolated_outright(self.cards, &self.list)?;
         self.tally.add(Counted::Sentences, self.list.len() as u64);
         self.tally.add(Counted::Sessions, pairs as u64);
@@ -221,31 +226,32 @@ impl Judge {
 
 /// Texts.
 impl Judge {
-    fn meant(&self, card: u16, side: u8) -> &[u8] {
-        self.meant.get(&(card, side)).map_or(&[], |text| text)
+    fn meant(&self, card: u16, language: Language) -> &[u8] {
+        self.meant.get(&(card, language)).map_or(&[], |text| text)
     }
 
     /// A text is meant from now on. An original that ends in a sign was made from the one that stands.
-    fn means(&mut self, card: u16, side: u8, text: &[u8]) -> Judged {
-        if side == 1 {
-            let upon = made_from(text, self.meant(card, 1));
+    fn means(&mut self, card: u16, language: Language, text: &[u8]) -> Judged {
+        if language == Language::Original {
+            let upon = made_from(text, self.meant(card, language));
             let holds = upon.is_none_or(|(made_from, before)| made_from == before);
             held(
                 holds,
                 "9.6: what was written upon what was read loses nobody's text",
             )?;
         }
-        self.meant.insert((card, side), text.to_vec());
+        self.meant.insert((card, language), text.to_vec());
         Ok(())
     }
 
     fn accepted(&mut self, command: &[u8], shown: &[u8]) -> Judged {
-        let command = Command::parse(Format::V1, command).ok_or("an accepted command is formed")?;
+        let command =
+            Command::parse(self.format, command).ok_or("an accepted command is formed")?;
         let order = (command.expected, command.next) != (Mark::default(), Mark::default());
         match command.act {
             Act::Read(language) => self.shows(command.card, language, shown)?,
             Act::Write(_) if order => {}
-            Act::Write(language) => self.means(command.card, side(language), command.payload)?,
+            Act::Write(language) => self.means(command.card, language, command.payload)?,
             Act::Verify => {}
         }
         self.stands(command.card)
@@ -254,11 +260,11 @@ impl Judge {
     fn shows(&mut self, card: u16, language: Language, shown: &[u8]) -> Judged {
         self.tally.count(Counted::Shown);
         let rule = "16.12: an accepted read shows the text that is meant";
-        held(shown == self.meant(card, side(language)), rule)?;
+        held(shown == self.meant(card, language), rule)?;
         match language {
             Language::Original => Ok(()),
-            Language::Translation(_) => {
-                let current = shown == translated(self.meant(card, 1));
+            Language::Translation(number) => {
+                let current = shown == translated(number, self.meant(card, Language::Original));
                 held(
                     current,
                     "16.20: a translation that is read is that of the original that stands",
@@ -269,32 +275,33 @@ impl Judge {
 
     /// A card without a mark has the texts that are meant.
     fn stands(&mut self, card: u16) -> Judged {
-        let layout = Layout::of_sound(Format::V1, &self.image).ok_or("2.6: the image is sound")?;
+        let layout = Layout::of_sound(self.format, &self.image).ok_or("2.6: the image is sound")?;
         let entry = layout.entry(&self.image, card);
         if entry.is_none_or(|entry| entry.mark != Mark::default()) {
             return Ok(());
         }
         self.tally.count(Counted::Stands);
-        let holds = [Language::Original, Language::Translation(0)].map(|language| {
-            layout.text(&self.image, card, language) == Some(self.meant(card, side(language)))
+        let mut languages = layout.languages();
+        let holds = languages.all(|language| {
+            layout.text(&self.image, card, language) == Some(self.meant(card, language))
         });
         let rule = "16.11: a card without a mark has the texts that are meant";
-        held(holds == [true, true], rule)
+        held(holds, rule)
     }
 
     /// The card bears a mark of this desk.
     fn bears(&self, card: u16, desk: u16) -> bool {
-        let layout = Layout::of_header(Format::V1, &self.image);
+        let layout = Layout::of_header(self.format, &self.image);
         let entry = layout.and_then(|layout| layout.entry(&self.image, card));
         entry.is_some_and(|entry| entry.mark.desk == desk)
     }
 }
 
-/// The side of a log's update that is of this language.
-fn side(language: Language) -> u8 {
-    match language {
-        Language::Original => 1,
-        Language::Translation(_) => 2,
+/// The language of a side of a log's update (rule 11.4).
+fn language_of(side: u8) -> Language {
+    match side {
+        1 => Language::Original,
+        _ => Language::Translation(0),
     }
 }
 
@@ -311,16 +318,17 @@ impl Judge {
 
     fn opened(&mut self, desk: u16, start: u16, by: u16, log: Vec<u8>) -> Judged {
         self.reads_back(desk, log)?;
+        let recovers = self.format == Format::V1;
         let book = self.book(desk);
         let cut = book.recovering;
         let rule = "10.9: a desk comes back under a start that it never had";
         held(book.start.is_none_or(|last| last < start), rule)?;
         book.start = Some(start);
-        book.recovering = true;
+        book.recovering = recovers;
         self.tally.count(Counted::Opened);
         self.tally.add(Counted::Recovering, u64::from(cut));
-        self.tally
-            .add(Counted::Helped, u64::from(by != desk && by != 0));
+        let helped = recovers && by != desk && by != 0;
+        self.tally.add(Counted::Helped, u64::from(helped));
         Ok(())
     }
 
@@ -412,7 +420,7 @@ impl Judge {
                         self.bears(card, desk),
                         "16.8: a card is held when it is committed",
                     )?;
-                    self.means(card, side, text)?;
+                    self.means(card, language_of(side), text)?;
                 }
                 _ => {}
             }

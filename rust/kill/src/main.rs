@@ -18,6 +18,7 @@ use std::path::{Path, PathBuf};
 use std::process::ExitCode;
 use std::time::{Instant, SystemTime, UNIX_EPOCH};
 
+use lupaniele::Version;
 use tally::Counted;
 use town::Town;
 
@@ -29,8 +30,8 @@ fn main() -> ExitCode {
     let words: Vec<String> = std::env::args().skip(1).collect();
     let words: Vec<&str> = words.iter().map(String::as_str).collect();
     let (seed, kills, folder) = match words[..] {
-        ["desk", folder, desks, cards, desk, seed] => {
-            return a_desk(folder, [desks, cards, desk, seed]);
+        ["desk", folder, desks, cards, version, desk, seed] => {
+            return a_desk(folder, [desks, cards, version, desk, seed]);
         }
         ["test"] => (Some(SEED), Some(KILLS), None),
         ["run", kills] => (Some(new_seed()), kills.parse().ok(), None),
@@ -80,13 +81,18 @@ fn run(seed: u64, kills: u64, folder: &Path) -> ExitCode {
 }
 
 /// Runs one desk.
-fn a_desk(folder: &str, numbers: [&str; 4]) -> ExitCode {
+fn a_desk(folder: &str, numbers: [&str; 5]) -> ExitCode {
     let numbers = numbers.map(|number| number.parse::<u64>().unwrap_or(0));
-    let [desks, cards, desk, seed] = numbers;
+    let [desks, cards, version, desk, seed] = numbers;
     let town = Town {
         folder: PathBuf::from(folder),
         desks: desks as u16,
         cards: cards as u16,
+        version: if version == 2 {
+            Version::Two
+        } else {
+            Version::One
+        },
     };
     match desk::work(&town, desk as u16, seed) {
         Ok(()) => ExitCode::SUCCESS,

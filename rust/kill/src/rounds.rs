@@ -39,8 +39,15 @@ impl Processes {
 
     fn start(&mut self, at: usize, seed: u64) -> Result<(), String> {
         let program = std::env::current_exe().map_err(|why| why.to_string())?;
-        let Town { desks, cards, .. } = self.town;
-        let numbers = [desks.into(), cards.into(), at as u64 + 1, seed];
+        let town = &self.town;
+        let version = town.version as u64;
+        let numbers = [
+            town.desks.into(),
+            town.cards.into(),
+            version,
+            at as u64 + 1,
+            seed,
+        ];
         let child = Command::new(program)
             .arg("desk")
             .arg(&self.town.folder)
@@ -102,6 +109,11 @@ pub fn run(seed: u64, kills: u64, top: &Path) -> Result<Tally, String> {
         let town = Town {
             desks: random.between(2, 6) as u16,
             cards: random.between(1, 4) as u16,
+            version: if random.one_in(5) {
+                Version::Two
+            } else {
+                Version::One
+            },
             folder,
         };
         let wrong = |why: String| format!("{why}\nthe files are in {}", town.folder.display());
@@ -121,7 +133,7 @@ pub fn run(seed: u64, kills: u64, top: &Path) -> Result<Tally, String> {
 /// The folder of a town with a fresh image and an empty trace.
 pub fn founded(town: &Town) -> Result<Reader, String> {
     fs::create_dir_all(&town.folder).map_err(|why| why.to_string())?;
-    let fresh = Image::make(Version::One, town.cards, ROOM).map_err(|why| why.to_string())?;
+    let fresh = Image::make(town.version, town.cards, ROOM).map_err(|why| why.to_string())?;
     ImageFile::create(town.image(), fresh).map_err(|why| why.to_string())?;
     Trace::open(&town.trace())?;
     Reader::open(&town.trace()).map_err(|why| why.to_string())
@@ -133,6 +145,8 @@ fn visit(town: &Town, random: &mut Random, kills: u64) -> Result<Tally, String> 
     let mut judge = Judge::new(town);
     let mut processes = Processes::new(town);
     judge.tally.count(Counted::Towns);
+    let second = u64::from(town.version == Version::Two);
+    judge.tally.add(Counted::OfVersion2, second);
     let going =
         |tally: &Tally| tally.of(Counted::Kills) < kills && tally.of(Counted::Commands) < COMMANDS;
     while going(&judge.tally) {

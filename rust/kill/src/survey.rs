@@ -1,10 +1,11 @@
 //! What is looked at right behind each kill: the image and every log, as they stand in their files, and what a recovery
 //! of each log makes of them that nobody holds. That is made on copies: the desks find their files as they were.
 
+use compare::proved;
 use lupaniele::files::{read_bytes, FileError, LogFile};
-use lupaniele::LARGEST_IMAGE;
+use lupaniele::{Version, LARGEST_IMAGE};
 use second::log::Record;
-use second::{is_sound, read_back, recovery, Format, Language, Layout};
+use second::{read_back, recovery, Format, Language, Layout};
 
 use crate::desk::recover_copies;
 use crate::judge::something_due;
@@ -21,10 +22,12 @@ pub fn survey(town: &Town, tally: &mut Tally) -> Result<(), String> {
         }
         match LogFile::open(&path) {
             Ok(file) => {
-                tally.count(Counted::Surveyed);
                 let log = file.log().bytes().to_vec();
                 tally.add(Counted::Due, u64::from(something_due(&log)));
-                recovers(town, desk, log)?;
+                if town.version == Version::One {
+                    tally.count(Counted::Surveyed);
+                    recovers(town, desk, log)?;
+                }
             }
             Err(FileError::InUse) => {
                 tally.count(Counted::Logs);
@@ -41,7 +44,8 @@ pub fn survey(town: &Town, tally: &mut Tally) -> Result<(), String> {
 
 fn sound_image(town: &Town) -> Result<Vec<u8>, String> {
     let image = read_bytes(town.image(), LARGEST_IMAGE).map_err(|why| why.to_string())?;
-    match is_sound(&image) && lupaniele::raw::sound(&image) {
+    let format = town.format();
+    match format.is_sound(&image) && proved::sound(format, &image) {
         true => Ok(image),
         false => Err("2.6: the image is sound".to_string()),
     }

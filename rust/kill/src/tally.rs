@@ -23,6 +23,7 @@ macro_rules! counted {
 
 counted! {
     Towns 1 "towns: 2 to 6 desks, 1 to 4 cards, one image and a log for each desk in files"
+    OfVersion2 MANY "of them with a store of version 2, without transactions"
     Kills 1 "kills"
     Unsaved 1 "a command was under way, and the image not saved"
     Saved 1 "a command was under way, and the image saved but nobody told"
@@ -49,7 +50,7 @@ counted! {
     GivenUp 1 "transactions that were given up"
     Again MANY "logs that began again"
     Recovered 1 "recoveries that came to their end"
-    Helped MANY "of them by another desk"
+    Helped MANY "logs of desks that are down, opened by another desk to recover"
     Surveyed 1 "recoveries on copies, right behind a kill, of a log that nobody held"
     Due 1 "of them with something due"
     Logs 1 "logs of desks at work, read back right behind a kill"

@@ -3,7 +3,7 @@
 use std::fs;
 
 use lupaniele::files::read_bytes;
-use lupaniele::LARGEST_IMAGE;
+use lupaniele::{Version, LARGEST_IMAGE};
 
 use crate::desk::Worker;
 use crate::judge::Judge;
@@ -14,12 +14,13 @@ use crate::town::{top, Town};
 use crate::trace::{Line, Note, Reader};
 
 /// The trace that two desks leave, each of which comes back once, and the image at its end.
-fn traced(name: &str) -> (Town, Vec<Line>, Vec<u8>) {
+fn traced(name: &str, version: Version) -> (Town, Vec<Line>, Vec<u8>) {
     let folder = top().join(format!("lupaniele-judged-{name}-{}", std::process::id()));
     let town = Town {
         folder,
         desks: 2,
         cards: 2,
+        version,
     };
     let mut reader = founded(&town).expect("a town");
     for seed in 0..2 {
@@ -50,7 +51,7 @@ fn judged(town: &Town, lines: &[Line], image: &[u8]) -> Result<u64, String> {
 /// Changes the first note that `change` takes behind a third of the trace, before the desks come back, and holds the
 /// judge to stop with this rule.
 fn stopped(name: &str, rule: &str, mut change: impl FnMut(&mut Line) -> bool) {
-    let (town, mut lines, image) = traced(name);
+    let (town, mut lines, image) = traced(name, Version::One);
     assert!(judged(&town, &lines, &image).is_ok_and(|commands| commands > 200));
     let third = lines.len() / 3;
     let changed = lines[third..].iter_mut().any(&mut change);
@@ -157,7 +158,7 @@ fn a_transaction_told_of_otherwise() {
 /// A command whose answer is missing happened or did not, by the image that stands then.
 #[test]
 fn an_answer_that_is_missing() {
-    let (town, mut lines, image) = traced("missing");
+    let (town, mut lines, image) = traced("missing", Version::One);
     let accepted = |line: &Line| matches!(line.note, Note::Answered { line: [0, ..], .. });
     let at = lines.iter().rposition(accepted).expect("an answer");
     lines.remove(at);
@@ -179,7 +180,7 @@ fn an_answer_that_is_missing() {
 /// A note that was cut anywhere is passed over, and those around it are read.
 #[test]
 fn notes_that_are_cut() {
-    let (town, lines, _) = traced("cut");
+    let (town, lines, _) = traced("cut", Version::One);
     let bytes = fs::read(town.trace()).expect("the trace");
     for cut in (1..400).step_by(7) {
         let path = town.folder.join("cut");
@@ -189,5 +190,20 @@ fn notes_that_are_cut() {
         assert!(read.ends_with(&lines), "cut at {cut}");
         assert_eq!(reader.cut + read.len() as u64 - lines.len() as u64, 1);
     }
+    fs::remove_dir_all(&town.folder).expect("the folder is gone");
+}
+
+/// In version 2 a text of one language is not taken for that of another.
+#[test]
+fn texts_of_four_languages() {
+    let (town, mut lines, image) = traced("languages", Version::Two);
+    assert!(judged(&town, &lines, &image).is_ok_and(|commands| commands > 200));
+    let read =
+        |line: &Line| matches!(&line.note, Note::Answered { reply, .. } if reply.starts_with(b"U"));
+    let at = lines.iter().position(read).expect("a text of language 1");
+    if let Note::Answered { reply, .. } = &mut lines[at].note {
+        reply[0] = b'V';
+    }
+    assert!(judged(&town, &lines, &image).is_err_and(|told| told.starts_with("4.7")));
     fs::remove_dir_all(&town.folder).expect("the folder is gone");
 }

@@ -1,11 +1,11 @@
 //! Texts that tell what they were made from.
 
-/// How many bytes of a text are kept when a sign is put behind it; with a `T` in front its translation fills the room.
+/// How many bytes of a text are kept when a sign is put behind it; with a letter in front its translation fills the room.
 pub const EDITED: usize = 14;
 
-/// The translation of a text.
-pub fn translated(text: &[u8]) -> Vec<u8> {
-    [b"T", text].concat()
+/// The translation of a text into a language, which its first letter tells.
+pub fn translated(language: u8, text: &[u8]) -> Vec<u8> {
+    [&[b'T' + language], text].concat()
 }
 
 /// The text with a sign behind it.

@@ -5,6 +5,8 @@ use std::thread::sleep;
 use std::time::{Duration, Instant};
 
 use lupaniele::files::FileError;
+use lupaniele::Version;
+use second::Format;
 
 /// The bytes of each log.
 pub const LOG: usize = 8_192;
@@ -14,15 +16,25 @@ pub const ROOM: u16 = 16;
 /// How long somebody waits for a file that is in use.
 const PATIENCE: Duration = Duration::from_secs(20);
 
-/// A folder with one image, and for each desk a log and its last start.
+/// A folder with one image, and for each desk a log and its last start. Transactions are of version 1, as logs are: in
+/// version 2 who has the log is the desk, and writes nothing to it.
 #[derive(Clone, Debug)]
 pub struct Town {
     pub folder: PathBuf,
     pub desks: u16,
     pub cards: u16,
+    pub version: Version,
 }
 
 impl Town {
+    /// The version in the second program's words.
+    pub fn format(&self) -> Format {
+        match self.version {
+            Version::One => Format::V1,
+            Version::Two => Format::V2,
+        }
+    }
+
     pub fn image(&self) -> PathBuf {
         self.folder.join("cards")
     }
