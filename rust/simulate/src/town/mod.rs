@@ -3,14 +3,18 @@
 
 mod desks;
 mod guests;
+mod history;
 mod logs;
 mod manager;
 mod odd;
 mod post;
+mod runs;
+mod texts;
+mod versions;
 
 use lupaniele::{DeskId, Image};
 use second::random::Random;
-use second::Pair;
+use second::{Format, Pair};
 use story::{Scene, Standing};
 
 use crate::checks::desk::{learnt, proposed, Proposal, Stamps};
@@ -24,8 +28,10 @@ use crate::tally::{Fault, Operation, Step, Tally};
 use desks::Desk;
 use guests::Guest;
 pub use guests::Outcome;
+use history::Beside;
 use manager::Keeper;
 use post::Message;
+pub use versions::Versions;
 
 /// How large a town is.
 #[derive(Clone, Copy, Debug, PartialEq, Eq)]
@@ -34,6 +40,8 @@ pub struct Shape {
     pub cards: usize,
     /// The room of a text.
     pub room: usize,
+    /// The versions of the store.
+    pub versions: Versions,
     /// The desks.
     pub desks: usize,
     /// The places of each queue.
@@ -55,15 +63,24 @@ pub struct Shape {
 }
 
 impl Shape {
-    /// Any shape.
+    /// Any shape; now and then one whose image of version 2 has 65,536 bytes.
     pub fn any(random: &mut Random) -> Shape {
+        let steps = random.pick(&[300, 1_000, 3_000, 10_000]);
+        let (cards, room) = match steps == 1_000 && random.one_in(8) {
+            true => [(15, 864), (65, 192)][random.index(2)],
+            false => (
+                random.pick(&[1, 2, 2, 3, 4]),
+                random.pick(&[16, 16, 32, 48]),
+            ),
+        };
         Shape {
-            cards: random.pick(&[1, 2, 2, 3, 4]),
-            room: random.pick(&[16, 16, 32, 48]),
+            cards,
+            room,
+            versions: Versions::any(random, steps),
             desks: random.pick(&[2, 3, 4, 5, 8, 12]),
             places: random.pick(&[1, 2, 3, 4, 8, 32]),
             log: random.pick(&[2_201, 2_240, 2_300, 2_600, 2_600, 4_000, 6_000]),
-            steps: random.pick(&[300, 1_000, 3_000, 10_000]),
+            steps,
             storm: random.pick(&[1, 3, 10, 60]),
             polite: !random.one_in(3),
             worn: false,
@@ -76,6 +93,7 @@ impl Shape {
         Shape {
             cards: 2,
             room: 16,
+            versions: Versions::Converts(70_000),
             desks: 3,
             places: 3,
             log: 2_600,
@@ -92,6 +110,7 @@ impl Shape {
         Shape {
             cards: 2,
             room: 16,
+            versions: Versions::One,
             desks: 3,
             places: 3,
             log: 2_600,
@@ -118,6 +137,7 @@ pub struct Town<'a, L: Library> {
     desks: Vec<Desk>,
     guests: Vec<Guest>,
     post: Vec<Message>,
+    history: Option<Beside>,
     clock: f64,
     now: u64,
     reply: Vec<u8>,
@@ -138,13 +158,27 @@ impl<'a, L: Library> Town<'a, L> {
         rule: Option<Rule>,
     ) -> Checked<Town<'a, L>> {
         let random = Random::new(seed);
-        let store = Store::new(shape.cards, shape.room, rule.is_none());
+        let shape = match shape.guests {
+            0 => shape,
+            _ => Shape {
+                versions: Versions::One,
+                ..shape
+            },
+        };
+        let format = shape.versions.opening();
+        let mut store = Store::fresh(format, shape.cards, shape.room, rule.is_none());
         let mut image = vec![0xee; store.image.len()];
-        let number = library.make(&mut image, shape.cards as u64, shape.room as u64);
-        tally.number(Operation::Make, number);
+        let (cards, room) = (shape.cards as u64, shape.room as u64);
+        let (operation, number) = match format {
+            Format::V1 => (Operation::Make, library.make(&mut image, cards, room)),
+            Format::V2 => (Operation::Make2, library.make_v2(&mut image, cards, room)),
+        };
+        tally.number(operation, number);
         tally
             .made
             .same(Check::Made, (number, &image), (0, &store.image))?;
+        let history = (format == Format::V1).then(Beside::nothing);
+        store.unheard = history.as_ref().map(|_| Vec::new());
         let mut town = Town {
             library,
             tally,
@@ -160,10 +194,11 @@ impl<'a, L: Library> Town<'a, L> {
             desks: Vec::new(),
             guests: Vec::new(),
             post: Vec::new(),
+            history,
             clock: 0.0,
             now: 0,
             reply: Vec::new(),
-            lent: (0..64).map(|at| at ^ 0xa5).collect(),
+            lent: (0..shape.room.max(64)).map(|at| at as u8 ^ 0xa5).collect(),
             outcomes: [0; Outcome::ALL.len()],
             scenes: None,
         };
@@ -205,6 +240,8 @@ impl<'a, L: Library> Town<'a, L> {
             self.tally.steps += 1;
             self.step()?;
         }
+        let crossed = self.store.crossed > 0;
+        self.tally.fault_if(crossed, Fault::SessionAcross);
         Ok(())
     }
 
@@ -226,6 +263,9 @@ impl<'a, L: Library> Town<'a, L> {
     /// One step, as the seed draws it.
     fn step(&mut self) -> Checked {
         self.clock += self.random.below(4) as f64;
+        if self.shape.versions == Versions::Converts(self.now) {
+            return self.convert();
+        }
         if self.shape.worn && self.store.cards[0].edition < u16::MAX {
             return self.wear();
         }
@@ -236,7 +276,8 @@ impl<'a, L: Library> Town<'a, L> {
             return self.guest();
         }
         match self.random.below(100) {
-            0..=57 if !self.post.is_empty() => self.deliver(),
+            0..=2 if !self.post.is_empty() => self.stream(),
+            3..=57 if !self.post.is_empty() => self.deliver(),
             58..=59 => self.lose(),
             60..=61 => self.repeat(),
             62..=67 => self.manage(),
@@ -273,28 +314,56 @@ impl<'a, L: Library> Town<'a, L> {
         }
     }
 
-    /// A command reaches the store, with a reply buffer of some length.
+    /// A command of version 1 reaches the store, with a reply buffer of some
+    /// length.
     fn judge(&mut self, command: &[u8], lent: usize) -> Checked<crate::library::Answer> {
+        self.judge_as(Format::V1, command, lent)
+    }
+
+    /// A command of a version reaches the store, with a reply buffer of some
+    /// length.
+    fn judge_as(
+        &mut self,
+        format: Format,
+        command: &[u8],
+        lent: usize,
+    ) -> Checked<crate::library::Answer> {
         self.reply.clear();
         self.reply.extend_from_slice(&self.lent[..lent]);
         let before = self.scenes.is_some().then(|| self.image.clone());
         let (image, reply) = (&mut self.image, &mut self.reply);
-        let answer = self.library.answer(image, command, reply);
-        self.tally.number(Operation::Store, answer.number);
+        let (operation, answer) = match format {
+            Format::V1 => (Operation::Store, self.library.answer(image, command, reply)),
+            Format::V2 => (
+                Operation::Store2,
+                self.library.answer_v2(image, command, reply),
+            ),
+        };
+        self.tally.number(operation, answer.number);
         if let Some((scenes, before)) = self.scenes.as_mut().zip(before) {
             let shown = &self.reply[..(answer.fields[6] as usize).min(lent)];
             let images = [&before[..], &self.image];
-            scenes.push(scenes::judged(command, &answer, shown, images));
+            scenes.push(scenes::judged(format, command, &answer, shown, images));
         }
         let made = &mut self.tally.made;
         let buffers = (&self.lent[..lent], &self.reply[..]);
         self.store
-            .judged(made, command, buffers, &answer, &self.image)?;
-        if self.now.is_multiple_of(64) {
-            let sound = self.library.sound(&self.image);
-            self.tally.made.same(Check::Sound, sound, true)?;
-        }
+            .judged_as(made, format, command, buffers, &answer, &self.image)?;
+        self.beside()?;
+        self.still_sound()?;
         Ok(answer)
+    }
+
+    /// Once in a while: the image is sound.
+    fn still_sound(&mut self) -> Checked {
+        if !self.now.is_multiple_of(64) {
+            return Ok(());
+        }
+        let sound = match self.store.format {
+            Format::V1 => self.library.sound(&self.image),
+            Format::V2 => self.library.sound_v2(&self.image),
+        };
+        self.tally.made.same(Check::Sound, sound, true)
     }
 
     /// A desk learns a pair of a card.

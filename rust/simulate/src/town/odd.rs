@@ -2,7 +2,7 @@
 //! desk should make. Each gets its number and changes nothing. And a card that
 //! is written until it has no edition left.
 
-use second::{CommandFields, Pair};
+use second::{CommandFields, Format, Pair};
 
 use super::Town;
 use crate::checks::desk::{proposed, shown, Proposal};
@@ -23,12 +23,16 @@ const OVER: Lease = Lease {
 impl<L: Library> Town<'_, L> {
     pub(super) fn odd(&mut self) -> Checked {
         self.tally.step(Step::Odd);
-        match self.random.below(6) {
+        match self.random.below(8) {
+            _ if self.one_in(100) => self.long_history(),
+            0 if self.store.format == Format::V2 => self.damaged_image2(),
             0 => self.damaged_image(),
             1 => self.damaged_queue(),
             2 => self.damaged_log(),
             3 => self.odd_proposal(),
             4 => self.odd_shown(),
+            5 => self.odd_conversion(),
+            6 => self.odd_image2(),
             _ => self.odd_image(),
         }
     }
