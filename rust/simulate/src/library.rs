@@ -139,6 +139,14 @@ pub trait Library {
         (judged, end)
     }
 
+    /// Where the whole commands of a stream end.
+    fn end(&mut self, format: Format, stream: &[u8]) -> u64 {
+        match format {
+            Format::V1 => raw::end(stream),
+            Format::V2 => raw::end_v2(stream),
+        }
+    }
+
     /// One request to the history engine, for so many cards and such room.
     fn history(
         &mut self,

@@ -60,6 +60,8 @@ crate::named! {
         NewCommand "a command of version 2 comes to a store of version 1",
         Misread "a command is taken for one of the other version",
         SessionAcross "a session goes on over a conversion",
+        TooLarge "a conversion is refused for its size, and version 1 goes on",
+        Largest "a store of 65,536 bytes",
         OldImage "a recovery for version 1 comes to a store of version 2",
         CutStream "a stream is cut inside a command",
         NoLine "a run has no room for the next line",

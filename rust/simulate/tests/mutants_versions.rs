@@ -2,11 +2,13 @@
 //! texts, as in `mutants.rs`: each stops the simulation at the check that is
 //! named here. `docs/RELIABILITY.md` has these rows too.
 
+use second::random::Random;
 use second::{Format, Pair};
 use simulate::checks::Check;
 use simulate::library::{Answer, Held, Lease, Library, Proved, Queue, QueueAnswer};
 use simulate::run::{run, Plan};
 use simulate::tally::Tally;
+use simulate::town::{Shape, Town};
 
 /// A wrong answer, by what is wrong.
 #[derive(Clone, Copy, Debug, PartialEq, Eq)]
@@ -32,16 +34,19 @@ enum Mutant {
     ReplyCleared,
     ImageKept,
     OldVersionRun,
+    WalkBeyond,
     HistoryCounts,
     HistoryText,
-    History201,
+    History199,
     HistoryPayload,
     FullReplies,
     RefusalKept,
     UsedShort,
+    BeyondIsNothing,
+    OverFull,
     NumbersOnly,
     HalfRefused,
-    PlaceOfSection,
+    PlaceFromOne,
     SecondFirst,
     OneWay,
 }
@@ -132,6 +137,11 @@ const ALL: &[(Mutant, &str, Check)] = &[
         Check::RunLines,
     ),
     (
+        WalkBeyond,
+        "a stream ends behind a command that is cut",
+        Check::Walk,
+    ),
+    (
         CutIsEnd,
         "a run stops behind a command that is cut",
         Check::RunEnd,
@@ -158,7 +168,7 @@ const ALL: &[(Mutant, &str, Check)] = &[
         Check::History,
     ),
     (
-        History201,
+        History199,
         "the history engine is full with 199 commands",
         Check::HistoryFull,
     ),
@@ -183,12 +193,22 @@ const ALL: &[(Mutant, &str, Check)] = &[
         Check::HistoryBytes,
     ),
     (
+        BeyondIsNothing,
+        "a number beyond the engine's bytes means that nothing is kept",
+        Check::AnyHistory,
+    ),
+    (
+        OverFull,
+        "a history of more than 200 commands takes one more",
+        Check::AnyHistory,
+    ),
+    (
         NumbersOnly,
         "drops are compared without their unit",
         Check::Agree,
     ),
     (HalfRefused, "half a degree is too far", Check::Agree),
-    (PlaceOfSection, "the place is counted from 1", Check::Agree),
+    (PlaceFromOne, "the place is counted from 1", Check::Agree),
     (
         SecondFirst,
         "the second text is looked at before the first",
@@ -204,7 +224,8 @@ const ALL: &[(Mutant, &str, Check)] = &[
 /// The proved library with one wrong answer.
 struct Wrong {
     mutant: Mutant,
-    /// Whether the store was converted, and language 0 was not written since.
+    /// Whether the store was converted and accepted nothing since, and whether
+    /// language 0 was not written since.
     converted: bool,
     untouched: bool,
     /// How often two texts were compared.
@@ -272,6 +293,7 @@ impl Wrong {
             _ => {}
         }
         self.untouched &= command[0] != 4 || language != 0;
+        self.converted = false;
     }
 }
 
@@ -381,6 +403,9 @@ impl Library for Wrong {
             reply.fill(0);
         }
         let (judged, end) = Proved.run(format, image, stream, reply, lines);
+        if lines.chunks_exact(8).any(|line| line[0] == 0) {
+            (self.converted, self.untouched) = (false, false);
+        }
         let room = lines.len() as u64 / 8;
         let rest = 8 * judged as usize;
         let other = u64::from(image[4]) != if format == Format::V1 { 1 } else { 2 };
@@ -396,6 +421,13 @@ impl Library for Wrong {
         (judged, end)
     }
 
+    fn end(&mut self, format: Format, stream: &[u8]) -> u64 {
+        match self.mutant {
+            WalkBeyond => stream.len() as u64,
+            _ => Proved.end(format, stream),
+        }
+    }
+
     fn history(
         &mut self,
         kept: &mut [u8; 43_168],
@@ -404,19 +436,23 @@ impl Library for Wrong {
         command: &[u8],
         reply: &mut [u8],
     ) -> Answer {
+        if self.is(BeyondIsNothing) && *used > kept.len() as u64 {
+            *used = 0;
+        }
         let (before, start) = (kept.to_vec(), *used as usize);
         self.kept = if start == 0 { 0 } else { self.kept };
         let mut told = Proved.history(kept, used, shape, command, reply);
         let end = *used as usize;
         self.kept += usize::from(told.number == 0);
         let undone = match self.mutant {
-            History201 => told.number == 0 && self.kept == 200,
+            History199 => told.number == 0 && self.kept == 200,
             HistoryPayload => told.number == 0 && end - 52 * self.kept == 32_768,
             _ => false,
         };
         match (self.mutant, told.number) {
             (HistoryCounts, 0) if command[0] == 4 => told.fields[4] += 1,
             (HistoryText, 0) if command[0] <= 2 && told.fields[6] > 0 => reply[0] ^= 1,
+            (OverFull, 22) if commands(&before, start) > 200 => told.number = 0,
             (FullReplies, 22) => told.fields[0] += 1 << 32,
             (RefusalKept, 3) => kept[start..start + command.len()].copy_from_slice(command),
             (UsedShort, 0) if command.len() > 52 => *used = start as u64 + 52,
@@ -443,12 +479,19 @@ impl Library for Wrong {
         match (self.mutant, told.0) {
             (NumbersOnly, _) => Proved.agree(&colder(first), &colder(second)),
             (HalfRefused, 0) if apart(first, second) => (20, 2),
-            (PlaceOfSection, 20) => (20, told.1 + 1),
+            (PlaceFromOne, 20) => (20, told.1 + 1),
             (SecondFirst, 18) if Proved.agree(second, second).0 == 18 => (19, 0),
             (OneWay, 20) if self.compared.is_multiple_of(2) => (0, 0),
             _ => told,
         }
     }
+}
+
+/// How many whole commands the used bytes have.
+fn commands(bytes: &[u8], used: usize) -> usize {
+    let used = &bytes[..used.min(bytes.len())];
+    let next = |at: &usize| simulate::checks::runs::whole(Format::V1, used, *at);
+    std::iter::successors(Some(0), next).count() - 1
 }
 
 /// Whether the first drops of two texts, in Fahrenheit, are half a degree apart.
@@ -485,6 +528,25 @@ fn each_wrong_answer_stops_the_simulation() {
         }
     }
     assert!(told.is_empty(), "stopped by another check: {told:#?}");
+}
+
+/// Towns whose desks translate one edition and name another.
+#[test]
+fn a_careless_translation_is_seen() {
+    let mut library = Proved;
+    for seed in 0..2_000 {
+        let shape = Shape {
+            careless: true,
+            ..Shape::any(&mut Random::new(seed))
+        };
+        let mut tally = Tally::default();
+        let mut town = Town::new(&mut library, &mut tally, seed, shape, None).unwrap();
+        if let Err(breach) = town.run() {
+            assert_eq!(breach.check, Check::SameDrops, "{}", breach.told);
+            return;
+        }
+    }
+    panic!("nothing was seen in 2,000 towns");
 }
 
 #[test]

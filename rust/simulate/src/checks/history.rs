@@ -2,6 +2,11 @@
 //! 22: what it must answer is what the store must, and what it must keep is the
 //! accepted commands, end to end.
 
+use second::{CommandFields, Format};
+
+use super::formed::formed;
+use super::runs::whole;
+use super::store::Card;
 use super::{Check, Checked, Made};
 use crate::library::Answer;
 
@@ -96,4 +101,88 @@ impl Kept {
         })?;
         Ok(!full)
     }
+}
+
+/// The commands that any bytes mean, so many of them used (rule 14.4).
+fn meant(bytes: &[u8], used: u64) -> Vec<&[u8]> {
+    let used = bytes.len().min(usize::try_from(used).unwrap_or(usize::MAX));
+    let (mut commands, mut at) = (Vec::new(), 0);
+    while let Some(end) = whole(Format::V1, &bytes[..used], at) {
+        commands.push(&bytes[at..end]);
+        at = end;
+    }
+    commands
+}
+
+/// A card as it is worked out from kept commands (rules 14.5 and 14.6).
+fn worked_out(commands: &[&[u8]], number: u16) -> Card {
+    let mut card = Card::default();
+    for command in commands {
+        let Some(fields) = CommandFields::from_bytes(Format::V1, command) else {
+            continue;
+        };
+        if fields.card != number {
+            continue;
+        }
+        let pair = fields.update_pair();
+        card.largest.s = card.largest.s.max(pair.s);
+        card.largest.x = card.largest.x.max(pair.x);
+        card.mark = fields.next;
+        match fields.act {
+            3 => (card.edition, card.texts[0]) = (card.edition + 1, command[52..].to_vec()),
+            4 => (card.from[0], card.texts[1]) = (fields.edition, command[52..].to_vec()),
+            _ => {}
+        }
+    }
+    card.current[0] = card.from[0] == card.edition && card.edition != 0;
+    card
+}
+
+/// What the engine holds and says: the answer, the reply buffer, the bytes, and
+/// how many of them are used.
+#[derive(Clone, Debug, PartialEq, Eq)]
+pub struct State {
+    /// The answer.
+    pub answer: Answer,
+    /// The reply buffer.
+    pub reply: Vec<u8>,
+    /// The bytes.
+    pub bytes: Vec<u8>,
+    /// How many of them are used.
+    pub used: u64,
+}
+
+/// A request on any bytes, for so many cards and such room: what is there then
+/// (rules 14.7 to 14.9).
+pub fn after(before: &State, (cards, room): (u16, u16), command: &[u8]) -> State {
+    let mut after = before.clone();
+    let (number, fields) = (1, [0; 7]);
+    after.answer = Answer { number, fields };
+    let Some(sent) = formed(command) else {
+        return after;
+    };
+    if sent.card >= cards {
+        after.answer.number = 2;
+        return after;
+    }
+    let mut commands = meant(&before.bytes, before.used);
+    let card = worked_out(&commands, sent.card);
+    let end: usize = commands.iter().map(|kept| kept.len()).sum();
+    let payloads = end - 52 * commands.len() + sent.payload.len();
+    let full = commands.len() >= COMMANDS || payloads > PAYLOADS;
+    after.answer.number = match card.number(&sent, room.into(), before.reply.len()) {
+        0 if full => 22,
+        number => number,
+    };
+    after.answer.fields = card.fields(0, 0);
+    if after.answer.number != 0 {
+        return after;
+    }
+    commands.push(command);
+    let text = sent.reads().map_or(&[][..], |text| &card.texts[text]);
+    after.answer.fields = worked_out(&commands, sent.card).fields(0, text.len());
+    after.reply[..text.len()].copy_from_slice(text);
+    after.bytes[end..end + command.len()].copy_from_slice(command);
+    after.used = (end + command.len()) as u64;
+    after
 }

@@ -16,6 +16,15 @@ pub fn whole(format: Format, stream: &[u8], at: usize) -> Option<usize> {
     (rest.len() >= end).then_some(at + end)
 }
 
+/// Where the whole commands of a stream end (rule 8.2).
+pub fn end(format: Format, stream: &[u8]) -> u64 {
+    let mut at = 0;
+    while let Some(end) = whole(format, stream, at) {
+        at = end;
+    }
+    at as u64
+}
+
 /// The numbers of a line (rule 8.7).
 pub const LINE: usize = 8;
 

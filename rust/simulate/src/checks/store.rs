@@ -58,7 +58,7 @@ impl Card {
     }
 
     /// The number of a command for this card (rule 4.1).
-    fn number(&self, sent: &Sent, room: usize, lent: usize) -> u8 {
+    pub(super) fn number(&self, sent: &Sent, room: usize, lent: usize) -> u8 {
         let read = sent.reads().map_or(0, |text| self.texts[text].len());
         let rows = [
             (3, self.late(sent)),
@@ -98,7 +98,7 @@ impl Card {
     }
 
     /// The reply fields, as the entry is seen in a language (rules 4.8, 15.8).
-    fn fields(&self, language: usize, length: usize) -> [u64; 7] {
+    pub(super) fn fields(&self, language: usize, length: usize) -> [u64; 7] {
         [
             self.largest.s,
             self.largest.x,

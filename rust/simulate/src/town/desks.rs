@@ -39,8 +39,23 @@ pub struct AtCard {
     pub holds: bool,
     /// What it holds of the card's texts.
     pub held: Held,
+    /// The edition of the original that it holds.
+    pub read: u16,
     /// How many entries the queue had accepted when it was last denied.
     pub denied: Option<u64>,
+}
+
+impl AtCard {
+    /// The edition that a translation names: that of the original which the desk
+    /// has read, where it read one. One that is careless names the edition that
+    /// it heard of last.
+    fn named(&self, careless: bool) -> u16 {
+        match self.read {
+            0 => self.held.edition,
+            _ if careless => self.held.edition,
+            read => read,
+        }
+    }
 }
 
 /// A desk.
@@ -282,7 +297,7 @@ impl<L: Library> Town<'_, L> {
         self.in_version(at, &mut fields, write.is_some());
         let payload = match write {
             Some(write) => write.text.clone(),
-            None => self.text_of(at, card, fields.act),
+            None => self.text_of(at, card, &fields),
         };
         let lent = if self.one_in(8) { 2 } else { self.shape.room };
         let mut bytes = fields.with_payload(&payload);
@@ -315,7 +330,11 @@ impl<L: Library> Town<'_, L> {
             card: card as u16,
             expected: have.mark,
             next: write.map_or(have.mark, next),
-            edition: if act == 4 { have.held.edition } else { 0 },
+            edition: if act == 4 {
+                have.named(self.shape.careless)
+            } else {
+                0
+            },
             ..CommandFields::default()
         }
     }
@@ -362,14 +381,17 @@ impl<L: Library> Town<'_, L> {
         }
     }
 
-    /// A text: a drop in degrees, or a structured text; now and then none or
-    /// one that is too long.
+    /// A text: a drop in degrees, or a structured text; now and then none, one
+    /// that just fits, or one that is too long.
     pub(super) fn some_text(&mut self) -> Vec<u8> {
         if self.one_in(40) {
             return vec![b'!'; self.shape.room + 1];
         }
         if self.one_in(40) {
             return Vec::new();
+        }
+        if self.one_in(40) {
+            return vec![b'='; self.shape.room];
         }
         if self.one_in(2) {
             return self.structured();
@@ -450,6 +472,9 @@ impl<L: Library> Town<'_, L> {
             let held = usize::from(act) - 1;
             have.held.lengths[held] = length;
             have.held.buffers[held][..text.len()].copy_from_slice(text);
+            if act == 1 {
+                have.read = edition as u16;
+            }
         }
         if answer.number == 0 {
             self.wrote(at, line);

@@ -1,13 +1,14 @@
 //! The history engine beside the store: it gets what the store gets, up to its
 //! first 22, or to a conversion.
 
-use second::{CommandFields, Pair};
+use second::random::Random;
+use second::{CommandFields, Mark, Pair};
 
 use super::Town;
-use crate::checks::history::{Kept, LENT};
+use crate::checks::history::{after, Kept, State, LENT};
 use crate::checks::store::Store;
-use crate::checks::Checked;
-use crate::library::Library;
+use crate::checks::{Check, Checked};
+use crate::library::{Answer, Library};
 use crate::tally::{Fault, Operation};
 
 /// The engine's bytes, and what the rules have it keep.
@@ -28,6 +29,40 @@ impl Beside {
             kept,
         }
     }
+}
+
+/// A command that may stand among kept ones, and that may be sent.
+fn any_command(random: &mut Random) -> Vec<u8> {
+    let stamp = |random: &mut Random| {
+        let desk = 1 + random.below(2);
+        random.pick(&[0, desk << 16, 1 << 32 | desk << 16, 2 << 32 | desk << 16])
+    };
+    let mark = |random: &mut Random| match random.one_in(6) {
+        true => Mark::new(1, 1 + random.below(2) as u32),
+        false => Mark::default(),
+    };
+    let act = random.pick(&[1, 2, 2, 3, 3, 4, 4, 5, 6]);
+    let writes = act == 3 || act == 4;
+    let length = if writes { random.index(20) } else { 0 };
+    let fields = CommandFields {
+        act,
+        mode: if writes { 2 } else { random.pick(&[1, 2]) },
+        card: random.below(3) as u16,
+        pair: Pair::new(stamp(random), stamp(random)),
+        update: match random.one_in(3) {
+            true => Pair::new(stamp(random), stamp(random)),
+            false => Pair::default(),
+        },
+        expected: mark(random),
+        next: mark(random),
+        edition: if act == 4 {
+            random.between(1, 4) as u16
+        } else {
+            0
+        },
+        ..CommandFields::default()
+    };
+    fields.with_payload(&random.bytes(length))
 }
 
 /// A shape of one card with long texts.
@@ -68,6 +103,53 @@ impl<L: Library> Town<'_, L> {
                 }
             }
         }
+    }
+
+    /// A history engine over bytes that nobody kept: any commands, and then
+    /// anything; and a number that says any of them are used.
+    pub(super) fn any_history(&mut self) -> Checked {
+        let mut bytes = Box::new([0x77; LENT]);
+        let count = self.random.pick(&[0, 3, 8, 30, 199, 200, 201]);
+        let mut end = 0;
+        for _ in 0..count {
+            let command = any_command(&mut self.random);
+            bytes[end..end + command.len()].copy_from_slice(&command);
+            end += command.len();
+        }
+        let mut used = match self.random.below(4) {
+            0 => self.random.below(end as u64 + 80),
+            1 => self.random.pick(&[LENT as u64, LENT as u64 + 1, u64::MAX]),
+            _ => end as u64,
+        };
+        for _ in 0..4 {
+            let command = any_command(&mut self.random);
+            let lent = vec![0x5a; self.random.index(20)];
+            let (number, fields) = (0, [0; 7]);
+            let before = State {
+                answer: Answer { number, fields },
+                reply: lent.clone(),
+                bytes: bytes.to_vec(),
+                used,
+            };
+            let rules = after(&before, (2, 16), &command);
+            let mut reply = lent;
+            let answer = self
+                .library
+                .history(&mut bytes, &mut used, (2, 16), &command, &mut reply);
+            self.tally.number(Operation::History, answer.number);
+            let bytes = bytes.to_vec();
+            let told = State {
+                answer,
+                reply,
+                bytes,
+                used,
+            };
+            self.tally.made.hold(Check::AnyHistory, told == rules, || {
+                let (told, rules) = ((told.answer, told.used), (rules.answer, rules.used));
+                format!("the library: {told:?}; the rules: {rules:?}")
+            })?;
+        }
+        Ok(())
     }
 
     /// The history engine gets what the store got since it was last asked.

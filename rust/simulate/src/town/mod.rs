@@ -12,6 +12,8 @@ mod runs;
 mod texts;
 mod versions;
 
+use std::collections::HashSet;
+
 use lupaniele::{DeskId, Image};
 use second::random::Random;
 use second::{Format, Pair};
@@ -19,7 +21,7 @@ use story::{Scene, Standing};
 
 use crate::checks::desk::{learnt, proposed, Proposal, Stamps};
 use crate::checks::store::{Store, AHEAD};
-use crate::checks::{Check, Checked};
+use crate::checks::{versions::MOST, Check, Checked};
 use crate::library::{Library, Queue};
 use crate::rule::Rule;
 use crate::scenes;
@@ -58,24 +60,20 @@ pub struct Shape {
     pub polite: bool,
     /// Whether card 0 is first written until it has no edition left.
     pub worn: bool,
+    /// Whether a desk that translates names the edition that it heard of last,
+    /// and not the one that it read.
+    pub careless: bool,
     /// How many desks of the crate `lupaniele` there are beside.
     pub guests: usize,
 }
 
 impl Shape {
-    /// Any shape; now and then one whose image of version 2 has 65,536 bytes.
+    /// Any shape.
     pub fn any(random: &mut Random) -> Shape {
         let steps = random.pick(&[300, 1_000, 3_000, 10_000]);
-        let (cards, room) = match steps == 1_000 && random.one_in(8) {
-            true => [(15, 864), (65, 192)][random.index(2)],
-            false => (
-                random.pick(&[1, 2, 2, 3, 4]),
-                random.pick(&[16, 16, 32, 48]),
-            ),
-        };
         Shape {
-            cards,
-            room,
+            cards: random.pick(&[1, 2, 2, 3, 4]),
+            room: random.pick(&[16, 16, 32, 48]),
             versions: Versions::any(random, steps),
             desks: random.pick(&[2, 3, 4, 5, 8, 12]),
             places: random.pick(&[1, 2, 3, 4, 8, 32]),
@@ -84,7 +82,25 @@ impl Shape {
             storm: random.pick(&[1, 3, 10, 60]),
             polite: !random.one_in(3),
             worn: false,
+            careless: false,
             guests: 0,
+        }
+    }
+
+    /// A large shape: an image of version 2 that has 65,536 bytes, from the
+    /// opening on or by a conversion, or one that would have more.
+    pub fn large(random: &mut Random) -> Shape {
+        let (cards, room) = [(15, 864), (65, 192), (13, 1_024)][random.index(3)];
+        let versions = match random.one_in(2) && room < 1_000 {
+            true => Versions::Two,
+            false => Versions::Converts(random.between(100, 400)),
+        };
+        Shape {
+            cards,
+            room,
+            versions,
+            steps: 1_000,
+            ..Shape::any(random)
         }
     }
 
@@ -101,6 +117,7 @@ impl Shape {
             storm: 10,
             polite: false,
             worn: true,
+            careless: false,
             guests: 0,
         }
     }
@@ -118,6 +135,7 @@ impl Shape {
             storm: 3,
             polite: true,
             worn: false,
+            careless: false,
             guests: 0,
         }
     }
@@ -138,6 +156,7 @@ pub struct Town<'a, L: Library> {
     guests: Vec<Guest>,
     post: Vec<Message>,
     history: Option<Beside>,
+    careful: HashSet<(u16, u16, Vec<u8>)>,
     clock: f64,
     now: u64,
     reply: Vec<u8>,
@@ -177,6 +196,7 @@ impl<'a, L: Library> Town<'a, L> {
         tally
             .made
             .same(Check::Made, (number, &image), (0, &store.image))?;
+        tally.fault_if(image.len() == MOST, Fault::Largest);
         let history = (format == Format::V1).then(Beside::nothing);
         store.unheard = history.as_ref().map(|_| Vec::new());
         let mut town = Town {
@@ -195,6 +215,7 @@ impl<'a, L: Library> Town<'a, L> {
             guests: Vec::new(),
             post: Vec::new(),
             history,
+            careful: HashSet::new(),
             clock: 0.0,
             now: 0,
             reply: Vec::new(),
@@ -350,6 +371,7 @@ impl<'a, L: Library> Town<'a, L> {
         self.store
             .judged_as(made, format, command, buffers, &answer, &self.image)?;
         self.beside()?;
+        self.current_drops(format, command, &answer)?;
         self.still_sound()?;
         Ok(answer)
     }

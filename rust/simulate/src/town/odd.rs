@@ -25,6 +25,7 @@ impl<L: Library> Town<'_, L> {
         self.tally.step(Step::Odd);
         match self.random.below(8) {
             _ if self.one_in(100) => self.long_history(),
+            _ if self.one_in(16) => self.any_history(),
             0 if self.store.format == Format::V2 => self.damaged_image2(),
             0 => self.damaged_image(),
             1 => self.damaged_queue(),

@@ -7,8 +7,8 @@ use story::Scene;
 use super::post::{act_in, Body, Message};
 use super::Town;
 use crate::checks::formed::formed_as;
-use crate::checks::runs::{answer_in, checked, whole, Run, LINE};
-use crate::checks::Checked;
+use crate::checks::runs::{answer_in, checked, end, whole, Run, LINE};
+use crate::checks::{Check, Checked};
 use crate::library::{Answer, Library};
 use crate::tally::{Fault, Operation, Step};
 
@@ -103,6 +103,9 @@ impl<L: Library> Town<'_, L> {
             false => self.random.index(LINE * (commands + 1)),
         };
         let stream = &running.stream[at..at + bytes];
+        let walked = self.library.end(format, stream);
+        let made = &mut self.tally.made;
+        made.same(Check::Walk, walked, end(format, stream))?;
         let (before, lent) = (vec![UNTOUCHED; room], running.reply.clone());
         let mut lines = before.clone();
         let (image, reply) = (&mut self.image, &mut running.reply);

@@ -2,11 +2,13 @@
 //! them into the other unit, and compare what they hold.
 
 use second::random::Random;
+use second::{CommandFields, Format};
 
 use super::Town;
-use crate::checks::texts::{checked, drops};
-use crate::checks::Checked;
-use crate::library::Library;
+use crate::checks::formed::formed_as;
+use crate::checks::texts::{checked, compared, drops};
+use crate::checks::{Check, Checked};
+use crate::library::{Answer, Library};
 use crate::tally::{Fault, Operation, Step};
 
 /// Drops that are exactly half a degree apart, by rule 12.7's table.
@@ -78,8 +80,7 @@ fn other_unit(unit: u8, tenths: u16) -> (u8, u16) {
     u16::try_from(there).map_or((unit, tenths), |there| (other, there))
 }
 
-/// A text with each drop in the other unit; now and then one is kept as it is,
-/// or comes out half a degree off, or about that.
+/// A text with each drop in the other unit; now and then one is kept as it is.
 fn translated(random: &mut Random, text: &[u8]) -> Vec<u8> {
     let mut other = text.to_vec();
     for at in drops(text) {
@@ -88,14 +89,22 @@ fn translated(random: &mut Random, text: &[u8]) -> Vec<u8> {
             true => (text[at + 1], tenths),
             false => other_unit(text[at + 1], tenths),
         };
-        let off = match random.one_in(8) {
-            true => random.pick(&[5, 4, 6, 3, -5, -4, -6, -3]),
-            false => 0,
-        };
-        let tenths = tenths.saturating_add_signed(off);
         other[at..at + 4].copy_from_slice(&drop_step(unit, tenths));
     }
     other
+}
+
+/// A translation in which some drops are half a degree off, or about that.
+fn roughly(random: &mut Random, mut text: Vec<u8>) -> Vec<u8> {
+    for at in drops(&text) {
+        if random.one_in(6) {
+            let off = random.pick(&[5, 4, 6, 3, -5, -4, -6, -3]);
+            let tenths = u16::from_le_bytes([text[at + 2], text[at + 3]]);
+            let step = drop_step(text[at + 1], tenths.saturating_add_signed(off));
+            text[at..at + 4].copy_from_slice(&step);
+        }
+    }
+    text
 }
 
 /// A text with one drop changed.
@@ -138,15 +147,55 @@ impl<L: Library> Town<'_, L> {
     /// The text of a command: of an original a new one, or the one that the desk
     /// holds with a drop changed; of a translation mostly the original that the
     /// desk holds, in the other unit.
-    pub(super) fn text_of(&mut self, at: usize, card: usize, act: u8) -> Vec<u8> {
+    pub(super) fn text_of(&mut self, at: usize, card: usize, fields: &CommandFields) -> Vec<u8> {
         let held = self.held(at, card)[0].to_vec();
         let known = !drops(&held).is_empty() && !self.one_in(4);
-        match act {
+        match fields.act {
             3 if known && self.one_in(2) => changed(&mut self.random, &held),
-            4 if known => translated(&mut self.random, &held),
+            4 if known => {
+                let text = translated(&mut self.random, &held);
+                if self.one_in(4) {
+                    return roughly(&mut self.random, text);
+                }
+                if usize::from(fields.card) == card && self.desks[at].at[card].read > 0 {
+                    self.careful
+                        .insert((fields.card, fields.edition, text.clone()));
+                }
+                text
+            }
             3 | 4 => self.some_text(),
             _ => Vec::new(),
         }
+    }
+
+    /// If a translation is written or read that a desk made with care, from the
+    /// edition that it named, it says the drops of the original that stands.
+    pub(super) fn current_drops(
+        &mut self,
+        format: Format,
+        command: &[u8],
+        answer: &Answer,
+    ) -> Checked {
+        let accepted = (answer.number == 0).then_some(command);
+        let Some(sent) = accepted.and_then(|command| formed_as(format, command)) else {
+            return Ok(());
+        };
+        let text = match sent.act {
+            2 => self.reply[..answer.fields[6] as usize].to_vec(),
+            4 => sent.payload.to_vec(),
+            _ => return Ok(()),
+        };
+        let translation = (sent.card, answer.fields[5] as u16, text);
+        if !self.careful.contains(&translation) {
+            return Ok(());
+        }
+        let (card, _, text) = translation;
+        let original = &self.store.cards[usize::from(card)].texts[0];
+        let told = self.library.agree(original, &text);
+        self.tally.number(Operation::Agree, told.0);
+        let made = &mut self.tally.made;
+        made.same(Check::SameDrops, told, (0, 0))?;
+        made.same(Check::SameDrops, compared(original, &text), (0, 0))
     }
 
     /// The original and the translation that a desk holds.
@@ -165,6 +214,7 @@ impl<L: Library> Town<'_, L> {
         }
         if second.is_empty() || self.one_in(2) {
             second = translated(&mut self.random, &first);
+            second = roughly(&mut self.random, second);
         }
         if self.one_in(4) {
             let which = [&mut first, &mut second]

@@ -7,7 +7,7 @@ use story::Scene;
 
 use super::Town;
 use crate::checks::store::OTHER_VERSION;
-use crate::checks::versions::{conversion_number, exists, fresh, size};
+use crate::checks::versions::{conversion_number, exists, fresh, size, MOST};
 use crate::checks::{Check, Checked};
 use crate::library::Library;
 use crate::scenes;
@@ -49,26 +49,36 @@ impl Versions {
 }
 
 impl<L: Library> Town<'_, L> {
-    /// The store is converted, whoever is at work on it (rule 15.9).
+    /// The store is converted, whoever is at work on it, or is too large for
+    /// that (rules 15.9 and 15.10).
     pub(super) fn convert(&mut self) -> Checked {
         self.tally.step(Step::Convert);
         self.beside()?;
-        let mut target = vec![0xee; size(Format::V2, self.shape.cards, self.shape.room)];
+        let (cards, room) = (self.shape.cards, self.shape.room);
+        let lent = vec![0xee; size(Format::V2, cards, room)];
+        let mut target = lent.clone();
         let number = self.library.convert(&self.image, &mut target);
         self.tally.number(Operation::Convert, number);
-        self.store.convert();
+        let rules = conversion_number(cards, room, lent.len());
+        if rules == 0 {
+            self.store.convert();
+        }
+        let expected = [&lent, &self.store.image][usize::from(rules == 0)];
         let made = &mut self.tally.made;
-        made.same(Check::Converted, number, 0)?;
-        let at = target
-            .iter()
-            .zip(&self.store.image)
-            .position(|(a, b)| a != b);
+        made.same(Check::Converted, number, rules)?;
+        let at = target.iter().zip(expected).position(|(a, b)| a != b);
         made.hold(Check::Converted, at.is_none(), || {
-            format!("the image differs at byte {at:?}")
+            format!("what was lent differs at byte {at:?}")
         })?;
+        if rules != 0 {
+            self.tally.fault(Fault::TooLarge);
+            return Ok(());
+        }
         let sound = self.library.sound_v2(&target);
         self.tally.made.same(Check::Sound, sound, true)?;
         (self.image, self.history) = (target, None);
+        self.tally
+            .fault_if(self.image.len() == MOST, Fault::Largest);
         let (after, number) = (self.standings(), scenes::number(number));
         self.tell(|| Scene::Converted { number, after });
         Ok(())
