@@ -9,7 +9,7 @@ use second::{Format, Pair};
 const UNWRITTEN: u64 = 0x5a5a_5a5a_5a5a_5a5a;
 
 /// The store's answer: the number and the seven reply fields.
-#[derive(Clone, Copy, Debug, PartialEq, Eq)]
+#[derive(Clone, Copy, Debug, Default, PartialEq, Eq)]
 pub struct Answer {
     /// The number.
     pub number: u8,

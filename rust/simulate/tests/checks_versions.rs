@@ -199,10 +199,7 @@ fn in_run(store: &mut Store, sent: &CommandFields, payload: &[u8], fields: [u64;
 fn section_14s_example() {
     let write = command(Format::V1, 3).with_payload(b"205");
     let nothing = State {
-        answer: Answer {
-            number: 0,
-            fields: [0; 7],
-        },
+        answer: Answer::default(),
         reply: vec![9; 4],
         bytes: vec![0x77; LENT],
         used: 0,

@@ -203,8 +203,7 @@ impl Store {
         image: &[u8],
     ) -> Checked {
         if format != self.format {
-            let same = reply == lent && image == self.image;
-            return other_version(made, answer, same);
+            return other_version(made, answer, reply == lent && image == self.image);
         }
         let sent = formed_as(format, bytes);
         let proper = self.proper(sent);
@@ -220,21 +219,12 @@ impl Store {
             })?;
         }
         let number = self.number(sent.as_ref(), lent.len());
-        made.same(
-            self.by(Check::Number, Check::Number2),
-            answer.number,
-            number,
-        )?;
+        let check = self.by(Check::Number, Check::Number2);
+        made.same(check, answer.number, number)?;
         let fields = self.take(bytes, proper.as_ref(), number, (lent, reply));
-        made.same(
-            self.by(Check::Fields, Check::Fields2),
-            answer.fields,
-            fields,
-        )?;
-        let rest = fields[6] as usize;
-        made.hold(Check::Reply, reply[rest..] == lent[rest..], || {
-            format!("behind {rest} bytes of text the reply buffer is changed")
-        })?;
+        let check = self.by(Check::Fields, Check::Fields2);
+        made.same(check, answer.fields, fields)?;
+        behind_text(made, fields[6] as usize, lent, reply)?;
         self.same_image(made, image)
     }
 
@@ -431,6 +421,13 @@ impl Store {
             card.before = Some((card.largest, true));
         }
     }
+}
+
+/// Behind so many bytes of text the reply buffer is as it was (rule 4.7).
+fn behind_text(made: &mut Made, text: usize, lent: &[u8], reply: &[u8]) -> Checked {
+    made.hold(Check::Reply, reply[text..] == lent[text..], || {
+        format!("behind {text} bytes of text the reply buffer is changed")
+    })
 }
 
 /// The answer to what is of the other version than the image (rule 15.13).

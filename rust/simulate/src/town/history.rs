@@ -121,35 +121,35 @@ impl<L: Library> Town<'_, L> {
             1 => self.random.pick(&[LENT as u64, LENT as u64 + 1, u64::MAX]),
             _ => end as u64,
         };
-        for _ in 0..4 {
-            let command = any_command(&mut self.random);
-            let lent = vec![0x5a; self.random.index(20)];
-            let (number, fields) = (0, [0; 7]);
-            let before = State {
-                answer: Answer { number, fields },
-                reply: lent.clone(),
-                bytes: bytes.to_vec(),
-                used,
-            };
-            let rules = after(&before, (2, 16), &command);
-            let mut reply = lent;
-            let answer = self
-                .library
-                .history(&mut bytes, &mut used, (2, 16), &command, &mut reply);
-            self.tally.number(Operation::History, answer.number);
-            let bytes = bytes.to_vec();
-            let told = State {
-                answer,
-                reply,
-                bytes,
-                used,
-            };
-            self.tally.made.hold(Check::AnyHistory, told == rules, || {
-                let (told, rules) = ((told.answer, told.used), (rules.answer, rules.used));
-                format!("the library: {told:?}; the rules: {rules:?}")
-            })?;
-        }
-        Ok(())
+        (0..4).try_for_each(|_| self.on_any_history(&mut bytes, &mut used))
+    }
+
+    /// One request on such bytes.
+    fn on_any_history(&mut self, bytes: &mut [u8; LENT], used: &mut u64) -> Checked {
+        let (cards, room) = (2, 16);
+        let command = any_command(&mut self.random);
+        let mut reply = vec![0x5a; self.random.index(20)];
+        let before = State {
+            answer: Answer::default(),
+            reply: reply.clone(),
+            bytes: bytes.to_vec(),
+            used: *used,
+        };
+        let rules = after(&before, (cards, room), &command);
+        let answer = self
+            .library
+            .history(bytes, used, (cards, room), &command, &mut reply);
+        self.tally.number(Operation::History, answer.number);
+        let told = State {
+            answer,
+            reply,
+            bytes: bytes.to_vec(),
+            used: *used,
+        };
+        self.tally.made.hold(Check::AnyHistory, told == rules, || {
+            let (told, rules) = ((told.answer, told.used), (rules.answer, rules.used));
+            format!("the library: {told:?}; the rules: {rules:?}")
+        })
     }
 
     /// The history engine gets what the store got since it was last asked.

@@ -104,6 +104,15 @@ impl Shape {
         }
     }
 
+    /// The same, in version 1 where there are guests.
+    fn for_guests(self) -> Shape {
+        let versions = match self.guests {
+            0 => self.versions,
+            _ => Versions::One,
+        };
+        Shape { versions, ..self }
+    }
+
     /// A shape whose card 0 is worn out.
     pub fn worn() -> Shape {
         Shape {
@@ -177,28 +186,9 @@ impl<'a, L: Library> Town<'a, L> {
         rule: Option<Rule>,
     ) -> Checked<Town<'a, L>> {
         let random = Random::new(seed);
-        let shape = match shape.guests {
-            0 => shape,
-            _ => Shape {
-                versions: Versions::One,
-                ..shape
-            },
-        };
-        let format = shape.versions.opening();
-        let mut store = Store::fresh(format, shape.cards, shape.room, rule.is_none());
-        let mut image = vec![0xee; store.image.len()];
-        let (cards, room) = (shape.cards as u64, shape.room as u64);
-        let (operation, number) = match format {
-            Format::V1 => (Operation::Make, library.make(&mut image, cards, room)),
-            Format::V2 => (Operation::Make2, library.make_v2(&mut image, cards, room)),
-        };
-        tally.number(operation, number);
-        tally
-            .made
-            .same(Check::Made, (number, &image), (0, &store.image))?;
-        tally.fault_if(image.len() == MOST, Fault::Largest);
-        let history = (format == Format::V1).then(Beside::nothing);
-        store.unheard = history.as_ref().map(|_| Vec::new());
+        let shape = shape.for_guests();
+        let (store, image) = opened(library, tally, shape, rule.is_none())?;
+        let history = store.unheard.as_ref().map(|_| Beside::nothing());
         let mut town = Town {
             library,
             tally,
@@ -512,6 +502,30 @@ impl<'a, L: Library> Town<'a, L> {
         let who = self.desks[at].who;
         self.tell(|| Scene::Said(format!("the clock of desk {who} jumps by {ahead}")));
     }
+}
+
+/// A fresh store and its image; one of version 1 is to be heard by the history
+/// engine.
+fn opened<L: Library>(
+    library: &mut L,
+    tally: &mut Tally,
+    shape: Shape,
+    by_rules: bool,
+) -> Checked<(Store, Vec<u8>)> {
+    let format = shape.versions.opening();
+    let mut store = Store::fresh(format, shape.cards, shape.room, by_rules);
+    let mut image = vec![0xee; store.image.len()];
+    let (cards, room) = (shape.cards as u64, shape.room as u64);
+    let (operation, number) = match format {
+        Format::V1 => (Operation::Make, library.make(&mut image, cards, room)),
+        Format::V2 => (Operation::Make2, library.make_v2(&mut image, cards, room)),
+    };
+    tally.number(operation, number);
+    let made = &mut tally.made;
+    made.same(Check::Made, (number, &image), (0, &store.image))?;
+    tally.fault_if(image.len() == MOST, Fault::Largest);
+    store.unheard = (format == Format::V1).then(Vec::new);
+    Ok((store, image))
 }
 
 /// An empty queue of so many places, over places that hold anything (rule 7.3).

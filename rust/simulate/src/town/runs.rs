@@ -45,8 +45,21 @@ impl<L: Library> Town<'_, L> {
         if self.one_in(2) {
             stream.extend(tail);
         }
-        let most = self.lent.len();
-        let any = self.random.index(most + 1);
+        let other = format != self.store.format;
+        self.tally.fault_if(other, Fault::OtherRun);
+        let (commands, bytes) = (taken.len(), stream.len());
+        self.tell(|| {
+            let words = format!("{commands} commands arrive as one stream, {bytes} bytes");
+            Scene::Said(words)
+        });
+        let running = self.run_all(format, stream, commands)?;
+        self.answer_run(&taken, &running);
+        self.beside()
+    }
+
+    /// Runs a stream, piece by piece, with one reply buffer of any length.
+    fn run_all(&mut self, format: Format, stream: Vec<u8>, commands: usize) -> Checked<Running> {
+        let any = self.random.index(self.lent.len() + 1);
         let lent = self.random.pick(&[0, 2, self.shape.room, any]);
         let mut running = Running {
             format,
@@ -55,21 +68,12 @@ impl<L: Library> Town<'_, L> {
             reply: self.lent[..lent].to_vec(),
             answers: Vec::new(),
         };
-        let other = format != self.store.format;
-        self.tally.fault_if(other, Fault::OtherRun);
-        let (commands, bytes) = (taken.len(), running.stream.len());
-        self.tell(|| {
-            Scene::Said(format!(
-                "{commands} commands arrive as one stream, {bytes} bytes"
-            ))
-        });
         let mut pieces = 0;
         while !self.piece(&mut running, pieces, commands)? {
             pieces += 1;
             self.tally.fault(Fault::RunOn);
         }
-        self.answer_run(&taken, &running);
-        self.beside()
+        Ok(running)
     }
 
     /// Whole commands of a version that are on their way, some of the oldest.
