@@ -120,17 +120,22 @@ fn taken(store: &mut Store, commands: &[(CommandFields, &[u8], u8)]) {
     }
 }
 
-#[test]
-fn section_15s_example() {
+/// The mark of section 15's example.
+const MARK: Mark = Mark {
+    desk: 1,
+    transaction: 7,
+};
+
+/// The store of section 15's example, converted.
+fn converted() -> Store {
     let mut store = Store::new(1, 16, true);
-    let mark = Mark::new(1, 7);
     let first = command(Format::V1, 3);
     let translated = CommandFields {
         edition: 1,
         ..command(Format::V1, 4)
     };
     let last = CommandFields {
-        next: mark,
+        next: MARK,
         ..command(Format::V1, 3)
     };
     taken(
@@ -142,6 +147,11 @@ fn section_15s_example() {
         ],
     );
     store.convert();
+    store
+}
+
+#[test]
+fn section_15s_image() {
     let mut expected = vec![0x52, 0x43, 0x31, 0, 2, 0, 1, 0, 16, 0, 0, 0, 0, 0, 0, 0];
     expected.extend([STAMP.to_le_bytes(), STAMP.to_le_bytes()].concat());
     expected.extend([1, 0, 0, 0, 7, 0, 0, 0, 2, 0, 3, 0, 1, 0, 0, 0, 0, 0, 0, 0]);
@@ -150,19 +160,24 @@ fn section_15s_example() {
         expected.extend(text);
         expected.extend(vec![0; 16 - text.len()]);
     }
-    assert_eq!(store.image, expected);
+    assert_eq!(converted().image, expected);
+}
+
+#[test]
+fn section_15s_commands() {
+    let mut store = converted();
     let write = CommandFields {
         language: 1,
-        expected: mark,
-        next: mark,
+        expected: MARK,
+        next: MARK,
         edition: 2,
         ..command(Format::V2, 4)
     };
     assert_eq!(write.with_payload(b"402").len(), 71);
     let read = |language| CommandFields {
         language,
-        expected: mark,
-        next: mark,
+        expected: MARK,
+        next: MARK,
         ..command(Format::V2, 2)
     };
     let number = |store: &Store, fields: &CommandFields, payload: &[u8]| {

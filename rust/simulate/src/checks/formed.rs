@@ -96,6 +96,14 @@ pub fn head(format: Format) -> usize {
     }
 }
 
+/// The update pair that is meant: the verifier where none is sent (rule 3.4).
+pub fn meant(fields: &CommandFields) -> Pair {
+    match fields.update == Pair::default() {
+        true => fields.pair,
+        false => fields.update,
+    }
+}
+
 /// The command of version 1 in these bytes, or none if they are malformed.
 pub fn formed(bytes: &[u8]) -> Option<Sent<'_>> {
     formed_as(Format::V1, bytes)
@@ -106,8 +114,7 @@ pub fn formed_as(format: Format, bytes: &[u8]) -> Option<Sent<'_>> {
     let fields = CommandFields::from_bytes(format, bytes)?;
     let payload = &bytes[head(format)..];
     let (act, mode, verifier) = (fields.act, fields.mode, fields.pair);
-    let same = fields.update == Pair::default();
-    let update = if same { verifier } else { fields.update };
+    let update = meant(&fields);
     let write = act == 3 || act == 4;
     let mark = |mark: Mark| (mark.desk == 0) == (mark.transaction == 0);
     let right = payload.len() == usize::from(fields.length)

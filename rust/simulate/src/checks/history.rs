@@ -4,7 +4,7 @@
 
 use second::{CommandFields, Format};
 
-use super::formed::formed;
+use super::formed::{formed, meant};
 use super::runs::whole;
 use super::store::Card;
 use super::{Check, Checked, Made};
@@ -104,7 +104,7 @@ impl Kept {
 }
 
 /// The commands that any bytes mean, so many of them used (rule 14.4).
-fn meant(bytes: &[u8], used: u64) -> Vec<&[u8]> {
+fn commands_in(bytes: &[u8], used: u64) -> Vec<&[u8]> {
     let used = bytes.len().min(usize::try_from(used).unwrap_or(usize::MAX));
     let (mut commands, mut at) = (Vec::new(), 0);
     while let Some(end) = whole(Format::V1, &bytes[..used], at) {
@@ -124,7 +124,7 @@ fn worked_out(commands: &[&[u8]], number: u16) -> Card {
         if fields.card != number {
             continue;
         }
-        let pair = fields.update_pair();
+        let pair = meant(&fields);
         card.largest.s = card.largest.s.max(pair.s);
         card.largest.x = card.largest.x.max(pair.x);
         card.mark = fields.next;
@@ -165,7 +165,7 @@ pub fn after(before: &State, (cards, room): (u16, u16), command: &[u8]) -> State
         after.answer.number = 2;
         return after;
     }
-    let mut commands = meant(&before.bytes, before.used);
+    let mut commands = commands_in(&before.bytes, before.used);
     let card = worked_out(&commands, sent.card);
     let end: usize = commands.iter().map(|kept| kept.len()).sum();
     let payloads = end - 52 * commands.len() + sent.payload.len();

@@ -351,7 +351,7 @@ impl Store {
     /// empty reply buffer (rules 11.17, 11.18 and 11.20). Its answer.
     pub fn recovering(&mut self, made: &mut Made, command: &[u8]) -> Checked<Answer> {
         if self.format == Format::V2 {
-            return Ok(OTHER_VERSION);
+            return Ok(NOT_SOUND);
         }
         let sent = formed_as(Format::V1, command);
         let proper = self.proper(sent);
@@ -374,7 +374,7 @@ impl Store {
         reply: &mut [u8],
     ) -> Checked {
         if format != self.format {
-            return made.same(Check::RunLines, *line, OTHER_VERSION);
+            return made.same(Check::RunLines, *line, NOT_SOUND);
         }
         let sent = formed_as(format, bytes);
         let proper = self.proper(sent);
@@ -430,8 +430,9 @@ fn behind_text(made: &mut Made, text: usize, lent: &[u8], reply: &[u8]) -> Check
     })
 }
 
-/// The answer to what is of the other version than the image (rule 15.13).
-pub const OTHER_VERSION: Answer = Answer {
+/// The answer where the image is not a sound one of the version by which it is
+/// asked (rules 4.1, 4.8 and 15.13).
+pub const NOT_SOUND: Answer = Answer {
     number: 9,
     fields: [0; 7],
 };
@@ -439,11 +440,9 @@ pub const OTHER_VERSION: Answer = Answer {
 /// A request of the other version was answered; whether image and reply buffer
 /// are the same after it.
 fn other_version(made: &mut Made, answer: &Answer, same: bool) -> Checked {
-    made.hold(
-        Check::OtherVersion,
-        same && *answer == OTHER_VERSION,
-        || format!("{answer:?}; the bytes are the same: {same}"),
-    )
+    made.hold(Check::OtherVersion, same && *answer == NOT_SOUND, || {
+        format!("{answer:?}; the bytes are the same: {same}")
+    })
 }
 
 /// A command that reads, and the text that it reads.

@@ -8,8 +8,9 @@ use super::Town;
 use crate::checks::desk::{proposed, shown, Proposal};
 use crate::checks::log::{checked, read, COMMIT};
 use crate::checks::queue::{turned, Turn};
+use crate::checks::store::NOT_SOUND;
 use crate::checks::{Check, Checked};
-use crate::library::{Answer, Held, Lease, Library};
+use crate::library::{Held, Lease, Library};
 use crate::tally::{Fault, Operation, Step};
 
 /// A lease that is over.
@@ -60,12 +61,12 @@ impl<L: Library> Town<'_, L> {
         self.tally.fault(Fault::DamagedImage);
         let made = &mut self.tally.made;
         made.same(Check::Sound, self.library.sound(&image), false)?;
-        let (number, fields) = (9, [0; 7]);
-        made.same(Check::Number, answer, Answer { number, fields })?;
+        made.same(Check::Number, answer, NOT_SOUND)?;
         let same = image == damaged && reply == [0xa5; 16];
         made.hold(Check::RefusedStore, same, || {
             "9, and bytes are changed".into()
         })?;
+        self.damaged_run(Format::V1, &command.to_bytes(), &damaged)?;
         let desk = self.random.index(self.desks.len());
         let desk = &self.desks[desk];
         let line = read(&desk.log).and_then(|read| {

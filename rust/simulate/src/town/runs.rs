@@ -76,6 +76,29 @@ impl<L: Library> Town<'_, L> {
         Ok(running)
     }
 
+    /// A run on a damaged image: each command gets 9, and nothing changes.
+    pub(super) fn damaged_run(&mut self, format: Format, command: &[u8], image: &[u8]) -> Checked {
+        let (stream, mut after) = ([command; 3].concat(), image.to_vec());
+        let room = self.random.index(4 * LINE);
+        let (mut lines, mut reply) = (vec![UNTOUCHED; room], [0xa5; 16]);
+        let told = self
+            .library
+            .run(format, &mut after, &stream, &mut reply, &mut lines);
+        let count = (room / LINE).min(3);
+        let made = &mut self.tally.made;
+        let stopped = (count * command.len()) as u64;
+        made.same(Check::RunEnd, told, (count as u64, stopped))?;
+        let mut rules = vec![UNTOUCHED; room];
+        for line in rules.chunks_exact_mut(LINE).take(count) {
+            line.copy_from_slice(&[9, 0, 0, 0, 0, 0, 0, 0]);
+        }
+        made.same(Check::RunLines, lines, rules)?;
+        let same = after == image && reply == [0xa5; 16];
+        made.hold(Check::RunBuffers, same, || {
+            "9, and bytes are changed".into()
+        })
+    }
+
     /// Whole commands of a version that are on their way, some of the oldest.
     fn gather(&mut self, format: Format) -> Vec<Message> {
         let most = self.random.between(1, 6) as usize;

@@ -6,7 +6,7 @@ use second::{CommandFields, Format};
 use story::Scene;
 
 use super::Town;
-use crate::checks::store::OTHER_VERSION;
+use crate::checks::store::NOT_SOUND;
 use crate::checks::versions::{conversion_number, exists, fresh, size, MOST};
 use crate::checks::{Check, Checked};
 use crate::library::Library;
@@ -237,10 +237,11 @@ impl<L: Library> Town<'_, L> {
         self.tally.fault(Fault::DamagedImage);
         let made = &mut self.tally.made;
         made.same(Check::Sound, self.library.sound_v2(&image), false)?;
-        made.same(Check::Number2, answer, OTHER_VERSION)?;
+        made.same(Check::Number2, answer, NOT_SOUND)?;
         let same = image == damaged && reply == [0xa5; 16];
         made.hold(Check::RefusedStore, same, || {
             "9, and bytes are changed".into()
-        })
+        })?;
+        self.damaged_run(Format::V2, &bytes, &damaged)
     }
 }
