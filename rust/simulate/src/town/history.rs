@@ -108,7 +108,7 @@ impl<L: Library> Town<'_, L> {
     /// A history engine over bytes that nobody kept: any commands, and then
     /// anything; and a number that says any of them are used.
     pub(super) fn any_history(&mut self) -> Checked {
-        let mut bytes = Box::new([0x77; LENT]);
+        let mut bytes = Box::new([0x33; LENT]);
         let count = self.random.pick(&[0, 3, 8, 30, 199, 200, 201]);
         let mut end = 0;
         for _ in 0..count {
