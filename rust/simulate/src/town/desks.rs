@@ -371,10 +371,10 @@ impl<L: Library> Town<'_, L> {
         if format == Format::V2 && self.one_in(2) {
             return self.malform_language(bytes);
         }
-        let (head, update) = (format.command_bytes(), format.update_at());
+        let (s, x) = (format.update_at(), format.update_at() + 8);
         match self.random.below(5) {
-            4 if bytes[4..12] != [0; 8] => bytes[update..update + 8].fill(0),
-            0 => bytes.truncate(self.random.index(head)),
+            4 if bytes[4..12] != [0; 8] && bytes[x..x + 8] != [0; 8] => bytes[s..x].fill(0),
+            0 => bytes.truncate(self.random.index(52)),
             1 => bytes[0] = self.random.pick(&[0, 6, 255]),
             2 => bytes[1] = self.random.pick(&[0, 3]),
             _ => bytes[36..42].copy_from_slice(&[1, 0, 0, 0, 0, 0]),

@@ -12,18 +12,18 @@ use crate::library::{Answer, Library};
 use crate::tally::{Fault, Operation};
 
 /// The engine's bytes, and what the rules have it keep.
-pub struct Beside {
+pub struct Engine {
     bytes: Box<[u8; LENT]>,
     used: u64,
     kept: Kept,
 }
 
-impl Beside {
+impl Engine {
     /// An engine that has kept nothing, in bytes that hold anything.
-    pub(super) fn nothing() -> Beside {
+    pub(super) fn nothing() -> Engine {
         let bytes = Box::new([0x77; LENT]);
         let kept = Kept::nothing(&bytes);
-        Beside {
+        Engine {
             bytes,
             used: 0,
             kept,
@@ -73,11 +73,11 @@ impl<L: Library> Town<'_, L> {
     /// up to where their payloads are too many bytes.
     pub(super) fn long_history(&mut self) -> Checked {
         let mut store = Store::new(LONG.0.into(), LONG.1.into(), true);
-        let Beside {
+        let Engine {
             mut bytes,
             mut used,
             mut kept,
-        } = Beside::nothing();
+        } = Engine::nothing();
         let text = self.random.bytes(LONG.1.into());
         let full = self.one_in(2);
         loop {
@@ -153,13 +153,13 @@ impl<L: Library> Town<'_, L> {
     }
 
     /// The history engine gets what the store got since it was last asked.
-    pub(super) fn beside(&mut self) -> Checked {
+    pub(super) fn hear(&mut self) -> Checked {
         let Some(requests) = self.store.unheard.as_mut().map(std::mem::take) else {
             return Ok(());
         };
         let shape = (self.shape.cards as u16, self.shape.room as u16);
         for asked in requests {
-            let Some(Beside { bytes, used, kept }) = &mut self.history else {
+            let Some(Engine { bytes, used, kept }) = &mut self.history else {
                 break;
             };
             let mut reply = asked.lent.clone();

@@ -30,7 +30,7 @@ use crate::tally::{Fault, Operation, Step, Tally};
 use desks::Desk;
 use guests::Guest;
 pub use guests::Outcome;
-use history::Beside;
+use history::Engine;
 use manager::Keeper;
 use post::Message;
 pub use versions::Versions;
@@ -164,7 +164,7 @@ pub struct Town<'a, L: Library> {
     desks: Vec<Desk>,
     guests: Vec<Guest>,
     post: Vec<Message>,
-    history: Option<Beside>,
+    history: Option<Engine>,
     careful: HashSet<(u16, u16, Vec<u8>)>,
     clock: f64,
     now: u64,
@@ -188,7 +188,7 @@ impl<'a, L: Library> Town<'a, L> {
         let random = Random::new(seed);
         let shape = shape.for_guests();
         let (store, image) = opened(library, tally, shape, rule.is_none())?;
-        let history = store.unheard.as_ref().map(|_| Beside::nothing());
+        let history = store.unheard.as_ref().map(|_| Engine::nothing());
         let mut town = Town {
             library,
             tally,
@@ -360,7 +360,7 @@ impl<'a, L: Library> Town<'a, L> {
         let buffers = (&self.lent[..lent], &self.reply[..]);
         self.store
             .judged_as(made, format, command, buffers, &answer, &self.image)?;
-        self.beside()?;
+        self.hear()?;
         self.current_drops(format, command, &answer)?;
         self.still_sound()?;
         Ok(answer)

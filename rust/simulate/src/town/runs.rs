@@ -54,7 +54,7 @@ impl<L: Library> Town<'_, L> {
         });
         let running = self.run_all(format, stream, commands)?;
         self.answer_run(&taken, &running);
-        self.beside()
+        self.hear()
     }
 
     /// Runs a stream, piece by piece, with one reply buffer of any length.

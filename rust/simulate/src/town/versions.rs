@@ -53,7 +53,7 @@ impl<L: Library> Town<'_, L> {
     /// that (rules 15.9 and 15.10).
     pub(super) fn convert(&mut self) -> Checked {
         self.tally.step(Step::Convert);
-        self.beside()?;
+        self.hear()?;
         let (cards, room) = (self.shape.cards, self.shape.room);
         let lent = vec![0xee; size(Format::V2, cards, room)];
         let mut target = lent.clone();
