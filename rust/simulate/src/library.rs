@@ -97,8 +97,6 @@ pub trait Library {
     fn check_log(&mut self, log: &[u8]) -> u8;
     /// Appends a record, as far as so many stores go.
     fn append(&mut self, log: &mut [u8], kind: u8, body: &[u8], stores: u64) -> u8;
-    /// Recovery: the number and the line.
-    fn recover(&mut self, log: &[u8], image: &mut [u8], s: &[u64], x: &[u64]) -> (u8, u64);
 
     /// Makes a fresh image of version 2.
     fn make_v2(&mut self, image: &mut [u8], cards: u64, room: u64) -> u8 {
@@ -167,6 +165,9 @@ pub trait Library {
         let number = raw::agree(first, second, &mut place);
         (number, place)
     }
+
+    /// Recovery: the number and the line.
+    fn recover(&mut self, log: &[u8], image: &mut [u8], s: &[u64], x: &[u64]) -> (u8, u64);
 }
 
 /// The proved library.

@@ -87,10 +87,6 @@ crate::named! {
         Lapse "queue, lease",
         Propose "proposal",
         Shown "shown text",
-        Append "log, append",
-        LogCheck "log, check",
-        Recover "recovery",
-        Make "new image",
         Store2 "store, version 2",
         Make2 "new image, version 2",
         Convert "conversion",
@@ -98,6 +94,10 @@ crate::named! {
         Run2 "run, version 2",
         History "history engine",
         Agree "two texts",
+        Append "log, append",
+        LogCheck "log, check",
+        Recover "recovery",
+        Make "new image",
     }
 }
 
@@ -111,15 +111,16 @@ impl Operation {
             Operation::Lapse => &[0, 10, 15, 21, 25],
             Operation::Propose => &[0, 1, 16],
             Operation::Shown => &[0, 1, 6, 8],
-            Operation::Append => &[0, 23, 24, 26],
-            Operation::LogCheck => &[0, 23],
-            Operation::Recover => &[0, 1, 2, 3, 5, 7, 9, 17, 23],
-            Operation::Make | Operation::Make2 => &[0, 14],
             Operation::Store2 => &[0, 1, 2, 3, 4, 5, 6, 7, 8, 9, 17],
+            Operation::Make2 => &[0, 14],
             Operation::Convert => &[0, 9, 14],
             Operation::Run | Operation::Run2 => &[0, 1, 2, 3, 4, 5, 6, 8, 9, 17],
             Operation::History => &[0, 1, 2, 3, 4, 5, 6, 8, 17, 22],
             Operation::Agree => &[0, 18, 19, 20],
+            Operation::Append => &[0, 23, 24, 26],
+            Operation::LogCheck => &[0, 23],
+            Operation::Recover => &[0, 1, 2, 3, 5, 7, 9, 17, 23],
+            Operation::Make => &[0, 14],
         }
     }
 }

@@ -32,6 +32,8 @@ pub struct AtCard {
     pub open: [Option<Pair>; 2],
     /// The mark that it heard of last.
     pub mark: Mark,
+    /// The edition of the original that it holds.
+    pub read: u16,
     /// Whether it stands in the queue, and whether it holds the lock, as far as
     /// it knows.
     pub stands: bool,
@@ -39,8 +41,6 @@ pub struct AtCard {
     pub holds: bool,
     /// What it holds of the card's texts.
     pub held: Held,
-    /// The edition of the original that it holds.
-    pub read: u16,
     /// How many entries the queue had accepted when it was last denied.
     pub denied: Option<u64>,
 }
