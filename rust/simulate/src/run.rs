@@ -31,10 +31,12 @@ pub fn town_seed(seed: u64, town: u64) -> u64 {
     Random::new(seed ^ town.wrapping_mul(0x9e37_79b9_7f4a_7c15)).number()
 }
 
-/// The shape of a town of a run: the first has a card that is worn out.
+/// The shape of a town of a run: the first has a card that is worn out, and one
+/// in ten is large.
 fn shape(seed: u64, town: u64) -> Shape {
     match town {
         0 => Shape::worn(),
+        _ if town % 10 == 5 => Shape::large(&mut Random::new(seed)),
         _ => Shape::any(&mut Random::new(seed)),
     }
 }

@@ -2,7 +2,7 @@
 //! and come back.
 
 use lupaniele::DeskId;
-use second::{CommandFields, Mark, Pair};
+use second::{CommandFields, Format, Mark, Pair};
 use story::Scene;
 
 use super::post::Body;
@@ -32,6 +32,8 @@ pub struct AtCard {
     pub open: [Option<Pair>; 2],
     /// The mark that it heard of last.
     pub mark: Mark,
+    /// The edition of the original that it holds.
+    pub read: u16,
     /// Whether it stands in the queue, and whether it holds the lock, as far as
     /// it knows.
     pub stands: bool,
@@ -41,6 +43,19 @@ pub struct AtCard {
     pub held: Held,
     /// How many entries the queue had accepted when it was last denied.
     pub denied: Option<u64>,
+}
+
+impl AtCard {
+    /// The edition that a translation names: that of the original which the desk
+    /// has read, where it read one. One that is careless names the edition that
+    /// it heard of last.
+    fn named(&self, careless: bool) -> u16 {
+        match self.read {
+            0 => self.held.edition,
+            _ if careless => self.held.edition,
+            read => read,
+        }
+    }
 }
 
 /// A desk.
@@ -66,6 +81,10 @@ pub struct Desk {
     pub written: Vec<(u16, u32)>,
     /// Whether it was cut off in an append or a recovery.
     pub cut: bool,
+    /// The version that it takes the store to be of.
+    pub version: Format,
+    /// The language that it works in, where there are several.
+    pub language: u8,
 }
 
 impl Desk {
@@ -89,6 +108,8 @@ impl Desk {
             due: Vec::new(),
             written: Vec::new(),
             cut: false,
+            version: shape.versions.opening(),
+            language: (who.desk % 4) as u8,
         }
     }
 
@@ -126,6 +147,10 @@ impl<L: Library> Town<'_, L> {
                 self.far_clock(at);
                 Ok(())
             }
+            State::Up if self.shape.versions.converts() && self.one_in(100) => {
+                self.hears_of_conversion(at);
+                Ok(())
+            }
             State::Up => self.work(at, card),
         }
     }
@@ -139,6 +164,7 @@ impl<L: Library> Town<'_, L> {
             4..=12 => self.command(at, card),
             13 => self.leave(at, card),
             14..=18 => self.log_work(at, card),
+            _ if self.one_in(2) => self.compare(at, card),
             _ => self.show(at, card),
         }
     }
@@ -177,6 +203,7 @@ impl<L: Library> Town<'_, L> {
             log: std::mem::take(&mut self.desks[at].log),
             transaction: self.desks[at].transaction,
             cut: self.desks[at].cut,
+            version: self.store.format,
             ..Desk::new(who, self.shape)
         };
         self.desks[at] = desk;
@@ -267,17 +294,17 @@ impl<L: Library> Town<'_, L> {
             fields.update = Pair::default();
         }
         self.wrong_command(&mut fields, update);
+        self.in_version(at, &mut fields, write.is_some());
         let payload = match write {
             Some(write) => write.text.clone(),
-            None if fields.act == 3 || fields.act == 4 => self.some_text(),
-            None => Vec::new(),
+            None => self.text_of(at, card, &fields),
         };
         let lent = if self.one_in(8) { 2 } else { self.shape.room };
         let mut bytes = fields.with_payload(&payload);
-        self.malform(&mut bytes);
+        self.malform(fields.format, &mut bytes);
         let line = write.map(|write| write.line);
         let card = usize::from(fields.card).min(self.shape.cards - 1);
-        self.send(at, card, Body::Command(bytes, lent, line));
+        self.send(at, card, Body::command(fields.format, bytes, lent, line));
         Ok(())
     }
 
@@ -303,7 +330,11 @@ impl<L: Library> Town<'_, L> {
             card: card as u16,
             expected: have.mark,
             next: write.map_or(have.mark, next),
-            edition: if act == 4 { have.held.edition } else { 0 },
+            edition: if act == 4 {
+                have.named(self.shape.careless)
+            } else {
+                0
+            },
             ..CommandFields::default()
         }
     }
@@ -333,12 +364,16 @@ impl<L: Library> Town<'_, L> {
 
     /// Now and then a command is no command: bytes that are too few, an act, a
     /// mode or a mark that is none, an update pair below the verifier.
-    fn malform(&mut self, bytes: &mut Vec<u8>) {
+    fn malform(&mut self, format: Format, bytes: &mut Vec<u8>) {
         if !self.one_in(40) {
             return;
         }
+        if format == Format::V2 && self.one_in(2) {
+            return self.malform_language(bytes);
+        }
+        let (s, x) = (format.update_at(), format.update_at() + 8);
         match self.random.below(5) {
-            4 if bytes[4..12] != [0; 8] => bytes[20..28].fill(0),
+            4 if bytes[4..12] != [0; 8] && bytes[x..x + 8] != [0; 8] => bytes[s..x].fill(0),
             0 => bytes.truncate(self.random.index(52)),
             1 => bytes[0] = self.random.pick(&[0, 6, 255]),
             2 => bytes[1] = self.random.pick(&[0, 3]),
@@ -346,13 +381,20 @@ impl<L: Library> Town<'_, L> {
         }
     }
 
-    /// A text: a drop in degrees, now and then none or one that is too long.
+    /// A text: a drop in degrees, or a structured text; now and then none, one
+    /// that just fits, or one that is too long.
     pub(super) fn some_text(&mut self) -> Vec<u8> {
         if self.one_in(40) {
             return vec![b'!'; self.shape.room + 1];
         }
         if self.one_in(40) {
             return Vec::new();
+        }
+        if self.one_in(40) {
+            return vec![b'='; self.shape.room];
+        }
+        if self.one_in(2) {
+            return self.structured();
         }
         let degrees = 180 + self.random.below(60);
         format!("{degrees} C").into_bytes()
@@ -392,7 +434,9 @@ impl<L: Library> Town<'_, L> {
                 // Someone sets the clock right, and starts the desk again.
                 return self.crash(at);
             }
-            Body::Told(act, line, answer, text) => self.note(at, card, (act, line), answer, &text),
+            Body::Told(asked, line, answer, text) => {
+                self.note(at, card, (asked, line), answer, &text);
+            }
             _ => {}
         }
         Ok(())
@@ -403,24 +447,34 @@ impl<L: Library> Town<'_, L> {
         &mut self,
         at: usize,
         card: usize,
-        (act, line): (u8, Option<u64>),
+        ((act, language), line): ((u8, u8), Option<u64>),
         answer: Answer,
         text: &[u8],
     ) {
-        if matches!(answer.number, 1 | 2) {
+        if answer.number == 9 {
+            self.looks_at_version(at);
+        }
+        if matches!(answer.number, 1 | 2 | 9) {
             return;
         }
         let [_, _, mark, transaction, edition, from, length] = answer.fields;
+        let own = self.desks[at].version == Format::V1 || self.desks[at].language == language;
         let have = &mut self.desks[at].at[card];
         have.mark = Mark::new(mark as u16, transaction as u32);
-        (have.held.edition, have.held.from) = (edition as u16, from as u16);
+        have.held.edition = edition as u16;
+        if own {
+            have.held.from = from as u16;
+        }
         if answer.number == 3 {
             (have.open, have.holds) = ([None; 2], false);
         }
-        if answer.number == 0 && (act == 1 || act == 2) {
-            let language = usize::from(act) - 1;
-            have.held.lengths[language] = length;
-            have.held.buffers[language][..text.len()].copy_from_slice(text);
+        if answer.number == 0 && (act == 1 || act == 2 && own) {
+            let held = usize::from(act) - 1;
+            have.held.lengths[held] = length;
+            have.held.buffers[held][..text.len()].copy_from_slice(text);
+            if act == 1 {
+                have.read = edition as u16;
+            }
         }
         if answer.number == 0 {
             self.wrote(at, line);

@@ -325,6 +325,10 @@ impl<L: Library> Town<'_, L> {
         let desk = &mut self.desks[at];
         match number {
             1 | 2 | 5 | 7 => desk.written.push((card, transaction)),
+            9 => {
+                self.tally.fault(Fault::OldImage);
+                self.looks_at_version(at);
+            }
             17 => return self.crash(at),
             _ => self.catch_up(at, card.into())?,
         }

@@ -1,11 +1,11 @@
 //! The post: messages that come late, twice, out of order or not at all.
 
 use lupaniele::DeskId;
-use second::Pair;
+use second::{Format, Pair};
 use story::Scene;
 
 use super::Town;
-use crate::checks::formed::formed;
+use crate::checks::formed::formed_as;
 use crate::checks::Checked;
 use crate::library::{Answer, Library};
 use crate::tally::{Fault, Step};
@@ -36,11 +36,42 @@ pub enum Body {
     /// To the store: a command, the length of the reply buffer, and the line
     /// of the log that it writes out.
     Command(Vec<u8>, usize, Option<u64>),
+    /// The same, of version 2.
+    Command2(Vec<u8>, usize, Option<u64>),
     /// To a desk, from a queue: mode, number, whether it holds the lock, the
     /// largest pair, and how many entries that queue has accepted.
     Stands(u8, u8, bool, Pair, u64),
-    /// To a desk, from the store: the act, the line, the answer, the text.
-    Told(u8, Option<u64>, Answer, Vec<u8>),
+    /// To a desk, from the store: the act and the language, the line, the
+    /// answer, the text.
+    Told((u8, u8), Option<u64>, Answer, Vec<u8>),
+}
+
+impl Body {
+    /// A command of a version, the length of the reply buffer, and the line.
+    pub fn command(format: Format, bytes: Vec<u8>, lent: usize, line: Option<u64>) -> Body {
+        match format {
+            Format::V1 => Body::Command(bytes, lent, line),
+            Format::V2 => Body::Command2(bytes, lent, line),
+        }
+    }
+
+    /// The version and the bytes of a command, and the line.
+    pub fn as_command(&self) -> Option<(Format, &[u8], Option<u64>)> {
+        match self {
+            Body::Command(bytes, _, line) => Some((Format::V1, bytes, *line)),
+            Body::Command2(bytes, _, line) => Some((Format::V2, bytes, *line)),
+            _ => None,
+        }
+    }
+}
+
+/// The act and the language that the bytes of a command have.
+pub fn act_in(format: Format, bytes: &[u8]) -> (u8, u8) {
+    let at = |at: usize| bytes.get(at).copied().unwrap_or(0);
+    match format {
+        Format::V1 => (at(0), 0),
+        Format::V2 => (at(0), at(20)),
+    }
 }
 
 impl<L: Library> Town<'_, L> {
@@ -113,15 +144,31 @@ impl<L: Library> Town<'_, L> {
             Body::Ask(mode, pair, denied) => self.asks(desk, who, card, (mode, pair), denied),
             Body::Leave => self.leaves(desk, who, card),
             Body::Command(bytes, lent, line) => {
-                let answer = self.receive(desk, who, card, &bytes, lent)?;
-                let length = (answer.fields[6] as usize).min(lent);
-                let text = self.reply[..length].to_vec();
-                let act = bytes.first().copied().unwrap_or(0);
-                self.answer_to(desk, who, card, Body::Told(act, line, answer, text));
-                Ok(())
+                self.comes((desk, who, card), Format::V1, &bytes, (lent, line))
+            }
+            Body::Command2(bytes, lent, line) => {
+                self.comes((desk, who, card), Format::V2, &bytes, (lent, line))
             }
             told => self.hears(desk, who, card, told),
         }
+    }
+
+    /// A command comes to the store, and its answer goes back.
+    fn comes(
+        &mut self,
+        from: (usize, DeskId, usize),
+        format: Format,
+        bytes: &[u8],
+        (lent, line): (usize, Option<u64>),
+    ) -> Checked {
+        let (desk, who, card) = from;
+        let format = self.taken_as(format);
+        let answer = self.receive(from, format, bytes, lent)?;
+        let length = (answer.fields[6] as usize).min(lent);
+        let text = self.reply[..length].to_vec();
+        let told = Body::Told(act_in(format, bytes), line, answer, text);
+        self.answer_to(desk, who, card, told);
+        Ok(())
     }
 
     /// An answer goes back to who sent the message, whether that desk is still
@@ -141,13 +188,24 @@ impl<L: Library> Town<'_, L> {
     /// counted.
     fn receive(
         &mut self,
-        desk: usize,
-        who: DeskId,
-        card: usize,
+        from: (usize, DeskId, usize),
+        format: Format,
         bytes: &[u8],
         lent: usize,
     ) -> Checked<Answer> {
-        let answer = self.judge(bytes, lent)?;
+        let answer = self.judge_as(format, bytes, lent)?;
+        self.came(from, format, bytes, &answer);
+        Ok(answer)
+    }
+
+    /// Counts what is behind a command that came, and behind its answer.
+    pub(super) fn came(
+        &mut self,
+        (desk, who, card): (usize, DeskId, usize),
+        format: Format,
+        bytes: &[u8],
+        answer: &Answer,
+    ) {
         let accepted = answer.number == 0;
         self.tally
             .fault_if(self.desks[desk].who != who, Fault::Ghost);
@@ -155,7 +213,7 @@ impl<L: Library> Town<'_, L> {
         self.tally.fault_if(lapsed, Fault::LateByLease);
         self.tally
             .fault_if(lapsed && answer.number == 3, Fault::KeptOut);
-        if let Some(sent) = formed(bytes).filter(|_| accepted) {
+        if let Some(sent) = formed_as(format, bytes).filter(|_| accepted) {
             let opened = sent.verifier != sent.update;
             self.tally.fault_if(opened, Fault::Opened);
             let zero = opened && sent.verifier == Pair::default();
@@ -163,6 +221,5 @@ impl<L: Library> Town<'_, L> {
         }
         self.tally.fault_if(answer.number == 1, Fault::Malformed);
         self.tally.fault_if(answer.number == 7, Fault::Worn);
-        Ok(answer)
     }
 }
