@@ -47,6 +47,8 @@ enum Mutant {
     NumbersOnly,
     HalfRefused,
     PlaceFromOne,
+    PlaceInSecond,
+    WordsCompared,
     SecondFirst,
     OneWay,
 }
@@ -210,6 +212,12 @@ const ALL: &[(Mutant, &str, Check)] = &[
     (HalfRefused, "half a degree is too far", Check::Agree),
     (PlaceFromOne, "the place is counted from 1", Check::Agree),
     (
+        PlaceInSecond,
+        "the place is that in the second text",
+        Check::Agree,
+    ),
+    (WordsCompared, "words are compared", Check::Agree),
+    (
         SecondFirst,
         "the second text is looked at before the first",
         Check::Agree,
@@ -273,6 +281,15 @@ impl Wrong {
             _ => return told,
         }
         Proved.answer_v2(image, &right, reply)
+    }
+
+    /// Whether the engine is full with this command, one early.
+    fn early(&self, end: usize) -> bool {
+        match self.mutant {
+            History199 => self.kept == 200,
+            HistoryPayload => end - 52 * self.kept == 32_768,
+            _ => false,
+        }
     }
 
     /// What is wrong with an accepted command of version 2.
@@ -444,11 +461,7 @@ impl Library for Wrong {
         let mut told = Proved.history(kept, used, shape, command, reply);
         let end = *used as usize;
         self.kept += usize::from(told.number == 0);
-        let undone = match self.mutant {
-            History199 => told.number == 0 && self.kept == 200,
-            HistoryPayload => told.number == 0 && end - 52 * self.kept == 32_768,
-            _ => false,
-        };
+        let undone = told.number == 0 && self.early(end);
         // The bytes that nobody kept end otherwise than those beside the store.
         let beside = before.last() == Some(&0x77);
         match (self.mutant, told.number) {
@@ -483,6 +496,8 @@ impl Library for Wrong {
         match (self.mutant, told.0) {
             (NumbersOnly, _) => Proved.agree(&colder(first), &colder(second)),
             (HalfRefused, 0) if apart(first, second) => (20, 2),
+            (PlaceInSecond, 20) => Proved.agree(second, first),
+            (WordsCompared, 0) if first.len() != second.len() => (20, 2),
             (PlaceFromOne, 20) => (20, told.1 + 1),
             (SecondFirst, 18) if Proved.agree(second, second).0 == 18 => (19, 0),
             (OneWay, 20) if self.compared.is_multiple_of(2) => (0, 0),

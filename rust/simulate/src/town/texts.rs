@@ -80,18 +80,63 @@ fn other_unit(unit: u8, tenths: u16) -> (u8, u16) {
     u16::try_from(there).map_or((unit, tenths), |there| (other, there))
 }
 
-/// A text with each drop in the other unit; now and then one is kept as it is.
-fn translated(random: &mut Random, text: &[u8]) -> Vec<u8> {
-    let mut other = text.to_vec();
-    for at in drops(text) {
-        let tenths = u16::from_le_bytes([text[at + 2], text[at + 3]]);
-        let (unit, tenths) = match random.one_in(10) {
-            true => (text[at + 1], tenths),
-            false => other_unit(text[at + 1], tenths),
+/// A drop as a translation has it: in the other unit; now and then as it was.
+fn translated_drop(random: &mut Random, step: &[u8]) -> [u8; 4] {
+    let (unit, tenths) = (step[1], u16::from_le_bytes([step[2], step[3]]));
+    let (unit, tenths) = match random.one_in(10) {
+        true => (unit, tenths),
+        false => other_unit(unit, tenths),
+    };
+    drop_step(unit, tenths)
+}
+
+/// Writes the section at a place in other words, that are no longer, and in the
+/// other unit. Where it is loose, a step is left out now and then, or one is
+/// added. The place behind the section.
+fn retold(random: &mut Random, text: &[u8], at: usize, out: &mut Vec<u8>, loose: bool) -> usize {
+    let count = out.len() + 1;
+    out.extend([1, 0]);
+    let mut end = at + 2;
+    for _ in 0..text[at + 1] {
+        let (step, begin) = (&text[end..], out.len());
+        out[count] += 1;
+        end += match step[0] {
+            2 => {
+                let length = random.index(usize::from(step[1]) + 1);
+                out.extend([2, length as u8]);
+                out.extend(random.bytes(length));
+                2 + usize::from(step[1])
+            }
+            3 => {
+                out.extend(translated_drop(random, step));
+                4
+            }
+            _ => {
+                out.push(4);
+                retold(random, text, end + 1, out, loose) - end
+            }
         };
-        other[at..at + 4].copy_from_slice(&drop_step(unit, tenths));
+        if loose && random.one_in(16) {
+            out.truncate(begin);
+            out[count] -= 1;
+        }
     }
-    other
+    if loose && random.one_in(8) && out[count] < 255 {
+        out.extend([2, 0]);
+        out[count] += 1;
+    }
+    end
+}
+
+/// A structured text in other words and in the other unit; any other text as it
+/// is.
+fn translated(random: &mut Random, text: &[u8], loose: bool) -> Vec<u8> {
+    if compared(text, text) != (0, 0) {
+        return text.to_vec();
+    }
+    let mut out = Vec::new();
+    retold(random, text, 0, &mut out, loose);
+    out
 }
 
 /// A translation in which some drops are half a degree off, or about that.
@@ -153,8 +198,9 @@ impl<L: Library> Town<'_, L> {
         match fields.act {
             3 if known && self.one_in(2) => changed(&mut self.random, &held),
             4 if known => {
-                let text = translated(&mut self.random, &held);
-                if self.one_in(4) {
+                let loose = self.one_in(4);
+                let text = translated(&mut self.random, &held, loose);
+                if loose {
                     return roughly(&mut self.random, text);
                 }
                 if usize::from(fields.card) == card && self.desks[at].at[card].read > 0 {
@@ -213,7 +259,8 @@ impl<L: Library> Town<'_, L> {
             first = self.structured();
         }
         if second.is_empty() || self.one_in(2) {
-            second = translated(&mut self.random, &first);
+            let loose = self.one_in(3);
+            second = translated(&mut self.random, &first, loose);
             second = roughly(&mut self.random, second);
         }
         if self.one_in(4) {
