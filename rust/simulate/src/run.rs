@@ -24,6 +24,18 @@ pub struct Broken {
     pub premise: u64,
     /// In how many a session was broken.
     pub isolation: u64,
+    /// In how many the store was not the one in which a commit is one step.
+    pub halved: u64,
+}
+
+impl Broken {
+    /// In how many towns broke what the rule is for.
+    pub fn broken(&self, rule: Rule) -> u64 {
+        match rule.of_transactions() {
+            true => self.halved,
+            false => self.premise,
+        }
+    }
 }
 
 /// The seed of a town of a run.
@@ -166,21 +178,24 @@ fn broken_town(seed: u64, rule: Rule, number: u64) -> (u64, Shape) {
         desks: random.pick(&[2, 3, 4]),
         cards: random.pick(&[1, 2]),
         polite: false,
+        transacting: rule.of_transactions(),
         ..Shape::any(&mut random)
     };
     (seed, shape)
 }
 
 /// How many towns with a broken rule there are at least, and at most, until
-/// the premise broke in three of them.
+/// what the rule is for broke in three of them.
 const LEAST: u64 = 100;
 const MOST: u64 = 30_000;
 
 /// Runs towns in which a rule is broken. Every check but the premise and
-/// isolation outright holds there too, and isolation while the premise holds.
+/// isolation outright holds there too, and isolation while the premise holds;
+/// of a rule on transactions, every check but those of the store in which a
+/// commit is one step.
 pub fn broken<L: Library>(library: &mut L, seed: u64, rule: Rule) -> Result<Broken, Breach> {
     let mut broken = Broken::default();
-    while broken.towns < LEAST || broken.premise < 3 && broken.towns < MOST {
+    while broken.towns < LEAST || broken.broken(rule) < 3 && broken.towns < MOST {
         let (seed, shape) = broken_town(seed, rule, broken.towns);
         let mut tally = Tally::default();
         let mut town = Town::new(library, &mut tally, seed, shape, Some(rule))?;
@@ -189,6 +204,7 @@ pub fn broken<L: Library>(library: &mut L, seed: u64, rule: Rule) -> Result<Brok
         broken.towns += 1;
         broken.premise += u64::from(premise);
         broken.isolation += u64::from(isolation);
+        broken.halved += u64::from(town.halved().is_some());
     }
     Ok(broken)
 }

@@ -1,4 +1,4 @@
-//! A town: desks, cards, a lock queue for each card, one store, a log for each
+//! A town: desks, cards, lock queues for each card, one store, a log for each
 //! desk, and the post between them. A seed draws every step of it.
 
 mod desks;
@@ -7,13 +7,21 @@ mod logs;
 mod manager;
 mod odd;
 mod post;
+mod transactions;
+mod voters;
+
+use std::cell::RefCell;
+use std::collections::HashSet;
+use std::rc::Rc;
 
 use lupaniele::{DeskId, Image};
 use second::random::Random;
 use second::Pair;
 use story::{Scene, Standing};
 
+use crate::checks::atomic::Atomic;
 use crate::checks::desk::{learnt, proposed, Proposal, Stamps};
+use crate::checks::formed::formed;
 use crate::checks::store::{Store, AHEAD};
 use crate::checks::{Check, Checked};
 use crate::library::{Library, Queue};
@@ -26,6 +34,8 @@ use guests::Guest;
 pub use guests::Outcome;
 use manager::Keeper;
 use post::Message;
+use transactions::{Beside, Book};
+use voters::Cut;
 
 /// How large a town is.
 #[derive(Clone, Copy, Debug, PartialEq, Eq)]
@@ -52,6 +62,14 @@ pub struct Shape {
     pub worn: bool,
     /// How many desks of the crate `lupaniele` there are beside.
     pub guests: usize,
+    /// How many lock managers there are, each with a queue for every card.
+    pub managers: usize,
+    /// Whether a desk holds the lock where most managers granted it, or where
+    /// all did that it asked.
+    pub majority: bool,
+    /// Whether desks keep section 16, and change several cards at once by its
+    /// steps.
+    pub transacting: bool,
 }
 
 impl Shape {
@@ -68,6 +86,9 @@ impl Shape {
             polite: !random.one_in(3),
             worn: false,
             guests: 0,
+            managers: random.pick(&[1, 1, 2, 3, 4, 5]),
+            majority: random.one_in(2),
+            transacting: random.one_in(3),
         }
     }
 
@@ -84,6 +105,9 @@ impl Shape {
             polite: false,
             worn: true,
             guests: 0,
+            managers: 1,
+            majority: false,
+            transacting: false,
         }
     }
 
@@ -100,6 +124,9 @@ impl Shape {
             polite: true,
             worn: false,
             guests: 0,
+            managers: 1,
+            majority: false,
+            transacting: false,
         }
     }
 }
@@ -122,6 +149,12 @@ pub struct Town<'a, L: Library> {
     now: u64,
     reply: Vec<u8>,
     lent: Vec<u8>,
+    proposed: HashSet<(usize, u8, Pair)>,
+    cut: Option<Cut>,
+    books: Vec<Book>,
+    beside: Option<Beside>,
+    ids: u64,
+    finishing: bool,
     /// How often each thing became of what guests did.
     pub outcomes: [u64; Outcome::ALL.len()],
     /// What happened, where it is wanted.
@@ -138,7 +171,9 @@ impl<'a, L: Library> Town<'a, L> {
         rule: Option<Rule>,
     ) -> Checked<Town<'a, L>> {
         let random = Random::new(seed);
-        let store = Store::new(shape.cards, shape.room, rule.is_none());
+        let by_rules = rule.is_none_or(Rule::of_transactions);
+        let store = Store::new(shape.cards, shape.room, by_rules);
+        let beside = || Atomic::new(shape.cards, shape.room, rule.is_none());
         let mut image = vec![0xee; store.image.len()];
         let number = library.make(&mut image, shape.cards as u64, shape.room as u64);
         tally.number(Operation::Make, number);
@@ -153,7 +188,7 @@ impl<'a, L: Library> Town<'a, L> {
             rule,
             image,
             store,
-            keepers: (0..shape.cards)
+            keepers: (0..shape.cards * shape.managers)
                 .map(|_| Keeper::new(shape.places))
                 .collect(),
             stamps: vec![Stamps::default(); shape.cards + 1],
@@ -164,6 +199,12 @@ impl<'a, L: Library> Town<'a, L> {
             now: 0,
             reply: Vec::new(),
             lent: (0..64).map(|at| at ^ 0xa5).collect(),
+            proposed: HashSet::new(),
+            cut: None,
+            books: Vec::new(),
+            beside: shape.transacting.then(|| Rc::new(RefCell::new(beside()))),
+            ids: 0,
+            finishing: false,
             outcomes: [0; Outcome::ALL.len()],
             scenes: None,
         };
@@ -180,11 +221,16 @@ impl<'a, L: Library> Town<'a, L> {
             };
             self.desks.push(Desk::new(who, self.shape));
             self.knew_something(number - 1);
+            if self.shape.transacting {
+                let Shape { log, cards, .. } = self.shape;
+                let book = Book::new(number - 1, who, log.max(2_400), cards);
+                self.books.push(book);
+            }
         }
         let first = self.shape.desks + 1;
         let numbers = first..first + self.shape.guests;
         self.guests = numbers
-            .filter_map(|number| Guest::new(number as u16))
+            .filter_map(|number| Guest::new(number as u16, self.shape.cards))
             .collect();
         if self.rule == Some(Rule::UsedQueue) {
             for keeper in &mut self.keepers {
@@ -192,7 +238,9 @@ impl<'a, L: Library> Town<'a, L> {
                     let desk = 1 + random.below(self.shape.desks as u64);
                     random.below(2) << 32 | desk << 16
                 };
-                keeper.queue.kept = [0, 0, stamp(&mut self.random)];
+                let x = stamp(&mut self.random);
+                keeper.queue.kept = [0, 0, x];
+                keeper.listed.largest = Pair::new(0, x);
             }
         }
     }
@@ -204,13 +252,27 @@ impl<'a, L: Library> Town<'a, L> {
             self.now += 1;
             self.tally.steps += 1;
             self.step()?;
+            if self.halved().is_some() {
+                return Ok(());
+            }
         }
-        Ok(())
+        self.finish()
+    }
+
+    /// The first check of the store in which a commit is one step that did not
+    /// hold, where a rule is broken.
+    pub fn halved(&self) -> Option<Check> {
+        self.beside
+            .as_ref()
+            .and_then(|beside| beside.borrow().broken)
     }
 
     /// The premise and isolation are to hold, though a rule is broken.
     pub fn strict(&mut self) {
         self.store.by_rules = true;
+        if let Some(beside) = &self.beside {
+            beside.borrow_mut().strict();
+        }
     }
 
     /// How many steps were made.
@@ -275,6 +337,10 @@ impl<'a, L: Library> Town<'a, L> {
 
     /// A command reaches the store, with a reply buffer of some length.
     fn judge(&mut self, command: &[u8], lent: usize) -> Checked<crate::library::Answer> {
+        let sent = formed(command).filter(|sent| usize::from(sent.card) < self.shape.cards);
+        if let Some(sent) = &sent {
+            self.in_its_mode(sent.card.into(), sent.mode, sent.update)?;
+        }
         self.reply.clear();
         self.reply.extend_from_slice(&self.lent[..lent]);
         let before = self.scenes.is_some().then(|| self.image.clone());
@@ -290,6 +356,9 @@ impl<'a, L: Library> Town<'a, L> {
         let buffers = (&self.lent[..lent], &self.reply[..]);
         self.store
             .judged(made, command, buffers, &answer, &self.image)?;
+        if let Some(sent) = &sent {
+            self.beside_judged(sent, &answer)?;
+        }
         if self.now.is_multiple_of(64) {
             let sound = self.library.sound(&self.image);
             self.tally.made.same(Check::Sound, sound, true)?;
@@ -351,7 +420,9 @@ impl<'a, L: Library> Town<'a, L> {
         if mode == 2 && self.rule.is_none() {
             self.stamps[card].once(&mut self.tally.made, pair[1])?;
         }
-        let pair = self.proposed_wrong(at, (card, mode), before.known, Pair::new(pair[0], pair[1]));
+        let pair = Pair::new(pair[0], pair[1]);
+        self.proposed.insert((card, mode, pair));
+        let pair = self.proposed_wrong(at, (card, mode), before.known, pair);
         self.desks[at].at[card].open[usize::from(mode) - 1] = Some(pair);
         Ok(Some(pair))
     }

@@ -23,12 +23,13 @@ const OVER: Lease = Lease {
 impl<L: Library> Town<'_, L> {
     pub(super) fn odd(&mut self) -> Checked {
         self.tally.step(Step::Odd);
-        match self.random.below(6) {
+        match self.random.below(7) {
             0 => self.damaged_image(),
             1 => self.damaged_queue(),
             2 => self.damaged_log(),
             3 => self.odd_proposal(),
             4 => self.odd_shown(),
+            5 => self.odd_step(),
             _ => self.odd_image(),
         }
     }
@@ -77,8 +78,8 @@ impl<L: Library> Town<'_, L> {
 
     /// A copy of a queue that is bad: every request gets 10.
     fn damaged_queue(&mut self) -> Checked {
-        let card = self.card();
-        let mut queue = self.keepers[card].queue;
+        let at = self.random.index(self.keepers.len());
+        let mut queue = self.keepers[at].queue;
         match self.random.below(4) {
             0 => queue.places = self.random.pick(&[0, 33]),
             1 => queue.kept[0] = queue.places + 1,
