@@ -173,13 +173,16 @@ fn in_town<L: Library>(
 fn broken_town(seed: u64, rule: Rule, number: u64) -> (u64, Shape) {
     let seed = town_seed(seed ^ 0xb0b0, number << 8 | rule as u64);
     let mut random = Random::new(seed);
+    let transacting = rule.of_transactions();
+    let any = Shape::any(&mut random);
     let shape = Shape {
-        steps: 400,
+        steps: if transacting { 1_000 } else { 400 },
         desks: random.pick(&[2, 3, 4]),
         cards: random.pick(&[1, 2]),
         polite: false,
-        transacting: rule.of_transactions(),
-        ..Shape::any(&mut random)
+        transacting,
+        managers: if transacting { 1 } else { any.managers },
+        ..any
     };
     (seed, shape)
 }
@@ -188,14 +191,19 @@ fn broken_town(seed: u64, rule: Rule, number: u64) -> (u64, Shape) {
 /// what the rule is for broke in three of them.
 const LEAST: u64 = 100;
 const MOST: u64 = 30_000;
+const MOST_OF_TRANSACTIONS: u64 = 3_000;
 
 /// Runs towns in which a rule is broken. Every check but the premise and
 /// isolation outright holds there too, and isolation while the premise holds;
 /// of a rule on transactions, every check but those of the store in which a
 /// commit is one step.
 pub fn broken<L: Library>(library: &mut L, seed: u64, rule: Rule) -> Result<Broken, Breach> {
+    let most = match rule.of_transactions() {
+        true => MOST_OF_TRANSACTIONS,
+        false => MOST,
+    };
     let mut broken = Broken::default();
-    while broken.towns < LEAST || broken.broken(rule) < 3 && broken.towns < MOST {
+    while broken.towns < LEAST || broken.broken(rule) < 3 && broken.towns < most {
         let (seed, shape) = broken_town(seed, rule, broken.towns);
         let mut tally = Tally::default();
         let mut town = Town::new(library, &mut tally, seed, shape, Some(rule))?;

@@ -58,6 +58,7 @@ crate::named! {
         Abandoned "a transaction is given up",
         FullLog "a log is full",
         TakenOver "a desk takes over the log of one that is down",
+        Committed "a transaction is committed",
         CommittedSeveral "several cards are committed at once",
         RecoveredMarked "a recovery on cards that bear the mark",
         BegunAgain "a log begins again",

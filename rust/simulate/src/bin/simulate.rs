@@ -214,9 +214,9 @@ fn visited(seed: u64) -> bool {
 /// for, and nothing else did.
 fn rules(seed: u64) -> bool {
     say("one rule broken: towns, premise broken, session broken, commit in halves");
-    Rule::ALL
+    let broke: Vec<bool> = Rule::ALL
         .iter()
-        .all(|rule| match broken(&mut Proved, seed, *rule) {
+        .map(|rule| match broken(&mut Proved, seed, *rule) {
             Ok(told) => {
                 let (towns, premise, isolation) = (told.towns, told.premise, told.isolation);
                 let halved = told.halved;
@@ -235,6 +235,8 @@ fn rules(seed: u64) -> bool {
                 false
             }
         })
+        .collect();
+    broke.iter().all(|broke| *broke)
 }
 
 /// Where a run stopped, and the last steps.

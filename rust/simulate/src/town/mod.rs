@@ -292,7 +292,10 @@ impl<'a, L: Library> Town<'a, L> {
             return self.wear();
         }
         if self.post.len() > 60 {
-            return self.lose();
+            return match self.one_in(4) {
+                true => self.lose(),
+                false => self.deliver(),
+            };
         }
         if !self.guests.is_empty() && self.random.one_in(4) {
             return self.guest();

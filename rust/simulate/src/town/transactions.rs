@@ -28,7 +28,7 @@ use crate::tally::{Fault, Operation, Step};
 pub(super) type Beside = Rc<RefCell<Atomic>>;
 
 /// For how many steps a desk waits for an answer, mostly.
-const PATIENCE: u64 = 30;
+const PATIENCE: u64 = 100;
 
 /// The lines and the bytes that a log must have left for a transaction.
 const ROOMY: (usize, usize) = (30, 120);
@@ -83,6 +83,8 @@ pub struct Book {
     mind: Mind,
     /// Where that rule is broken, the one who held it before, and goes on.
     former: Option<Mind>,
+    /// Where that rule is broken, a prepare that is on its way, and its card.
+    late: Option<(usize, Vec<u8>)>,
 }
 
 impl Book {
@@ -98,6 +100,7 @@ impl Book {
                 cards: vec![Follow::default(); cards],
             },
             former: None,
+            late: None,
         }
     }
 
@@ -307,6 +310,9 @@ impl<L: Library> Town<'_, L> {
     /// The holder takes the next step for a card.
     fn take_step(&mut self, book: usize, card: usize) -> Checked {
         let (step, line, noted) = self.next_step(book, card)?;
+        if step == NOTE {
+            self.comes_late(book, card);
+        }
         let wrong = self.wrong_step(book, card, (step, line, noted));
         let (step, line, noted) = wrong.unwrap_or((step, line, noted));
         match step {
@@ -352,6 +358,7 @@ impl<L: Library> Town<'_, L> {
                 Some((NOTE, 0, due.iter().rfind(of)?.transaction.into()))
             }
             (NOTE, Rule::PreparedDue) => Some((PREPARE, 0, 0)),
+            (NOTE, Rule::OrderGuessed) if now => Some((NOTHING, 0, 0)),
             (_, Rule::CommitsUnheld) if now => Some((READY, 0, 0)),
             _ => None,
         }
@@ -361,7 +368,7 @@ impl<L: Library> Town<'_, L> {
     fn waiting(&mut self, book: usize, card: usize) -> bool {
         let last = self.books[book].mind.cards[card].last;
         let lately = last.is_some_and(|last| self.now < last.when + PATIENCE);
-        lately && !self.finishing && !self.one_in(8)
+        lately && !self.finishing && !self.one_in(20)
     }
 
     /// The update in a line of a log.
@@ -393,10 +400,18 @@ impl<L: Library> Town<'_, L> {
     fn order(&mut self, book: usize, card: usize, step: u8, write: Option<Update>) -> Checked {
         let at = self.books[book].mind.at;
         let fields = self.books[book].mind.cards[card].fields;
-        let Some(pair) = self.propose(at, card, 2)? else {
+        let Some(mut pair) = self.propose(at, card, 2)? else {
             return Ok(());
         };
-        let [verifier, update] = self.order_pairs(book, card, fields, pair);
+        let guessed = step == PREPARE && self.guesses(book);
+        if guessed {
+            self.desks[at].known[card][1] += 40 << 32;
+            pair = self.propose(at, card, 2)?.unwrap_or(pair);
+        }
+        let [verifier, update] = match guessed {
+            true => [pair, pair],
+            false => self.order_pairs(book, card, fields, pair),
+        };
         self.books[book].mind.cards[card].pair = Some(update);
         let number = match (&write, steps::open(&self.books[book].log)) {
             (Some(write), _) => write.transaction,
@@ -424,16 +439,35 @@ impl<L: Library> Town<'_, L> {
         };
         let line = write.as_ref().map_or(0, |write| write.line as u8);
         let text = write.map_or(Vec::new(), |write| write.text);
-        self.dispatch(book, card, (step, line), command.with_payload(&text))
+        let bytes = command.with_payload(&text);
+        if guessed {
+            self.books[book].late = Some((card, bytes));
+            return self.crash(at);
+        }
+        self.dispatch(book, card, (step, line), bytes)
+    }
+
+    /// Where that rule is broken, whether a prepare is sent on a guessed x. It
+    /// comes late, and its desk goes down meanwhile.
+    fn guesses(&mut self, book: usize) -> bool {
+        self.breaks(Rule::OrderGuessed) && self.books[book].late.is_none()
+    }
+
+    /// The prepare on a guessed x comes at last.
+    fn comes_late(&mut self, book: usize, card: usize) {
+        let at = self.books[book].mind.at;
+        let late = self.books[book].late.take_if(|(of, _)| *of == card);
+        if let Some((_, bytes)) = late {
+            self.send(at, card, Body::Command(bytes, 0, None));
+        }
     }
 
     /// The verifier and the update pair of an order; where 16.4 is broken, the
-    /// last order's pair again, or an x that no answer has shown.
+    /// last order's pair again.
     fn order_pairs(&mut self, book: usize, card: usize, shown: [u64; 7], pair: Pair) -> [Pair; 2] {
         let last = self.books[book].mind.cards[card].pair;
         match last {
             Some(last) if self.breaks(Rule::OrdersUnderOne) => [last, last],
-            _ if self.breaks(Rule::OrderGuessed) => [pair, pair],
             _ => [Pair::new(shown[0], shown[1]), pair],
         }
     }
@@ -447,7 +481,10 @@ impl<L: Library> Town<'_, L> {
         self.books[book].mind.cards[card].sends(sent);
         let (lent, id) = (self.shape.room, Some(sent.id));
         if !self.finishing {
-            self.send(at, card, Body::Command(bytes, lent, id));
+            let twice = self.rule == Some(Rule::OrdersUnderOne) && self.one_in(2);
+            for _ in 0..1 + u8::from(twice) {
+                self.send(at, card, Body::Command(bytes.clone(), lent, id));
+            }
             return Ok(());
         }
         let answer = self.judge(&bytes, lent)?;
@@ -527,6 +564,7 @@ impl<L: Library> Town<'_, L> {
         let stands = self.append_book(book, COMMIT, &number.to_le_bytes())?;
         if stands {
             self.books[book].mind.going = false;
+            self.tally.fault(Fault::Committed);
             self.tally.fault_if(cards.len() > 1, Fault::CommittedSeveral);
         }
         Ok(())
