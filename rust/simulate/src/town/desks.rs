@@ -133,7 +133,7 @@ impl<L: Library> Town<'_, L> {
     }
 
     fn work(&mut self, at: usize, card: usize) -> Checked {
-        if self.shape.transacting && !self.one_in(4) {
+        if self.shape.transacting && (!self.one_in(4) || self.busy(at, card)) {
             return self.tend(at);
         }
         let waits = self.waits(at, card);

@@ -70,6 +70,9 @@ pub struct Shape {
     /// Whether desks keep section 16, and change several cards at once by its
     /// steps.
     pub transacting: bool,
+    /// With how many messages the post is so full that one arrives next, or is
+    /// lost.
+    pub crowd: usize,
 }
 
 impl Shape {
@@ -89,6 +92,7 @@ impl Shape {
             managers: random.pick(&[1, 1, 2, 3, 4, 5]),
             majority: random.one_in(2),
             transacting: random.one_in(3),
+            crowd: random.pick(&[10, 20, 60]),
         }
     }
 
@@ -108,6 +112,7 @@ impl Shape {
             managers: 1,
             majority: false,
             transacting: false,
+            crowd: 60,
         }
     }
 
@@ -127,6 +132,7 @@ impl Shape {
             managers: 1,
             majority: false,
             transacting: false,
+            crowd: 60,
         }
     }
 }
@@ -291,7 +297,7 @@ impl<'a, L: Library> Town<'a, L> {
         if self.shape.worn && self.store.cards[0].edition < u16::MAX {
             return self.wear();
         }
-        if self.post.len() > 60 {
+        if self.post.len() > self.shape.crowd {
             return match self.one_in(4) {
                 true => self.lose(),
                 false => self.deliver(),

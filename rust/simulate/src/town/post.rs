@@ -59,6 +59,9 @@ impl<L: Library> Town<'_, L> {
 
     /// A message that is drawn from the post arrives.
     pub(super) fn deliver(&mut self) -> Checked {
+        if self.post.is_empty() {
+            return Ok(());
+        }
         self.tally.step(Step::Deliver);
         let at = self.random.index(self.post.len().min(self.shape.storm));
         let message = self.post.remove(at);

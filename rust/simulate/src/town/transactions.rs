@@ -138,6 +138,16 @@ impl<L: Library> Town<'_, L> {
         let Some(book) = self.book_for(at) else {
             return Ok(());
         };
+        for _ in 0..self.random.pick(&[1, 3, 6]) {
+            if !self.desks[at].is_up() || !self.holds_book(at, book) {
+                return Ok(());
+            }
+            self.tend_once(at, book)?;
+        }
+        Ok(())
+    }
+
+    fn tend_once(&mut self, at: usize, book: usize) -> Checked {
         self.tally.step(Step::Transact);
         let often = matches!(
             self.rule,
@@ -147,13 +157,15 @@ impl<L: Library> Town<'_, L> {
             self.books[book].mind.held = false;
             return Ok(());
         }
-        if self.one_in(if often { 4 } else { 20 }) {
+        if self.one_in(if often { 6 } else { 80 }) {
             return self.recover_book(book);
         }
-        let going = self.books[book].mind.going;
-        match going {
-            true => self.go_on(book),
-            false if self.one_in(2) => self.begin_book(book),
+        if self.books[book].mind.going {
+            return self.go_on(book);
+        }
+        let due = !steps::all_due(&self.books[book].log).is_empty();
+        match self.one_in(if due { 12 } else { 4 }) {
+            true => self.begin_book(book),
             false => self.some_step(book),
         }
     }
@@ -243,9 +255,11 @@ impl<L: Library> Town<'_, L> {
             self.tally.fault(Fault::Abandoned);
             return Ok(());
         }
-        match updates.len() {
+        let cards: BTreeSet<u16> = updates.iter().map(|update| update.card).collect();
+        match cards.len() {
             0 => self.update_book(book, &updates),
-            1..4 if self.one_in(6) => self.update_book(book, &updates),
+            1 if self.one_in(3) => self.update_book(book, &updates),
+            _ if updates.len() < 5 && self.one_in(60) => self.update_book(book, &updates),
             _ => self.some_step(book),
         }
     }
@@ -254,7 +268,9 @@ impl<L: Library> Town<'_, L> {
     /// translation behind it. The log keeps room for the commit and for a note
     /// of each card.
     fn update_book(&mut self, book: usize, open: &[Update]) -> Checked {
-        let card = self.card();
+        let (card, other) = (self.card(), self.card());
+        let twice = |card: usize| open.iter().any(|update| usize::from(update.card) == card);
+        let card = if twice(card) { other } else { card };
         let at = self.books[book].mind.at;
         let of = |update: &Update| usize::from(update.card) == card && update.side == 1;
         let based = open.iter().any(of) || self.desks[at].at[card].held.edition > 0;
@@ -316,7 +332,7 @@ impl<L: Library> Town<'_, L> {
         let wrong = self.wrong_step(book, card, (step, line, noted));
         let (step, line, noted) = wrong.unwrap_or((step, line, noted));
         match step {
-            LOOK if self.waiting(book, card) => Ok(()),
+            LOOK if self.waiting(book, card) => self.deliver(),
             LOOK => self.look(book, card),
             PREPARE | RELEASE => self.order(book, card, step, None),
             WRITE => {
@@ -364,11 +380,18 @@ impl<L: Library> Town<'_, L> {
         }
     }
 
+    /// Whether a desk has something under way for a card, and mostly sends
+    /// nothing else for it then.
+    pub(super) fn busy(&mut self, at: usize, card: usize) -> bool {
+        let speaks = |book: &Book| book.mind.at == at && book.cards().contains(&card);
+        self.books.iter().any(speaks) && !self.one_in(20)
+    }
+
     /// Whether the answer to the last command is still waited for.
     fn waiting(&mut self, book: usize, card: usize) -> bool {
         let last = self.books[book].mind.cards[card].last;
         let lately = last.is_some_and(|last| self.now < last.when + PATIENCE);
-        lately && !self.finishing && !self.one_in(20)
+        lately && !self.finishing && !self.one_in(80)
     }
 
     /// The update in a line of a log.
