@@ -74,7 +74,10 @@ impl<L: Library> Line<'_, '_, L> {
             return Ok(());
         };
         let proposed = &mut self.town.proposed;
-        if [1, 2].iter().any(|mode| proposed.contains(&(card, *mode, pair))) {
+        if [1, 2]
+            .iter()
+            .any(|mode| proposed.contains(&(card, *mode, pair)))
+        {
             return Ok(());
         }
         let own = self.who.number();

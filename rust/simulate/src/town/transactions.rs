@@ -314,9 +314,7 @@ impl<L: Library> Town<'_, L> {
     fn next_step(&mut self, book: usize, card: usize) -> Checked<Next> {
         let Book { log, mind, .. } = &self.books[book];
         let (place, follow) = ((owner(book), card as u16), &mind.cards[card]);
-        let told = self
-            .library
-            .next_step(log, place, mind.going, &follow.seen);
+        let told = self.library.next_step(log, place, mind.going, &follow.seen);
         self.tally.number(Operation::NextStep, told.0);
         let by = (mind.going, follow.by_rules);
         steps::stepped(&mut self.tally.made, log, place, by, told)?;
@@ -356,7 +354,7 @@ impl<L: Library> Town<'_, L> {
 
     /// What a desk does in place of a step where a rule is broken.
     fn wrong_step(&mut self, book: usize, card: usize, (step, _, _): Next) -> Option<Next> {
-        let (rule, now) = (self.rule?, self.one_in(2));
+        let (rule, now, waits) = (self.rule?, self.one_in(2), !self.one_in(20));
         let log = &self.books[book].log;
         let of = |update: &&Update| usize::from(update.card) == card;
         match (step, rule) {
@@ -374,7 +372,7 @@ impl<L: Library> Town<'_, L> {
                 Some((NOTE, 0, due.iter().rfind(of)?.transaction.into()))
             }
             (NOTE, Rule::PreparedDue) => Some((PREPARE, 0, 0)),
-            (NOTE, Rule::OrderGuessed) if now => Some((NOTHING, 0, 0)),
+            (NOTE, Rule::OrderGuessed) if waits => Some((NOTHING, 0, 0)),
             (_, Rule::CommitsUnheld) if now => Some((READY, 0, 0)),
             _ => None,
         }
@@ -447,7 +445,11 @@ impl<L: Library> Town<'_, L> {
         } else {
             mark_in(fields)
         };
-        let next = if step == RELEASE { Mark::default() } else { own };
+        let next = if step == RELEASE {
+            Mark::default()
+        } else {
+            own
+        };
         let act = write.as_ref().map_or(5, |write| 2 + write.side);
         let command = CommandFields {
             act,
@@ -476,10 +478,18 @@ impl<L: Library> Town<'_, L> {
         self.breaks(Rule::OrderGuessed) && self.books[book].late.is_none()
     }
 
-    /// The prepare on a guessed x comes at last.
+    /// The prepare on a guessed x comes at last: when its card is written out,
+    /// released and written by somebody else.
     fn comes_late(&mut self, book: usize, card: usize) {
         let at = self.books[book].mind.at;
-        let late = self.books[book].late.take_if(|(of, _)| *of == card);
+        let texts = &self.store.cards[card].texts;
+        let due = steps::all_due(&self.books[book].log);
+        let mut due = due.iter().rev();
+        let last = due.find(|update| usize::from(update.card) == card);
+        let since = last.is_some_and(|last| texts[usize::from(last.side) - 1] != last.text);
+        let late = self.books[book]
+            .late
+            .take_if(|(of, _)| *of == card && since);
         if let Some((_, bytes)) = late {
             self.send(at, card, Body::Command(bytes, 0, None));
         }
@@ -588,7 +598,8 @@ impl<L: Library> Town<'_, L> {
         if stands {
             self.books[book].mind.going = false;
             self.tally.fault(Fault::Committed);
-            self.tally.fault_if(cards.len() > 1, Fault::CommittedSeveral);
+            self.tally
+                .fault_if(cards.len() > 1, Fault::CommittedSeveral);
         }
         Ok(())
     }
@@ -688,12 +699,7 @@ impl<L: Library> Town<'_, L> {
         recovered.map(|_| ())
     }
 
-    fn cut_recovery_of(
-        &mut self,
-        at: usize,
-        due: Vec<Update>,
-        pairs: &[Vec<u64>; 2],
-    ) -> Checked {
+    fn cut_recovery_of(&mut self, at: usize, due: Vec<Update>, pairs: &[Vec<u64>; 2]) -> Checked {
         self.desks[at].due = due;
         self.cut_recovery(at, pairs)
     }
@@ -762,11 +768,9 @@ impl<L: Library> Town<'_, L> {
         };
         let ended = taken <= most && !due && !marked;
         let made = &mut self.tally.made;
-        beside
-            .borrow_mut()
-            .hold(made, Check::StepsEnd, ended, || {
-                format!("card {card}: {taken} steps of {most}; due: {due}, marked: {marked}")
-            })
+        beside.borrow_mut().hold(made, Check::StepsEnd, ended, || {
+            format!("card {card}: {taken} steps of {most}; due: {due}, marked: {marked}")
+        })
     }
 
     /// A log's next step where nothing is as it should be: any desk's log or a
@@ -784,7 +788,11 @@ impl<L: Library> Town<'_, L> {
         let number = self.random.pick(&[0, 0, 0, 1, 2, 3, 4, 6, 9, 17]);
         // Where no entry is shown, the mark is zero too (rule 4.8).
         let shows = !matches!(number, 1 | 2 | 9);
-        let mark = if shows { self.random.below(4) as u16 } else { 0 };
+        let mark = if shows {
+            self.random.below(4) as u16
+        } else {
+            0
+        };
         let told = self.library.heard(step, number, mark);
         let seen = Seen::upon(step, number, mark);
         let going = self.one_in(2);
