@@ -55,29 +55,17 @@ impl Seen {
     }
 }
 
-/// The open transaction of a log and the cards that it updates, with repeats;
-/// none where none is open.
+/// The open transaction of a log and its updates; none where none is open.
 pub fn open(log: &[u8]) -> Option<(u32, Vec<Update>)> {
     let read = read(log)?;
-    let mut open: Option<(u32, Vec<Update>)> = None;
-    for (line, (kind, body)) in read.records.iter().enumerate() {
-        match *kind {
-            BEGIN => open = Some((u32::from_le_bytes((*body).try_into().ok()?), Vec::new())),
-            COMMIT => open = None,
-            UPDATE => {
-                let (transaction, updates) = open.as_mut()?;
-                updates.push(Update {
-                    line: line as u64,
-                    transaction: *transaction,
-                    card: u16::from_le_bytes([body[0], body[1]]),
-                    side: body[2],
-                    text: body[3..].to_vec(),
-                });
-            }
-            _ => {}
-        }
-    }
-    open
+    let ends = |(kind, _): &(u8, &[u8])| matches!(*kind, BEGIN | COMMIT);
+    let last = read.records.iter().rposition(ends)?;
+    let (kind, body) = read.records[last];
+    let number = u32::from_le_bytes(body.try_into().ok()?);
+    let lines = read.records.iter().enumerate().skip(last);
+    let updates = lines.filter(|(_, (kind, _))| *kind == UPDATE);
+    let updates = updates.map(|(line, (_, body))| Update::of(line, number, body));
+    (kind == BEGIN).then(|| (number, updates.collect()))
 }
 
 /// All updates of a log that are due; none of a log that is not good.
