@@ -364,10 +364,9 @@ impl<L: Library> Town<'_, L> {
     /// there, now and then another one.
     pub(super) fn hears(&mut self, desk: usize, who: DeskId, card: usize, told: Body) -> Checked {
         let elsewhere = self.one_in(12);
-        let at = if elsewhere {
-            self.random.index(self.desks.len())
-        } else {
-            desk
+        let at = match elsewhere {
+            true => self.random.index(self.desks.len()),
+            false => desk,
         };
         let meant = at == desk && self.desks[at].who == who;
         if !self.desks[at].is_up() || !meant && !elsewhere {
@@ -392,10 +391,7 @@ impl<L: Library> Town<'_, L> {
                     holds,
                     denied: (number == 11).then_some(accepted),
                 };
-                self.voted(at, card, manager, vote);
-                if let (11, 1 | 2) = (number, mode) {
-                    self.desks[at].at[card].open[usize::from(mode) - 1] = None;
-                }
+                self.voted(at, card, (manager, mode), vote);
             }
             Body::Told(_, _, answer, _) if answer.number == 17 && self.one_in(2) => {
                 // Someone sets the clock right, and starts the desk again.

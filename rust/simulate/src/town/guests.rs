@@ -309,7 +309,7 @@ impl Guest {
             log: &mut self.log,
             left: stores,
             desk: self.desk.id().desk,
-            beside: line.town.beside.clone(),
+            beside: line.town.steps.beside.clone(),
         };
         let mut transaction = self.desk.transaction(line, &mut disk).ok()?;
         for card in cards {
@@ -335,7 +335,7 @@ impl Guest {
             log: &mut self.log,
             left: stores,
             desk,
-            beside: line.town.beside.clone(),
+            beside: line.town.steps.beside.clone(),
         };
         let recovered = self.desk.recover(line, &mut disk).ok()?;
         if disk.log.count() > 120 {

@@ -10,16 +10,13 @@ mod post;
 mod transactions;
 mod voters;
 
-use std::cell::RefCell;
 use std::collections::HashSet;
-use std::rc::Rc;
 
 use lupaniele::{DeskId, Image};
 use second::random::Random;
 use second::Pair;
 use story::{Scene, Standing};
 
-use crate::checks::atomic::Atomic;
 use crate::checks::desk::{learnt, proposed, Proposal, Stamps};
 use crate::checks::formed::formed;
 use crate::checks::store::{Store, AHEAD};
@@ -34,7 +31,7 @@ use guests::Guest;
 pub use guests::Outcome;
 use manager::Keeper;
 use post::Message;
-use transactions::{Beside, Book};
+use transactions::Steps;
 use voters::Cut;
 
 /// How large a town is.
@@ -157,10 +154,7 @@ pub struct Town<'a, L: Library> {
     lent: Vec<u8>,
     proposed: HashSet<(usize, u8, Pair)>,
     cut: Option<Cut>,
-    books: Vec<Book>,
-    beside: Option<Beside>,
-    ids: u64,
-    finishing: bool,
+    steps: Steps,
     /// How often each thing became of what guests did.
     pub outcomes: [u64; Outcome::ALL.len()],
     /// What happened, where it is wanted.
@@ -176,27 +170,22 @@ impl<'a, L: Library> Town<'a, L> {
         shape: Shape,
         rule: Option<Rule>,
     ) -> Checked<Town<'a, L>> {
-        let random = Random::new(seed);
         let by_rules = rule.is_none_or(Rule::of_transactions);
         let store = Store::new(shape.cards, shape.room, by_rules);
-        let beside = || Atomic::new(shape.cards, shape.room, rule.is_none());
         let mut image = vec![0xee; store.image.len()];
         let number = library.make(&mut image, shape.cards as u64, shape.room as u64);
         tally.number(Operation::Make, number);
-        tally
-            .made
-            .same(Check::Made, (number, &image), (0, &store.image))?;
+        let made = &mut tally.made;
+        made.same(Check::Made, (number, &image), (0, &store.image))?;
         let mut town = Town {
             library,
             tally,
-            random,
+            random: Random::new(seed),
             shape,
             rule,
             image,
             store,
-            keepers: (0..shape.cards * shape.managers)
-                .map(|_| Keeper::new(shape.places))
-                .collect(),
+            keepers: vec![Keeper::new(shape.places); shape.cards * shape.managers],
             stamps: vec![Stamps::default(); shape.cards + 1],
             desks: Vec::new(),
             guests: Vec::new(),
@@ -207,10 +196,7 @@ impl<'a, L: Library> Town<'a, L> {
             lent: (0..64).map(|at| at ^ 0xa5).collect(),
             proposed: HashSet::new(),
             cut: None,
-            books: Vec::new(),
-            beside: shape.transacting.then(|| Rc::new(RefCell::new(beside()))),
-            ids: 0,
-            finishing: false,
+            steps: Steps::new(shape, rule),
             outcomes: [0; Outcome::ALL.len()],
             scenes: None,
         };
@@ -227,11 +213,7 @@ impl<'a, L: Library> Town<'a, L> {
             };
             self.desks.push(Desk::new(who, self.shape));
             self.knew_something(number - 1);
-            if self.shape.transacting {
-                let Shape { log, cards, .. } = self.shape;
-                let book = Book::new(number - 1, who, log.max(2_400), cards);
-                self.books.push(book);
-            }
+            self.steps.starts(number - 1, who, self.shape);
         }
         let first = self.shape.desks + 1;
         let numbers = first..first + self.shape.guests;
@@ -268,17 +250,13 @@ impl<'a, L: Library> Town<'a, L> {
     /// The first check of the store in which a commit is one step that did not
     /// hold, where a rule is broken.
     pub fn halved(&self) -> Option<Check> {
-        self.beside
-            .as_ref()
-            .and_then(|beside| beside.borrow().broken)
+        self.steps.halved()
     }
 
     /// The premise and isolation are to hold, though a rule is broken.
     pub fn strict(&mut self) {
         self.store.by_rules = true;
-        if let Some(beside) = &self.beside {
-            beside.borrow_mut().strict();
-        }
+        self.steps.strict();
     }
 
     /// How many steps were made.
@@ -429,14 +407,12 @@ impl<'a, L: Library> Town<'a, L> {
         if mode == 2 && self.rule.is_none() {
             self.stamps[card].once(&mut self.tally.made, pair[1])?;
         }
-        let pair = Pair::new(pair[0], pair[1]);
-        self.proposed.insert((card, mode, pair));
-        let pair = self.proposed_wrong(at, (card, mode), before.known, pair);
+        let pair = self.proposed_wrong(at, (card, mode), before.known, Pair::new(pair[0], pair[1]));
         self.desks[at].at[card].open[usize::from(mode) - 1] = Some(pair);
         Ok(Some(pair))
     }
 
-    /// A proposal as a desk makes it that breaks a rule.
+    /// A proposal is made; a desk that breaks a rule makes another one of it.
     fn proposed_wrong(
         &mut self,
         at: usize,
@@ -444,6 +420,7 @@ impl<'a, L: Library> Town<'a, L> {
         known: [u64; 2],
         pair: Pair,
     ) -> Pair {
+        self.proposed.insert((card, mode, pair));
         let who = u64::from(self.desks[at].who.number());
         let earlier = |random: &mut Random, below: u64| random.below((below >> 32) + 1) << 32;
         match mode {

@@ -13,7 +13,7 @@ use story::Scene;
 
 use super::desks::State;
 use super::post::Body;
-use super::Town;
+use super::{Shape, Town};
 use crate::checks::atomic::Atomic;
 use crate::checks::formed::Sent;
 use crate::checks::log::{read, Update, BEGIN, BODIES, COMMIT, SYNCED, UPDATE};
@@ -75,6 +75,50 @@ struct Mind {
     cards: Vec<Follow>,
 }
 
+/// What a town of transactions has besides: the logs, the store in which a
+/// commit is one step, how many commands were sent, and whether it ends.
+#[derive(Debug, Default)]
+pub struct Steps {
+    books: Vec<Book>,
+    pub(super) beside: Option<Beside>,
+    ids: u64,
+    finishing: bool,
+}
+
+impl Steps {
+    /// Of a fresh town.
+    pub(super) fn new(shape: Shape, rule: Option<Rule>) -> Steps {
+        let beside = || Atomic::new(shape.cards, shape.room, rule.is_none());
+        let beside = shape.transacting.then(|| Rc::new(RefCell::new(beside())));
+        Steps {
+            beside,
+            ..Steps::default()
+        }
+    }
+
+    /// A desk starts, and has a log.
+    pub(super) fn starts(&mut self, at: usize, who: DeskId, shape: Shape) {
+        if shape.transacting {
+            let book = Book::new(at, who, shape.log.max(2_400), shape.cards);
+            self.books.push(book);
+        }
+    }
+
+    /// The first check of the store beside that did not hold, where a rule is
+    /// broken.
+    pub(super) fn halved(&self) -> Option<Check> {
+        let beside = self.beside.as_ref();
+        beside.and_then(|beside| beside.borrow().broken)
+    }
+
+    /// Every check of the store beside must hold, though a rule is broken.
+    pub(super) fn strict(&mut self) {
+        if let Some(beside) = &self.beside {
+            beside.borrow_mut().strict();
+        }
+    }
+}
+
 /// A desk's log, and who holds it. Its mark is the desk's number.
 #[derive(Clone, Debug)]
 pub struct Book {
@@ -127,6 +171,14 @@ fn owner(book: usize) -> u16 {
     book as u16 + 1
 }
 
+/// What a desk has in mind of the logs that it holds.
+fn minds(books: &mut [Book], at: usize, who: DeskId) -> impl Iterator<Item = &mut Mind> {
+    let all = books
+        .iter_mut()
+        .flat_map(|book| std::iter::once(&mut book.mind).chain(&mut book.former));
+    all.filter(move |mind| mind.held && mind.at == at && mind.who == who)
+}
+
 /// A mark in the fields of an answer.
 fn mark_in(fields: [u64; 7]) -> Mark {
     Mark::new(fields[2] as u16, fields[3] as u32)
@@ -154,16 +206,16 @@ impl<L: Library> Town<'_, L> {
             Some(Rule::RecoversUnmarked | Rule::RecoversStored)
         );
         if book != at && self.one_in(10) {
-            self.books[book].mind.held = false;
+            self.steps.books[book].mind.held = false;
             return Ok(());
         }
         if self.one_in(if often { 6 } else { 80 }) {
             return self.recover_book(book);
         }
-        if self.books[book].mind.going {
+        if self.steps.books[book].mind.going {
             return self.go_on(book);
         }
-        let due = !steps::all_due(&self.books[book].log).is_empty();
+        let due = !steps::all_due(&self.steps.books[book].log).is_empty();
         match self.one_in(if due { 12 } else { 4 }) {
             true => self.begin_book(book),
             false => self.some_step(book),
@@ -172,7 +224,7 @@ impl<L: Library> Town<'_, L> {
 
     /// The log that a desk works on: one that it holds or takes over.
     fn book_for(&mut self, at: usize) -> Option<usize> {
-        let other = self.random.index(self.books.len());
+        let other = self.random.index(self.steps.books.len());
         let first = if self.one_in(4) { other } else { at };
         [first, at]
             .into_iter()
@@ -182,7 +234,7 @@ impl<L: Library> Town<'_, L> {
     fn holds_book(&mut self, at: usize, book: usize) -> bool {
         let who = self.desks[at].who;
         let holds = |mind: &Mind| mind.held && mind.at == at && mind.who == who;
-        let book = &mut self.books[book];
+        let book = &mut self.steps.books[book];
         if let Some(former) = book.former.as_mut().filter(|former| holds(former)) {
             std::mem::swap(former, &mut book.mind);
         }
@@ -192,19 +244,19 @@ impl<L: Library> Town<'_, L> {
     /// A log that nobody holds is taken over, by its desk or while its desk is
     /// down by another: no card is held or free to who takes it (16.10, 16.23).
     fn takes_book(&mut self, at: usize, book: usize) -> bool {
-        let mind = &self.books[book].mind;
+        let mind = &self.steps.books[book].mind;
         let holder = &self.desks[mind.at];
         let gone = !mind.held || holder.who != mind.who || holder.state == State::Down;
         let theirs = book != at && self.desks[book].state != State::Down;
         let silent = holder.state == State::Silent && self.rule == Some(Rule::TwoHolders);
-        if theirs && !silent || !gone && !silent {
+        if (!gone || theirs) && !silent {
             return false;
         }
         let going = self.one_in(3);
         let who = self.desks[at].who;
         let cards = self.shape.cards;
         let fresh = Book::new(at, who, 0, cards).mind;
-        let taken = &mut self.books[book];
+        let taken = &mut self.steps.books[book];
         let former = std::mem::replace(&mut taken.mind, Mind { going, ..fresh });
         taken.former = silent.then_some(former);
         self.tally.fault_if(book != at, Fault::TakenOver);
@@ -216,25 +268,25 @@ impl<L: Library> Town<'_, L> {
     /// A transaction begins; where the log has little room left it begins again
     /// if nothing is due, and else what is due is seen to.
     fn begin_book(&mut self, book: usize) -> Checked {
-        let (lines, bytes) = self.books[book].left();
+        let (lines, bytes) = self.steps.books[book].left();
         if lines < ROOMY.0 || bytes < ROOMY.1 || self.one_in(12) {
             return self.book_begins_again(book);
         }
-        let next = self.books[book].transaction + 1;
+        let next = self.steps.books[book].transaction + 1;
         if self.append_book(book, BEGIN, &next.to_le_bytes())? {
-            self.books[book].transaction = next;
-            self.books[book].mind.going = true;
+            self.steps.books[book].transaction = next;
+            self.steps.books[book].mind.going = true;
         }
         Ok(())
     }
 
     fn book_begins_again(&mut self, book: usize) -> Checked {
         if self.breaks(Rule::BegunAgainDue) {
-            self.books[book].log[0] = 0;
+            self.steps.books[book].log[0] = 0;
             self.logged(book);
             return self.all_stand();
         }
-        let log = &mut self.books[book].log;
+        let log = &mut self.steps.books[book].log;
         let before = log.clone();
         let begun = self.library.begin_again(log);
         steps::begun_again(&mut self.tally.made, &before, begun, log)?;
@@ -246,12 +298,12 @@ impl<L: Library> Town<'_, L> {
 
     /// The holder goes on with the open transaction, or gives it up.
     fn go_on(&mut self, book: usize) -> Checked {
-        let Some((_, updates)) = steps::open(&self.books[book].log) else {
-            self.books[book].mind.going = false;
+        let Some((_, updates)) = steps::open(&self.steps.books[book].log) else {
+            self.steps.books[book].mind.going = false;
             return Ok(());
         };
         if self.one_in(100) {
-            self.books[book].mind.going = false;
+            self.steps.books[book].mind.going = false;
             self.tally.fault(Fault::Abandoned);
             return Ok(());
         }
@@ -271,7 +323,7 @@ impl<L: Library> Town<'_, L> {
         let (card, other) = (self.card(), self.card());
         let twice = |card: usize| open.iter().any(|update| usize::from(update.card) == card);
         let card = if twice(card) { other } else { card };
-        let at = self.books[book].mind.at;
+        let at = self.steps.books[book].mind.at;
         let of = |update: &Update| usize::from(update.card) == card && update.side == 1;
         let based = open.iter().any(of) || self.desks[at].at[card].held.edition > 0;
         let sides: &[u8] = match self.random.below(4) {
@@ -287,10 +339,10 @@ impl<L: Library> Town<'_, L> {
             let mut body = (card as u16).to_le_bytes().to_vec();
             body.push(*side);
             body.extend(text);
-            let (lines, bytes) = self.books[book].left();
-            let notes = self.books[book].cards().len() + 1;
+            let (lines, bytes) = self.steps.books[book].left();
+            let notes = self.steps.books[book].cards().len() + 1;
             if lines < 2 + notes || bytes < body.len() + 4 + 6 * notes {
-                self.books[book].mind.going = false;
+                self.steps.books[book].mind.going = false;
                 return Ok(());
             }
             if !self.append_book(book, UPDATE, &body)? {
@@ -302,7 +354,7 @@ impl<L: Library> Town<'_, L> {
 
     /// A step for some card that the log speaks of, now and then for any.
     fn some_step(&mut self, book: usize) -> Checked {
-        let cards: Vec<usize> = self.books[book].cards().into_iter().collect();
+        let cards: Vec<usize> = self.steps.books[book].cards().into_iter().collect();
         let card = match cards.is_empty() || self.one_in(8) {
             true => self.card(),
             false => cards[self.random.index(cards.len())],
@@ -312,7 +364,7 @@ impl<L: Library> Town<'_, L> {
 
     /// The next step for a card, as the library tells it, checked.
     fn next_step(&mut self, book: usize, card: usize) -> Checked<Next> {
-        let Book { log, mind, .. } = &self.books[book];
+        let Book { log, mind, .. } = &self.steps.books[book];
         let (place, follow) = ((owner(book), card as u16), &mind.cards[card]);
         let told = self.library.next_step(log, place, mind.going, &follow.seen);
         self.tally.number(Operation::NextStep, told.0);
@@ -344,7 +396,7 @@ impl<L: Library> Town<'_, L> {
                 self.append_book(book, SYNCED, &body).map(|_| ())
             }
             WAIT if self.one_in(3) => {
-                self.books[book].mind.going = false;
+                self.steps.books[book].mind.going = false;
                 Ok(())
             }
             NOTHING if !self.one_in(3) => Ok(()),
@@ -355,7 +407,7 @@ impl<L: Library> Town<'_, L> {
     /// What a desk does in place of a step where a rule is broken.
     fn wrong_step(&mut self, book: usize, card: usize, (step, _, _): Next) -> Option<Next> {
         let (rule, now, waits) = (self.rule?, self.one_in(2), !self.one_in(20));
-        let log = &self.books[book].log;
+        let log = &self.steps.books[book].log;
         let of = |update: &&Update| usize::from(update.card) == card;
         match (step, rule) {
             (READY, Rule::WrittenEarly) if now => {
@@ -382,19 +434,19 @@ impl<L: Library> Town<'_, L> {
     /// nothing else for it then.
     pub(super) fn busy(&mut self, at: usize, card: usize) -> bool {
         let speaks = |book: &Book| book.mind.at == at && book.cards().contains(&card);
-        self.books.iter().any(speaks) && !self.one_in(20)
+        self.steps.books.iter().any(speaks) && !self.one_in(20)
     }
 
     /// Whether the answer to the last command is still waited for.
     fn waiting(&mut self, book: usize, card: usize) -> bool {
-        let last = self.books[book].mind.cards[card].last;
+        let last = self.steps.books[book].mind.cards[card].last;
         let lately = last.is_some_and(|last| self.now < last.when + PATIENCE);
-        lately && !self.finishing && !self.one_in(80)
+        lately && !self.steps.finishing && !self.one_in(80)
     }
 
     /// The update in a line of a log.
     fn update_at(&self, book: usize, line: u64) -> Option<Update> {
-        let log = &self.books[book].log;
+        let log = &self.steps.books[book].log;
         let open = steps::open(log).map_or(Vec::new(), |(_, updates)| updates);
         let mut all = steps::all_due(log).into_iter().chain(open);
         all.find(|update| update.line == line)
@@ -402,7 +454,7 @@ impl<L: Library> Town<'_, L> {
 
     /// A command without a mark, for its answer.
     fn look(&mut self, book: usize, card: usize) -> Checked {
-        let at = self.books[book].mind.at;
+        let at = self.steps.books[book].mind.at;
         let Some(pair) = self.propose(at, card, 1)? else {
             return Ok(());
         };
@@ -419,36 +471,23 @@ impl<L: Library> Town<'_, L> {
     /// An order on the word of the answer that was seen: its pair is the
     /// verifier, and the holder's next proposal the update pair (16.4, 16.26).
     fn order(&mut self, book: usize, card: usize, step: u8, write: Option<Update>) -> Checked {
-        let at = self.books[book].mind.at;
-        let fields = self.books[book].mind.cards[card].fields;
-        let Some(mut pair) = self.propose(at, card, 2)? else {
+        let at = self.steps.books[book].mind.at;
+        let fields = self.steps.books[book].mind.cards[card].fields;
+        let Some(pair) = self.propose(at, card, 2)? else {
             return Ok(());
         };
         let guessed = step == PREPARE && self.guesses(book);
-        if guessed {
-            self.desks[at].known[card][1] += 40 << 32;
-            pair = self.propose(at, card, 2)?.unwrap_or(pair);
-        }
         let [verifier, update] = match guessed {
-            true => [pair, pair],
+            true => self.guess(at, card, pair)?,
             false => self.order_pairs(book, card, fields, pair),
         };
-        self.books[book].mind.cards[card].pair = Some(update);
-        let number = match (&write, steps::open(&self.books[book].log)) {
-            (Some(write), _) => write.transaction,
-            (None, Some((open, _))) => open,
-            (None, None) => self.books[book].transaction,
-        };
-        let own = Mark::new(owner(book), number.max(1));
-        let expected = if step == PREPARE {
-            Mark::default()
-        } else {
-            mark_in(fields)
-        };
-        let next = if step == RELEASE {
-            Mark::default()
-        } else {
-            own
+        self.steps.books[book].mind.cards[card].pair = Some(update);
+        let number = write.as_ref().map(|write| write.transaction);
+        let own = self.own_mark(book, number);
+        let (expected, next) = match step {
+            PREPARE => (Mark::default(), own),
+            RELEASE => (mark_in(fields), Mark::default()),
+            _ => (mark_in(fields), own),
         };
         let act = write.as_ref().map_or(5, |write| 2 + write.side);
         let command = CommandFields {
@@ -466,28 +505,44 @@ impl<L: Library> Town<'_, L> {
         let text = write.map_or(Vec::new(), |write| write.text);
         let bytes = command.with_payload(&text);
         if guessed {
-            self.books[book].late = Some((card, bytes));
+            self.steps.books[book].late = Some((card, bytes));
             return self.crash(at);
         }
         self.dispatch(book, card, (step, line), bytes)
     }
 
+    /// The mark of a log, with the transaction of a write or the open one.
+    fn own_mark(&self, book: usize, write: Option<u32>) -> Mark {
+        let open = || steps::open(&self.steps.books[book].log).map(|(open, _)| open);
+        let number = write
+            .or_else(open)
+            .unwrap_or(self.steps.books[book].transaction);
+        Mark::new(owner(book), number.max(1))
+    }
+
+    /// The pairs of an order on an x that no answer has shown: far ahead.
+    fn guess(&mut self, at: usize, card: usize, pair: Pair) -> Checked<[Pair; 2]> {
+        self.desks[at].known[card][1] += 40 << 32;
+        let pair = self.propose(at, card, 2)?.unwrap_or(pair);
+        Ok([pair, pair])
+    }
+
     /// Where that rule is broken, whether a prepare is sent on a guessed x. It
     /// comes late, and its desk goes down meanwhile.
     fn guesses(&mut self, book: usize) -> bool {
-        self.breaks(Rule::OrderGuessed) && self.books[book].late.is_none()
+        self.breaks(Rule::OrderGuessed) && self.steps.books[book].late.is_none()
     }
 
     /// The prepare on a guessed x comes at last: when its card is written out,
     /// released and written by somebody else.
     fn comes_late(&mut self, book: usize, card: usize) {
-        let at = self.books[book].mind.at;
+        let at = self.steps.books[book].mind.at;
         let texts = &self.store.cards[card].texts;
-        let due = steps::all_due(&self.books[book].log);
+        let due = steps::all_due(&self.steps.books[book].log);
         let mut due = due.iter().rev();
         let last = due.find(|update| usize::from(update.card) == card);
         let since = last.is_some_and(|last| texts[usize::from(last.side) - 1] != last.text);
-        let late = self.books[book]
+        let late = self.steps.books[book]
             .late
             .take_if(|(of, _)| *of == card && since);
         if let Some((_, bytes)) = late {
@@ -498,7 +553,7 @@ impl<L: Library> Town<'_, L> {
     /// The verifier and the update pair of an order; where 16.4 is broken, the
     /// last order's pair again.
     fn order_pairs(&mut self, book: usize, card: usize, shown: [u64; 7], pair: Pair) -> [Pair; 2] {
-        let last = self.books[book].mind.cards[card].pair;
+        let last = self.steps.books[book].mind.cards[card].pair;
         match last {
             Some(last) if self.breaks(Rule::OrdersUnderOne) => [last, last],
             _ => [Pair::new(shown[0], shown[1]), pair],
@@ -509,11 +564,11 @@ impl<L: Library> Town<'_, L> {
     /// at once.
     fn dispatch(&mut self, book: usize, card: usize, step: (u8, u8), bytes: Vec<u8>) -> Checked {
         self.tally.step(Step::Send);
-        let at = self.books[book].mind.at;
+        let at = self.steps.books[book].mind.at;
         let sent = self.on_its_way(step);
-        self.books[book].mind.cards[card].sends(sent);
+        self.steps.books[book].mind.cards[card].sends(sent);
         let (lent, id) = (self.shape.room, Some(sent.id));
-        if !self.finishing {
+        if !self.steps.finishing {
             let twice = self.rule == Some(Rule::OrdersUnderOne) && self.one_in(2);
             for _ in 0..1 + u8::from(twice) {
                 self.send(at, card, Body::Command(bytes.clone(), lent, id));
@@ -526,9 +581,9 @@ impl<L: Library> Town<'_, L> {
     }
 
     fn on_its_way(&mut self, step: (u8, u8)) -> OnItsWay {
-        self.ids += 1;
+        self.steps.ids += 1;
         OnItsWay {
-            id: self.ids,
+            id: self.steps.ids,
             when: self.now,
             step,
         }
@@ -537,16 +592,11 @@ impl<L: Library> Town<'_, L> {
     /// A desk sends a command that is no step: to the logs that it holds it is
     /// a look (rule 16.24). Which command it is.
     pub(super) fn look_sent(&mut self, at: usize, card: usize) -> Option<u64> {
-        if self.books.is_empty() {
+        if self.steps.books.is_empty() {
             return None;
         }
         let (sent, who) = (self.on_its_way((LOOK, 0)), self.desks[at].who);
-        for book in &mut self.books {
-            let minds = std::iter::once(&mut book.mind).chain(&mut book.former);
-            for mind in minds.filter(|mind| mind.held && mind.at == at && mind.who == who) {
-                mind.cards[card].sends(sent);
-            }
-        }
+        minds(&mut self.steps.books, at, who).for_each(|mind| mind.cards[card].sends(sent));
         Some(sent.id)
     }
 
@@ -561,27 +611,24 @@ impl<L: Library> Town<'_, L> {
     ) -> Checked {
         let (who, any) = (self.desks[at].who, self.rule == Some(Rule::EarlierAnswer));
         let (number, mark) = (answer.number, answer.fields[2] as u16);
-        for book in &mut self.books {
-            let minds = std::iter::once(&mut book.mind).chain(&mut book.former);
-            for mind in minds.filter(|mind| mind.held && mind.at == at && mind.who == who) {
-                let follow = &mut mind.cards[card];
-                let earlier = follow.earlier.iter().filter(|_| any);
-                let mut sent = follow.last.iter().chain(earlier);
-                let Some(sent) = sent.find(|sent| Some(sent.id) == id) else {
-                    continue;
-                };
-                let told = self.library.heard(sent.step, number, mark);
-                let seen = Seen::upon(sent.step, number, mark);
-                steps::heard(&mut self.tally.made, seen, told)?;
-                (follow.seen, follow.by_rules, follow.fields) = (told, seen, answer.fields);
-            }
+        for mind in minds(&mut self.steps.books, at, who) {
+            let follow = &mut mind.cards[card];
+            let earlier = follow.earlier.iter().filter(|_| any);
+            let mut sent = follow.last.iter().chain(earlier);
+            let Some(sent) = sent.find(|sent| Some(sent.id) == id) else {
+                continue;
+            };
+            let told = self.library.heard(sent.step, number, mark);
+            let seen = Seen::upon(sent.step, number, mark);
+            steps::heard(&mut self.tally.made, seen, told)?;
+            (follow.seen, follow.by_rules, follow.fields) = (told, seen, answer.fields);
         }
         Ok(())
     }
 
     /// The commit, if every card of the transaction is ready for it.
     fn commit_book(&mut self, book: usize) -> Checked {
-        let Some((number, updates)) = steps::open(&self.books[book].log) else {
+        let Some((number, updates)) = steps::open(&self.steps.books[book].log) else {
             return Ok(());
         };
         let cards: BTreeSet<u16> = updates.iter().map(|update| update.card).collect();
@@ -596,7 +643,7 @@ impl<L: Library> Town<'_, L> {
         }
         let stands = self.append_book(book, COMMIT, &number.to_le_bytes())?;
         if stands {
-            self.books[book].mind.going = false;
+            self.steps.books[book].mind.going = false;
             self.tally.fault(Fault::Committed);
             self.tally
                 .fault_if(cards.len() > 1, Fault::CommittedSeveral);
@@ -606,10 +653,10 @@ impl<L: Library> Town<'_, L> {
 
     /// The holder of a log appends a record, which may be cut at any store.
     fn append_book(&mut self, book: usize, kind: u8, body: &[u8]) -> Checked<bool> {
-        let at = self.books[book].mind.at;
-        std::mem::swap(&mut self.books[book].log, &mut self.desks[at].log);
+        let at = self.steps.books[book].mind.at;
+        std::mem::swap(&mut self.steps.books[book].log, &mut self.desks[at].log);
         let stands = self.append(at, kind, body);
-        std::mem::swap(&mut self.books[book].log, &mut self.desks[at].log);
+        std::mem::swap(&mut self.steps.books[book].log, &mut self.desks[at].log);
         self.logged(book);
         let stands = stands?;
         self.all_stand()?;
@@ -618,8 +665,8 @@ impl<L: Library> Town<'_, L> {
 
     /// A log is now as it is.
     fn logged(&mut self, book: usize) {
-        if let Some(beside) = &self.beside {
-            let log = &self.books[book].log;
+        if let Some(beside) = &self.steps.beside {
+            let log = &self.steps.books[book].log;
             beside.borrow_mut().logged(owner(book), log);
         }
     }
@@ -630,7 +677,7 @@ impl<L: Library> Town<'_, L> {
     }
 
     fn stands(&mut self, card: usize) -> Checked {
-        let Some(beside) = &self.beside else {
+        let Some(beside) = &self.steps.beside else {
             return Ok(());
         };
         let made = &mut self.tally.made;
@@ -639,7 +686,7 @@ impl<L: Library> Town<'_, L> {
 
     /// A command for a card of the store was answered.
     pub(super) fn beside_judged(&mut self, sent: &Sent, answer: &Answer) -> Checked {
-        let Some(beside) = &self.beside else {
+        let Some(beside) = &self.steps.beside else {
             return Ok(());
         };
         let made = &mut self.tally.made;
@@ -653,9 +700,9 @@ impl<L: Library> Town<'_, L> {
     /// card with something due bears its mark and gets an x above the stored
     /// one (rule 16.13). It may be cut after any of its writes.
     fn recover_book(&mut self, book: usize) -> Checked {
-        let due = steps::all_due(&self.books[book].log);
+        let due = steps::all_due(&self.steps.books[book].log);
         let cards: BTreeSet<usize> = due.iter().map(|update| update.card.into()).collect();
-        let at = self.books[book].mind.at;
+        let at = self.steps.books[book].mind.at;
         let mut pairs = [vec![0; self.shape.cards], vec![0; self.shape.cards]];
         for card in &cards {
             self.catch_up(at, *card)?;
@@ -681,21 +728,21 @@ impl<L: Library> Town<'_, L> {
         };
         self.recovering(false);
         recovered?;
-        self.books[book].mind.cards.fill(Follow::default());
+        self.steps.books[book].mind.cards.fill(Follow::default());
         self.all_stand()
     }
 
     fn recovering(&mut self, recovering: bool) {
-        if let Some(beside) = &self.beside {
+        if let Some(beside) = &self.steps.beside {
             beside.borrow_mut().recovering = recovering;
         }
     }
 
     fn recover_from(&mut self, book: usize, pairs: &[Vec<u64>; 2]) -> Checked {
-        let at = self.books[book].mind.at;
-        std::mem::swap(&mut self.books[book].log, &mut self.desks[at].log);
+        let at = self.steps.books[book].mind.at;
+        std::mem::swap(&mut self.steps.books[book].log, &mut self.desks[at].log);
         let recovered = self.recover_whole(at, pairs);
-        std::mem::swap(&mut self.books[book].log, &mut self.desks[at].log);
+        std::mem::swap(&mut self.steps.books[book].log, &mut self.desks[at].log);
         recovered.map(|_| ())
     }
 
@@ -707,7 +754,7 @@ impl<L: Library> Town<'_, L> {
     /// The marks of a command that is no order: none. Where 16.3 is broken,
     /// somebody takes a mark off, or puts one on.
     pub(super) fn plain_marks(&mut self, at: usize, card: usize, fields: &mut CommandFields) {
-        if self.books.is_empty() {
+        if self.steps.books.is_empty() {
             return;
         }
         (fields.expected, fields.next) = (Mark::default(), Mark::default());
@@ -716,8 +763,8 @@ impl<L: Library> Town<'_, L> {
             (fields.act, fields.edition, fields.expected) = (5, 0, met);
         }
         if self.breaks(Rule::MarkPutOn) {
-            let book = self.random.index(self.books.len());
-            let number = self.books[book].transaction.max(1);
+            let book = self.random.index(self.steps.books.len());
+            let number = self.steps.books[book].transaction.max(1);
             (fields.act, fields.edition) = (5, 0);
             fields.next = Mark::new(owner(book), number);
         }
@@ -728,12 +775,12 @@ impl<L: Library> Town<'_, L> {
     /// after a look, a write for each line, a release and a note (rule 16.28).
     pub(super) fn finish(&mut self) -> Checked {
         let broken = self.rule.is_some_and(|rule| rule != Rule::Unwritable);
-        if self.books.is_empty() || broken {
+        if self.steps.books.is_empty() || broken {
             return Ok(());
         }
         self.post.clear();
-        self.finishing = true;
-        for book in 0..self.books.len() {
+        self.steps.finishing = true;
+        for book in 0..self.steps.books.len() {
             let Some(start) = self.desks[book].who.start.checked_add(1) else {
                 continue;
             };
@@ -742,28 +789,29 @@ impl<L: Library> Town<'_, L> {
                 ..self.desks[book].who
             };
             self.desks[book] = super::Desk::new(who, self.shape);
-            self.books[book].mind = Book::new(book, who, 0, self.shape.cards).mind;
-            self.books[book].former = None;
+            self.steps.books[book].mind = Book::new(book, who, 0, self.shape.cards).mind;
+            self.steps.books[book].former = None;
             (0..self.shape.cards).try_for_each(|card| self.finish_card(book, card))?;
         }
         Ok(())
     }
 
     fn finish_card(&mut self, book: usize, card: usize) -> Checked {
-        let most = usize::from(self.books[book].log[0]) + 3;
+        let most = usize::from(self.steps.books[book].log[0]) + 3;
         let mut taken = 0;
         while self.next_step(book, card)?.0 != NOTHING && taken < 2 * most {
-            let lines = self.books[book].log[0];
+            let lines = self.steps.books[book].log[0];
             self.take_step(book, card)?;
             // An append that is cut is made again, by a desk that is up again.
-            let cut = self.desks[book].state == State::Down && self.books[book].log[0] == lines;
+            let cut =
+                self.desks[book].state == State::Down && self.steps.books[book].log[0] == lines;
             self.desks[book].state = State::Up;
             taken += usize::from(!cut);
         }
-        let due = steps::all_due(&self.books[book].log);
+        let due = steps::all_due(&self.steps.books[book].log);
         let due = due.iter().any(|update| usize::from(update.card) == card);
         let marked = self.store.cards[card].mark.desk == owner(book);
-        let Some(beside) = &self.beside else {
+        let Some(beside) = &self.steps.beside else {
             return Ok(());
         };
         let ended = taken <= most && !due && !marked;
@@ -777,7 +825,7 @@ impl<L: Library> Town<'_, L> {
     /// damaged one, any desk, any card, anything seen.
     pub(super) fn odd_step(&mut self) -> Checked {
         let at = self.random.index(self.desks.len());
-        let books = self.books.get(at).map(|book| book.log.clone());
+        let books = self.steps.books.get(at).map(|book| book.log.clone());
         let mut log = books.unwrap_or_else(|| self.desks[at].log.clone());
         if self.one_in(6) {
             log[0] = log[0].wrapping_add(1);

@@ -126,10 +126,20 @@ impl<L: Library> Town<'_, L> {
     }
 
     /// A manager's answer: the desk holds the lock where all whom it asked
-    /// granted it or, in other towns, most of all managers.
-    pub(super) fn voted(&mut self, at: usize, card: usize, manager: usize, vote: Vote) {
+    /// granted it or, in other towns, most of all managers. Under a pair that was
+    /// denied it sends no more.
+    pub(super) fn voted(
+        &mut self,
+        at: usize,
+        card: usize,
+        (manager, mode): (usize, u8),
+        vote: Vote,
+    ) {
         let (managers, majority) = (self.shape.managers, self.shape.majority);
         let have = &mut self.desks[at].at[card];
+        if let (Some(_), 1 | 2) = (vote.denied, mode) {
+            have.open[usize::from(mode) - 1] = None;
+        }
         let asked = have.votes[manager].asked;
         have.votes[manager] = Vote { asked, ..vote };
         let count = |test: fn(&Vote) -> bool| have.votes.iter().filter(|vote| test(vote)).count();
