@@ -11,6 +11,7 @@ use super::transactions::Beside;
 use super::Town;
 use crate::checks::desk::proposal;
 use crate::checks::queue::Turn;
+use crate::checks::steps;
 use crate::checks::{Breach, Check, Checked};
 use crate::library::Library;
 
@@ -49,6 +50,8 @@ struct Line<'t, 'a, L: Library> {
     who: DeskId,
     left: u64,
     known: Vec<[u64; 2]>,
+    /// Whether nothing is lost or late, and nobody comes in between.
+    calm: bool,
     breach: Option<Breach>,
 }
 
@@ -100,7 +103,7 @@ impl<L: Library> Line<'_, '_, L> {
 
     /// Others come in between.
     fn others(&mut self) -> Result<(), Nothing> {
-        while self.town.one_in(3) {
+        while !self.calm && self.town.one_in(3) {
             let checked = match self.town.post.is_empty() || self.town.one_in(2) {
                 true => self.town.act(),
                 false => self.town.deliver(),
@@ -140,7 +143,10 @@ impl<L: Library> desk::Store for Line<'_, '_, L> {
         self.left = self.left.checked_sub(1).ok_or(Nothing)?;
         self.others()?;
         let lent = self.town.shape.room.min(reply.len());
-        let luck = self.town.random.below(20);
+        let luck = match self.calm {
+            true => 20,
+            false => self.town.random.below(20),
+        };
         if luck < 2 {
             if luck == 0 {
                 self.post(command, card, lent);
@@ -376,6 +382,7 @@ impl<L: Library> Town<'_, L> {
             who,
             left,
             known: std::mem::take(&mut guest.known),
+            calm: false,
             breach: None,
         };
         let outcome = match what {
@@ -394,5 +401,31 @@ impl<L: Library> Town<'_, L> {
             self.tell(|| Scene::Said(format!("desk {who}, a guest: {}", outcome.words())));
         }
         breach.map_or(Ok(()), Err)
+    }
+
+    /// The end of a town of transactions: each guest starts again and recovers,
+    /// with nobody in between. No card then bears its mark, and nothing of its
+    /// log is due (rule 16.28).
+    pub(super) fn guests_finish(&mut self) -> Checked {
+        for mut guest in std::mem::take(&mut self.guests) {
+            let mut line = Line {
+                who: guest.desk.id(),
+                left: u64::MAX,
+                known: std::mem::take(&mut guest.known),
+                calm: true,
+                breach: None,
+                town: self,
+            };
+            guest.restart(&mut line, u64::MAX);
+            line.breach.map_or(Ok(()), Err)?;
+            let desk = guest.desk.id().desk;
+            let due = !steps::all_due(guest.log.bytes()).is_empty();
+            let marked = self.store.cards.iter().any(|card| card.mark.desk == desk);
+            let made = &mut self.tally.made;
+            made.hold(Check::StepsEnd, !due && !marked, || {
+                format!("desk {desk}, a guest: due: {due}, marked: {marked}")
+            })?;
+        }
+        Ok(())
     }
 }

@@ -793,7 +793,7 @@ impl<L: Library> Town<'_, L> {
             self.steps.books[book].former = None;
             (0..self.shape.cards).try_for_each(|card| self.finish_card(book, card))?;
         }
-        Ok(())
+        self.guests_finish()
     }
 
     fn finish_card(&mut self, book: usize, card: usize) -> Checked {
