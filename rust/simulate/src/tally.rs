@@ -20,6 +20,7 @@ crate::named! {
         Recover "a desk recovers",
         Manage "a lock manager looks after its queue",
         Odd "nonsense is sent",
+        Transact "a desk works on a log by the steps",
     }
 }
 
@@ -39,6 +40,12 @@ crate::named! {
         LateByLease "it sends late commands all the same",
         KeptOut "and the guard keeps them out",
         QueueLost "a lock manager loses its queue",
+        CutOff "lock managers are cut off from some of the desks",
+        CutMessage "a message between a desk and a manager is lost by that",
+        AskedNone "a desk asks no lock manager at all",
+        TwoHold "two desks come to hold a card against each other, at two managers",
+        TwoSend "one of the two sends a command",
+        TwoDecided "and the guard keeps it out",
         Denied "an ask is denied",
         Upgrade "a shared desk upgrades",
         UpgradeDenied "an upgrade is denied",
@@ -53,6 +60,12 @@ crate::named! {
         RecoveryRefused "the guard refuses a write of recovery",
         Abandoned "a transaction is given up",
         FullLog "a log is full",
+        TakenOver "a desk takes over the log of one that is down",
+        Committed "a transaction is committed",
+        CommittedSeveral "several cards are committed at once",
+        RecoveredMarked "a recovery on cards that bear the mark",
+        BegunAgain "a log begins again",
+        NotBegunAgain "a log does not, since something is due",
         DamagedImage "a damaged image",
         DamagedQueue "a damaged queue",
         DamagedLog "a damaged log",
@@ -98,6 +111,7 @@ crate::named! {
         LogCheck "log, check",
         Recover "recovery",
         Make "new image",
+        NextStep "next step",
     }
 }
 
@@ -121,6 +135,7 @@ impl Operation {
             Operation::LogCheck => &[0, 23],
             Operation::Recover => &[0, 1, 2, 3, 5, 7, 9, 17, 23],
             Operation::Make => &[0, 14],
+            Operation::NextStep => &[0, 1, 2, 3, 4, 5, 6, 7, 8],
         }
     }
 }

@@ -2,6 +2,7 @@
 //! `docs/RULES.md`. Nothing here calls the library, and nothing looks at an
 //! image but to compare it with the bytes that the rules give.
 
+pub mod atomic;
 pub mod desk;
 pub mod formed;
 pub mod history;
@@ -10,6 +11,7 @@ pub mod log;
 pub mod queue;
 pub mod recovery;
 pub mod runs;
+pub mod steps;
 pub mod store;
 pub mod texts;
 pub mod versions;
@@ -69,6 +71,16 @@ crate::named! {
         Recovered "11.21: the texts of the committed transactions, after recovery",
         RecoveryNumber "11.19: recovery's number and line",
         Twice "11.21: a second recovery leaves the same texts",
+        OwnQueue "7.16, 10.23: a queue is by its own accepted requests alone",
+        InItsMode "10.8: an ask and a command carry a pair in the mode in which it was proposed",
+        Heard "16.24: what a desk has seen of a card",
+        NextStep "16.25: the next step for a card",
+        BeginAgain "16.27: a log begins again where nothing is due",
+        Meant "16.11: a card has the texts that are meant",
+        MeantCurrent "16.19: a translation is current where it is meant to be",
+        ReadsMeant "16.12: an accepted read shows the text that is meant",
+        ReadsCurrent "16.20: a translation is read where it is meant to be current, and else gets 6",
+        StepsEnd "16.28: the steps end, with no mark left and nothing due",
     }
 }
 

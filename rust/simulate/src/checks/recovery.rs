@@ -15,7 +15,7 @@ fn pair_of(card: u16, s: &[u64], x: &[u64]) -> Pair {
 }
 
 /// The text of a card and side as the image holds it (rules 2.4 and 2.5).
-fn text_in(image: &[u8], cards: usize, room: usize, card: usize, side: usize) -> &[u8] {
+pub fn text_in(image: &[u8], cards: usize, room: usize, card: usize, side: usize) -> &[u8] {
     let at = 16 + 32 * card + 28 + 2 * side;
     let length = usize::from(image[at]) + 256 * usize::from(image[at + 1]);
     let body = 16 + 32 * cards + (2 * card + side) * room;

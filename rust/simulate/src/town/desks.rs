@@ -6,6 +6,7 @@ use second::{CommandFields, Format, Mark, Pair};
 use story::Scene;
 
 use super::post::Body;
+use super::voters::Vote;
 use super::{Shape, Town};
 use crate::checks::desk::shown;
 use crate::checks::log::Update;
@@ -39,10 +40,10 @@ pub struct AtCard {
     pub stands: bool,
     /// See [`AtCard::stands`].
     pub holds: bool,
+    /// What it has at each lock manager.
+    pub votes: Vec<Vote>,
     /// What it holds of the card's texts.
     pub held: Held,
-    /// How many entries the queue had accepted when it was last denied.
-    pub denied: Option<u64>,
 }
 
 impl AtCard {
@@ -95,6 +96,7 @@ impl Desk {
         };
         let at = AtCard {
             held,
+            votes: vec![Vote::default(); shape.managers],
             ..AtCard::default()
         };
         Desk {
@@ -156,6 +158,9 @@ impl<L: Library> Town<'_, L> {
     }
 
     fn work(&mut self, at: usize, card: usize) -> Checked {
+        if self.shape.transacting && (!self.one_in(4) || self.busy(at, card)) {
+            return self.tend(at);
+        }
         let waits = self.waits(at, card);
         match self.random.below(20) {
             0..=1 => self.ask(at, card),
@@ -218,7 +223,7 @@ impl<L: Library> Town<'_, L> {
     fn leave(&mut self, at: usize, card: usize) -> Checked {
         let have = &mut self.desks[at].at[card];
         (have.stands, have.holds, have.open) = (false, false, [None; 2]);
-        self.send(at, card, Body::Leave);
+        self.leave_voters(at, card);
         Ok(())
     }
 
@@ -229,19 +234,14 @@ impl<L: Library> Town<'_, L> {
         let have = &self.desks[at].at[card];
         let standing = have.open[usize::from(mode) - 1].filter(|_| have.stands && !have.holds);
         if let Some(pair) = standing {
-            self.send(at, card, Body::Ask(mode, pair, None));
+            self.ask_again(at, card, mode, pair);
             return Ok(());
         }
         let Some(pair) = self.propose(at, card, mode)? else {
             return Ok(());
         };
-        let denied = self.desks[at].at[card].denied.take();
         let mode = if self.one_in(40) { 3 } else { mode };
-        self.send(
-            at,
-            card,
-            Body::Ask(mode, pair, denied.filter(|_| mode != 3)),
-        );
+        self.ask_voters(at, card, mode, pair);
         Ok(())
     }
 
@@ -295,6 +295,7 @@ impl<L: Library> Town<'_, L> {
         }
         self.wrong_command(&mut fields, update);
         self.in_version(at, &mut fields, write.is_some());
+        self.plain_marks(at, card, &mut fields);
         let payload = match write {
             Some(write) => write.text.clone(),
             None => self.text_of(at, card, &fields),
@@ -304,6 +305,7 @@ impl<L: Library> Town<'_, L> {
         self.malform(fields.format, &mut bytes);
         let line = write.map(|write| write.line);
         let card = usize::from(fields.card).min(self.shape.cards - 1);
+        let line = line.or_else(|| self.look_sent(at, card));
         self.send(at, card, Body::command(fields.format, bytes, lent, line));
         Ok(())
     }
@@ -404,10 +406,9 @@ impl<L: Library> Town<'_, L> {
     /// there, now and then another one.
     pub(super) fn hears(&mut self, desk: usize, who: DeskId, card: usize, told: Body) -> Checked {
         let elsewhere = self.one_in(12);
-        let at = if elsewhere {
-            self.random.index(self.desks.len())
-        } else {
-            desk
+        let at = match elsewhere {
+            true => self.random.index(self.desks.len()),
+            false => desk,
         };
         let meant = at == desk && self.desks[at].who == who;
         if !self.desks[at].is_up() || !meant && !elsewhere {
@@ -415,20 +416,24 @@ impl<L: Library> Town<'_, L> {
         }
         self.tally.fault_if(!meant, Fault::Elsewhere);
         let pair = match &told {
-            Body::Stands(_, _, _, pair, _) => *pair,
+            Body::Stands(_, _, _, _, pair, _) => *pair,
             Body::Told(_, _, answer, _) => Pair::new(answer.fields[0], answer.fields[1]),
             _ => Pair::default(),
         };
         self.learn(at, card, pair)?;
+        if let (true, Body::Told(_, id, answer, _)) = (meant, &told) {
+            self.followed(at, card, *id, answer)?;
+        }
         match told {
             _ if !meant => {}
-            Body::Stands(mode, number, holds, _, accepted) => {
-                let have = &mut self.desks[at].at[card];
-                have.denied = (number == 11).then_some(accepted);
-                (have.stands, have.holds) = (matches!(number, 0 | 12) && mode != 0, holds);
-                if let (11, 1 | 2) = (number, mode) {
-                    have.open[usize::from(mode) - 1] = None;
-                }
+            Body::Stands(manager, mode, number, holds, _, accepted) => {
+                let vote = Vote {
+                    asked: true,
+                    stands: matches!(number, 0 | 12) && mode != 0,
+                    holds,
+                    denied: (number == 11).then_some(accepted),
+                };
+                self.voted(at, card, (manager, mode), vote);
             }
             Body::Told(_, _, answer, _) if answer.number == 17 && self.one_in(2) => {
                 // Someone sets the clock right, and starts the desk again.
@@ -467,6 +472,7 @@ impl<L: Library> Town<'_, L> {
         }
         if answer.number == 3 {
             (have.open, have.holds) = ([None; 2], false);
+            have.votes.iter_mut().for_each(|vote| vote.holds = false);
         }
         if answer.number == 0 && (act == 1 || act == 2 && own) {
             let held = usize::from(act) - 1;

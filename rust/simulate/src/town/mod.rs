@@ -1,4 +1,4 @@
-//! A town: desks, cards, a lock queue for each card, one store, a log for each
+//! A town: desks, cards, lock queues for each card, one store, a log for each
 //! desk, and the post between them. A seed draws every step of it.
 
 mod desks;
@@ -10,7 +10,9 @@ mod odd;
 mod post;
 mod runs;
 mod texts;
+mod transactions;
 mod versions;
+mod voters;
 
 use std::collections::HashSet;
 
@@ -20,6 +22,7 @@ use second::{Format, Pair};
 use story::{Scene, Standing};
 
 use crate::checks::desk::{learnt, proposed, Proposal, Stamps};
+use crate::checks::formed::formed_as;
 use crate::checks::store::{Store, AHEAD};
 use crate::checks::{versions::MOST, Check, Checked};
 use crate::library::{Library, Queue};
@@ -33,7 +36,9 @@ pub use guests::Outcome;
 use history::Engine;
 use manager::Keeper;
 use post::Message;
+use transactions::Steps;
 pub use versions::Versions;
+use voters::Cut;
 
 /// How large a town is.
 #[derive(Clone, Copy, Debug, PartialEq, Eq)]
@@ -65,6 +70,17 @@ pub struct Shape {
     pub careless: bool,
     /// How many desks of the crate `lupaniele` there are beside.
     pub guests: usize,
+    /// How many lock managers there are, each with a queue for every card.
+    pub managers: usize,
+    /// Whether a desk holds the lock where most managers granted it, or where
+    /// all did that it asked.
+    pub majority: bool,
+    /// Whether desks keep section 16, and change several cards at once by its
+    /// steps.
+    pub transacting: bool,
+    /// With how many messages the post is so full that one arrives next, or is
+    /// lost.
+    pub crowd: usize,
 }
 
 impl Shape {
@@ -84,6 +100,10 @@ impl Shape {
             worn: false,
             careless: false,
             guests: 0,
+            managers: random.pick(&[1, 1, 2, 3, 4, 5]),
+            majority: random.one_in(2),
+            transacting: random.one_in(3),
+            crowd: random.pick(&[10, 20, 60]),
         }
     }
 
@@ -104,11 +124,12 @@ impl Shape {
         }
     }
 
-    /// The same, in version 1 where there are guests.
-    fn for_guests(self) -> Shape {
-        let versions = match self.guests {
-            0 => self.versions,
-            _ => Versions::One,
+    /// Guests, and desks that work by the steps of section 16, have logs, and
+    /// recovery is of version 1 (rule 15.13).
+    fn in_its_versions(self) -> Shape {
+        let versions = match self.guests > 0 || self.transacting {
+            true => Versions::One,
+            false => self.versions,
         };
         Shape { versions, ..self }
     }
@@ -128,6 +149,10 @@ impl Shape {
             worn: true,
             careless: false,
             guests: 0,
+            managers: 1,
+            majority: false,
+            transacting: false,
+            crowd: 60,
         }
     }
 
@@ -146,6 +171,10 @@ impl Shape {
             worn: false,
             careless: false,
             guests: 0,
+            managers: 1,
+            majority: false,
+            transacting: false,
+            crowd: 60,
         }
     }
 }
@@ -170,6 +199,9 @@ pub struct Town<'a, L: Library> {
     now: u64,
     reply: Vec<u8>,
     lent: Vec<u8>,
+    proposed: HashSet<(usize, u8, Pair)>,
+    cut: Option<Cut>,
+    steps: Steps,
     /// How often each thing became of what guests did.
     pub outcomes: [u64; Outcome::ALL.len()],
     /// What happened, where it is wanted.
@@ -185,21 +217,19 @@ impl<'a, L: Library> Town<'a, L> {
         shape: Shape,
         rule: Option<Rule>,
     ) -> Checked<Town<'a, L>> {
-        let random = Random::new(seed);
-        let shape = shape.for_guests();
-        let (store, image) = opened(library, tally, shape, rule.is_none())?;
+        let shape = shape.in_its_versions();
+        let by_rules = rule.is_none_or(Rule::of_transactions);
+        let (store, image) = opened(library, tally, shape, by_rules)?;
         let history = store.unheard.as_ref().map(|_| Engine::nothing());
         let mut town = Town {
             library,
             tally,
-            random,
+            random: Random::new(seed),
             shape,
             rule,
             image,
             store,
-            keepers: (0..shape.cards)
-                .map(|_| Keeper::new(shape.places))
-                .collect(),
+            keepers: vec![Keeper::new(shape.places); shape.cards * shape.managers],
             stamps: vec![Stamps::default(); shape.cards + 1],
             desks: Vec::new(),
             guests: Vec::new(),
@@ -210,6 +240,9 @@ impl<'a, L: Library> Town<'a, L> {
             now: 0,
             reply: Vec::new(),
             lent: (0..shape.room.max(64)).map(|at| at as u8 ^ 0xa5).collect(),
+            proposed: HashSet::new(),
+            cut: None,
+            steps: Steps::new(shape, rule),
             outcomes: [0; Outcome::ALL.len()],
             scenes: None,
         };
@@ -226,11 +259,12 @@ impl<'a, L: Library> Town<'a, L> {
             };
             self.desks.push(Desk::new(who, self.shape));
             self.knew_something(number - 1);
+            self.steps.starts(number - 1, who, self.shape);
         }
         let first = self.shape.desks + 1;
         let numbers = first..first + self.shape.guests;
         self.guests = numbers
-            .filter_map(|number| Guest::new(number as u16))
+            .filter_map(|number| Guest::new(number as u16, self.shape.cards))
             .collect();
         if self.rule == Some(Rule::UsedQueue) {
             for keeper in &mut self.keepers {
@@ -238,7 +272,9 @@ impl<'a, L: Library> Town<'a, L> {
                     let desk = 1 + random.below(self.shape.desks as u64);
                     random.below(2) << 32 | desk << 16
                 };
-                keeper.queue.kept = [0, 0, stamp(&mut self.random)];
+                let x = stamp(&mut self.random);
+                keeper.queue.kept = [0, 0, x];
+                keeper.listed.largest = Pair::new(0, x);
             }
         }
     }
@@ -250,15 +286,25 @@ impl<'a, L: Library> Town<'a, L> {
             self.now += 1;
             self.tally.steps += 1;
             self.step()?;
+            if self.halved().is_some() {
+                return Ok(());
+            }
         }
         let crossed = self.store.crossed > 0;
         self.tally.fault_if(crossed, Fault::SessionAcross);
-        Ok(())
+        self.finish()
+    }
+
+    /// The first check of the store in which a commit is one step that did not
+    /// hold, where a rule is broken.
+    pub fn halved(&self) -> Option<Check> {
+        self.steps.halved()
     }
 
     /// The premise and isolation are to hold, though a rule is broken.
     pub fn strict(&mut self) {
         self.store.by_rules = true;
+        self.steps.strict();
     }
 
     /// How many steps were made.
@@ -280,8 +326,11 @@ impl<'a, L: Library> Town<'a, L> {
         if self.shape.worn && self.store.cards[0].edition < u16::MAX {
             return self.wear();
         }
-        if self.post.len() > 60 {
-            return self.lose();
+        if self.post.len() > self.shape.crowd {
+            return match self.one_in(4) {
+                true => self.lose(),
+                false => self.deliver(),
+            };
         }
         if !self.guests.is_empty() && self.random.one_in(4) {
             return self.guest();
@@ -339,6 +388,11 @@ impl<'a, L: Library> Town<'a, L> {
         command: &[u8],
         lent: usize,
     ) -> Checked<crate::library::Answer> {
+        let sent =
+            formed_as(format, command).filter(|sent| usize::from(sent.card) < self.shape.cards);
+        if let Some(sent) = &sent {
+            self.in_its_mode(sent.card.into(), sent.mode, sent.update)?;
+        }
         self.reply.clear();
         self.reply.extend_from_slice(&self.lent[..lent]);
         let before = self.scenes.is_some().then(|| self.image.clone());
@@ -360,6 +414,9 @@ impl<'a, L: Library> Town<'a, L> {
         let buffers = (&self.lent[..lent], &self.reply[..]);
         self.store
             .judged_as(made, format, command, buffers, &answer, &self.image)?;
+        if let Some(sent) = &sent {
+            self.beside_judged(sent, &answer)?;
+        }
         self.hear()?;
         self.current_drops(format, command, &answer)?;
         self.still_sound()?;
@@ -437,7 +494,7 @@ impl<'a, L: Library> Town<'a, L> {
         Ok(Some(pair))
     }
 
-    /// A proposal as a desk makes it that breaks a rule.
+    /// A proposal is made; a desk that breaks a rule makes another one of it.
     fn proposed_wrong(
         &mut self,
         at: usize,
@@ -445,6 +502,7 @@ impl<'a, L: Library> Town<'a, L> {
         known: [u64; 2],
         pair: Pair,
     ) -> Pair {
+        self.proposed.insert((card, mode, pair));
         let who = u64::from(self.desks[at].who.number());
         let earlier = |random: &mut Random, below: u64| random.below((below >> 32) + 1) << 32;
         match mode {

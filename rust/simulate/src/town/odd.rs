@@ -24,9 +24,9 @@ const OVER: Lease = Lease {
 impl<L: Library> Town<'_, L> {
     pub(super) fn odd(&mut self) -> Checked {
         self.tally.step(Step::Odd);
-        match self.random.below(8) {
-            _ if self.one_in(100) => self.long_history(),
-            _ if self.one_in(16) => self.any_history(),
+        match self.random.below(9) {
+            _ if self.one_in(60) => self.long_history(),
+            _ if self.one_in(6) => self.any_history(),
             0 if self.store.format == Format::V2 => self.damaged_image2(),
             0 => self.damaged_image(),
             1 => self.damaged_queue(),
@@ -35,6 +35,7 @@ impl<L: Library> Town<'_, L> {
             4 => self.odd_shown(),
             5 => self.odd_conversion(),
             6 => self.odd_image2(),
+            7 => self.odd_step(),
             _ => self.odd_image(),
         }
     }
@@ -83,8 +84,8 @@ impl<L: Library> Town<'_, L> {
 
     /// A copy of a queue that is bad: every request gets 10.
     fn damaged_queue(&mut self) -> Checked {
-        let card = self.card();
-        let mut queue = self.keepers[card].queue;
+        let at = self.random.index(self.keepers.len());
+        let mut queue = self.keepers[at].queue;
         match self.random.below(4) {
             0 => queue.places = self.random.pick(&[0, 33]),
             1 => queue.kept[0] = queue.places + 1,

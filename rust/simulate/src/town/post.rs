@@ -28,19 +28,20 @@ pub struct Message {
 /// What a message says.
 #[derive(Clone, Debug)]
 pub enum Body {
-    /// To a queue: a mode and a pair; and, if it was proposed right after a
+    /// To a manager: a mode and a pair; and, if it was proposed right after a
     /// denial, how many entries that queue had accepted at the denial.
-    Ask(u8, Pair, Option<u64>),
-    /// To a queue.
-    Leave,
+    Ask(usize, u8, Pair, Option<u64>),
+    /// To a manager.
+    Leave(usize),
     /// To the store: a command, the length of the reply buffer, and the line
-    /// of the log that it writes out.
+    /// of the log that it writes out; in a town of transactions which command
+    /// it is.
     Command(Vec<u8>, usize, Option<u64>),
     /// The same, of version 2.
     Command2(Vec<u8>, usize, Option<u64>),
-    /// To a desk, from a queue: mode, number, whether it holds the lock, the
+    /// To a desk, from a manager: mode, number, whether it holds the lock, the
     /// largest pair, and how many entries that queue has accepted.
-    Stands(u8, u8, bool, Pair, u64),
+    Stands(usize, u8, u8, bool, Pair, u64),
     /// To a desk, from the store: the act and the language, the line, the
     /// answer, the text.
     Told((u8, u8), Option<u64>, Answer, Vec<u8>),
@@ -89,6 +90,9 @@ impl<L: Library> Town<'_, L> {
 
     /// A message that is drawn from the post arrives.
     pub(super) fn deliver(&mut self) -> Checked {
+        if self.post.is_empty() {
+            return Ok(());
+        }
         self.tally.step(Step::Deliver);
         let at = self.random.index(self.post.len().min(self.shape.storm));
         let message = self.post.remove(at);
@@ -140,9 +144,14 @@ impl<L: Library> Town<'_, L> {
             body,
             ..
         } = message;
+        if self.cut_off(who, &body) {
+            return Ok(());
+        }
         match body {
-            Body::Ask(mode, pair, denied) => self.asks(desk, who, card, (mode, pair), denied),
-            Body::Leave => self.leaves(desk, who, card),
+            Body::Ask(manager, mode, pair, denied) => {
+                self.asks(desk, who, (card, manager), (mode, pair), denied)
+            }
+            Body::Leave(manager) => self.leaves(desk, who, (card, manager)),
             Body::Command(bytes, lent, line) => {
                 self.comes((desk, who, card), Format::V1, &bytes, (lent, line))
             }
@@ -209,10 +218,14 @@ impl<L: Library> Town<'_, L> {
         let accepted = answer.number == 0;
         self.tally
             .fault_if(self.desks[desk].who != who, Fault::Ghost);
-        let lapsed = self.keepers[card].lapsed.contains(&who.number());
+        let lapsed = self.lapsed(card, who.number());
         self.tally.fault_if(lapsed, Fault::LateByLease);
         self.tally
             .fault_if(lapsed && answer.number == 3, Fault::KeptOut);
+        let one_of_two = self.against(card).contains(&who.number());
+        self.tally.fault_if(one_of_two, Fault::TwoSend);
+        let decided = one_of_two && answer.number == 3;
+        self.tally.fault_if(decided, Fault::TwoDecided);
         if let Some(sent) = formed_as(format, bytes).filter(|_| accepted) {
             let opened = sent.verifier != sent.update;
             self.tally.fault_if(opened, Fault::Opened);

@@ -53,7 +53,9 @@ impl<L: Library> Town<'_, L> {
             Scene::Said(words)
         });
         let running = self.run_all(format, stream, commands)?;
-        self.answer_run(&taken, &running);
+        let last = last_shown(&taken, &running);
+        self.beside_run(&taken, &running, last)?;
+        self.answer_run(&taken, &running, last);
         self.hear()
     }
 
@@ -157,19 +159,32 @@ impl<L: Library> Town<'_, L> {
         Ok(!more && bytes == left)
     }
 
+    /// The commands of a run are by the rules of their desks, and the store in
+    /// which a commit is one step hears of each; of a read whose text is no longer
+    /// in the reply buffer it does not.
+    fn beside_run(&mut self, taken: &[Message], running: &Running, last: Option<usize>) -> Checked {
+        self.reply.clone_from(&running.reply);
+        for (at, (message, answer)) in taken.iter().zip(&running.answers).enumerate() {
+            let command = message.body.as_command().map(|command| command.1);
+            let sent = command.and_then(|bytes| formed_as(running.format, bytes));
+            let Some(sent) = sent.filter(|sent| usize::from(sent.card) < self.shape.cards) else {
+                continue;
+            };
+            self.in_its_mode(sent.card.into(), sent.mode, sent.update)?;
+            if last == Some(at) || answer.number != 0 || sent.reads().is_none() {
+                self.beside_heard(&sent, answer)?;
+            }
+        }
+        (0..self.shape.cards).try_for_each(|card| self.stands(card))
+    }
+
     /// The answers go back. Of all texts that were read only the last is still
     /// in the reply buffer.
-    fn answer_run(&mut self, taken: &[Message], running: &Running) {
+    fn answer_run(&mut self, taken: &[Message], running: &Running, last: Option<usize>) {
         let operation = match running.format {
             Format::V1 => Operation::Run,
             Format::V2 => Operation::Run2,
         };
-        let shown = |(message, answer): (&Message, &Answer)| {
-            let command = message.body.as_command().map(|command| command.1);
-            let sent = command.and_then(|bytes| formed_as(running.format, bytes));
-            answer.number == 0 && sent.is_some_and(|sent| sent.reads().is_some())
-        };
-        let last = taken.iter().zip(&running.answers).rposition(shown);
         for (at, (message, answer)) in taken.iter().zip(&running.answers).enumerate() {
             self.tally.number(operation, answer.number);
             let Some((format, bytes, line)) = message.body.as_command() else {
@@ -193,4 +208,14 @@ impl<L: Library> Town<'_, L> {
 fn commands(taken: &[Message]) -> Vec<&[u8]> {
     let bytes = taken.iter().filter_map(|message| message.body.as_command());
     bytes.map(|(_, bytes, _)| bytes).collect()
+}
+
+/// The last of the commands whose text is shown.
+fn last_shown(taken: &[Message], running: &Running) -> Option<usize> {
+    let shown = |(message, answer): (&Message, &Answer)| {
+        let command = message.body.as_command().map(|command| command.1);
+        let sent = command.and_then(|bytes| formed_as(running.format, bytes));
+        answer.number == 0 && sent.is_some_and(|sent| sent.reads().is_some())
+    };
+    taken.iter().zip(&running.answers).rposition(shown)
 }
