@@ -99,13 +99,32 @@ pub trait Library {
     fn append(&mut self, log: &mut [u8], kind: u8, body: &[u8], stores: u64) -> u8;
     /// Recovery: the number and the line.
     fn recover(&mut self, log: &[u8], image: &mut [u8], s: &[u64], x: &[u64]) -> (u8, u64);
+
     /// The next step of a desk for a card (rule 16.25): the step, the line that
     /// is written and the transaction that is noted.
-    fn next_step(&mut self, log: &[u8], place: (u16, u16), going: bool, seen: &[u16; 4]) -> Next;
+    fn next_step(
+        &mut self,
+        log: &[u8],
+        (desk, card): (u16, u16),
+        going: bool,
+        seen: &[u16; 4],
+    ) -> Next {
+        let (mut line, mut noted) = (UNWRITTEN, UNWRITTEN);
+        let step = raw::next_step(log, desk, card, going, seen, &mut line, &mut noted);
+        (step, line, noted)
+    }
+
     /// What the answer to a step tells (rule 16.24): known, held, mark, reach.
-    fn heard(&mut self, step: (u8, u8), number: u8, mark: u16) -> [u16; 4];
+    fn heard(&mut self, (step, line): (u8, u8), number: u8, mark: u16) -> [u16; 4] {
+        let mut seen = [0x5a5a; 4];
+        raw::heard(step, line, number, mark, &mut seen);
+        seen
+    }
+
     /// A log begins again where nothing is due (rule 16.27).
-    fn begin_again(&mut self, log: &mut [u8]) -> bool;
+    fn begin_again(&mut self, log: &mut [u8]) -> bool {
+        raw::log_begin_again(log)
+    }
 }
 
 /// A step of a transaction, the line that it writes, the transaction that it
@@ -208,27 +227,5 @@ impl Library for Proved {
         let mut line = UNWRITTEN;
         let number = raw::recover(log, image, s, x, &mut line);
         (number, line)
-    }
-
-    fn next_step(
-        &mut self,
-        log: &[u8],
-        (desk, card): (u16, u16),
-        going: bool,
-        seen: &[u16; 4],
-    ) -> Next {
-        let (mut line, mut noted) = (UNWRITTEN, UNWRITTEN);
-        let step = raw::next_step(log, desk, card, going, seen, &mut line, &mut noted);
-        (step, line, noted)
-    }
-
-    fn heard(&mut self, (step, line): (u8, u8), number: u8, mark: u16) -> [u16; 4] {
-        let mut seen = [0x5a5a; 4];
-        raw::heard(step, line, number, mark, &mut seen);
-        seen
-    }
-
-    fn begin_again(&mut self, log: &mut [u8]) -> bool {
-        raw::log_begin_again(log)
     }
 }
