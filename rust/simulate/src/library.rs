@@ -168,6 +168,7 @@ pub trait Library {
 
     /// Recovery: the number and the line.
     fn recover(&mut self, log: &[u8], image: &mut [u8], s: &[u64], x: &[u64]) -> (u8, u64);
+
     /// The next step of a desk for a card (rule 16.25): the step, the line that
     /// is written and the transaction that is noted.
     fn next_step(

@@ -75,8 +75,7 @@ impl Atomic {
     }
 
     /// A well-formed command for a card of the store was answered. A read that
-    /// expects no mark shows what is meant; an accepted write of somebody else,
-    /// one without marks, is meant from now on.
+    /// expects no mark shows what is meant, and a write may be meant from now on.
     pub fn judged(
         &mut self,
         made: &mut Made,
@@ -99,11 +98,17 @@ impl Atomic {
                 format!("card {at}: meant to be current: {current}, and the number is {number}")
             })?;
         }
-        let plain = plain && sent.next.desk == 0 && !self.recovering;
-        if let (Some(language), 0, true) = (sent.writes(), number, plain) {
-            self.cards[at].write(language, sent.payload);
-        }
+        self.wrote(sent, number);
         Ok(())
+    }
+
+    /// A command got a number: an accepted write of somebody else, one without
+    /// marks, is meant from now on.
+    pub fn wrote(&mut self, sent: &Sent, number: u8) {
+        let plain = sent.expected.desk == 0 && sent.next.desk == 0 && !self.recovering;
+        if let (Some(language), 0, true) = (sent.writes(), number, plain) {
+            self.cards[usize::from(sent.card)].write(language, sent.payload);
+        }
     }
 
     /// A desk's log is now this. If its transaction is committed by that, all
