@@ -12,6 +12,7 @@ use lib.ListN.{getD, replicate}
 use Rattle.formats.specs.Format.{V1}
 use Rattle.lists.specs.Le.{le, toLe}
 use Rattle.lists.specs.Parts.{part, splice, tabulate, concatMap, every, zeros, Bytes}
+use Rattle.lists.specs.Search.{none}
 use Rattle.lists.specs.Table.{all, allFrom, listed}
 use Rattle.stamps.specs.Stamp.{stamp, stampValid, shared, exclusive}
 use Rattle.commands.specs.Command.{wellFormed}
@@ -23,7 +24,7 @@ use Rattle.image.specs.Layout.{shapeOk}
 use Rattle.image.specs.Bytes.{header, entryBytes, pad, readEntry, entryAt}
 use Rattle.image.specs.Image.{bodies, encode, cardAt, decode, tailZero, translationSound, cardSound, headerSound, sound, fresh}
 use Rattle.store_model.specs.Serve.{stepped, serveBy, serve}
-use Rattle.store_model.specs.Words.{premise, commandsIn}
+use Rattle.store_model.specs.Words.{Event, eventOf, premise, commandsIn, intrudes}
 use Rattle.store_model.proofs.ByTest.{bytes-by, sent-bytes}
 use Rattle.redo_log.specs.Log.{shaped, lastBegun, opened, follows, total, startAt, recordAt, recordOk, goodLog}
 use Rattle.redo_log.specs.Append.{stored, puts, lineBytes, stores, appended}
@@ -35,10 +36,10 @@ use Rattle.lock_queue_claims.specs.Traces.{queueAfter, granted}
 use Rattle.lock_queue.specs.declared.Waiting.{Waiting}
 use Rattle.desk_proposals.specs.Propose.{learnt, nextT, pairFor, proposed}
 use Rattle.store_model.specs.Cases.{writeOriginal, text205, text401, long}
-use Rattle.desk_system.specs.System.{Move, begin, propose, atQueue, send, recoverWith, isMade, knows, allowed, stepTo, systemAfter, byRules, AllFit}
+use Rattle.desk_system.specs.System.{Move, Made, begin, propose, atQueue, send, recoverWith, isMade, knows, allowed, stepTo, systemAfter, byRules, AllFit}
 use Rattle.desk_system.specs.Claims.{ByRules, finally, StoreOf}
-use Rattle.desk_system.specs.Trials.{deskOne, deskThree, twoPlaces, blankLogs, longStory, committed, pairsFor, send2}
-use Rattle.desk_system.proofs.Claims.{premise-kept, store-follows, desks-valid, recovery-allowed}
+use Rattle.desk_system.specs.Trials.{deskOne, deskThree, twoPlaces, blankLogs, readUnder, longStory, committed, pairsFor, send2}
+use Rattle.desk_system.proofs.Claims.{premise-kept, desks-isolated, store-follows, stamps-once, desks-valid, recovery-allowed}
 use Rattle.desk_system.specs.Progress.{ownEntry, Listening, hears, makes, knownBy, heardIn, acceptedFor, ownMade}
 use Rattle.desk_system.proofs.Stamps.{stamps-last, guard-spends}
 use Rattle.desk_system.proofs.Progress.{own-pairs}
@@ -236,3 +237,59 @@ unfolding ownMade
 never-spent e =
     let s = guard-spends V1 1 16 twoPlaces blankLogs unruled shape unruled-fits 0 2 65535 exclusive listens (omega arith) (omega arith) heard-unruled e in
     absurd (omega (arith, s .raised, one-accepted))
+
+-- ---- stamps are proposed once (rule 10.13): by one desk again, by another that knows nothing, and for another card
+
+abbrev fourMade : List Move
+fourMade = begin deskOne ∷ begin deskThree ∷ propose deskOne 0 exclusive ∷ propose deskOne 7 exclusive ∷ propose deskThree 0 exclusive ∷ propose deskOne 0 exclusive ∷ []
+
+four-rules : ByRules V1 1 16 twoPlaces blankLogs fourMade
+unfolding byRules stepTo proposed pairFor nextT learnt
+four-rules = record { shape = shape; fits = (tt, (tt, (tt, (tt, (tt, (tt, tt)))))); rules = refl }
+
+abbrev madeFor : ℕ → ℕ → Made
+madeFor card x = record { card = card; mode = exclusive; pair = record { s = 0; x = x } }
+
+never-again : stamp 1 1 0 ≡ stamp 0 1 0 → ⊥
+unfolding systemAfter stepTo proposed pairFor nextT learnt
+never-again =
+    stamps-once V1 1 16 twoPlaces blankLogs fourMade four-rules [] (madeFor 0 (stamp 1 1 0)) (madeFor 0 (stamp 0 3 0) ∷ madeFor 7 (stamp 0 1 0) ∷ [])
+    (madeFor 0 (stamp 0 1 0)) [] refl refl refl refl
+
+never-both : stamp 0 3 0 ≡ stamp 0 1 0 → ⊥
+unfolding systemAfter stepTo proposed pairFor nextT learnt
+never-both =
+    stamps-once V1 1 16 twoPlaces blankLogs fourMade four-rules (madeFor 0 (stamp 1 1 0) ∷ []) (madeFor 0 (stamp 0 3 0)) (madeFor 7 (stamp 0 1 0) ∷ [])
+    (madeFor 0 (stamp 0 1 0)) [] refl refl refl refl
+
+-- ---- sessions are isolated (rule 10.12): desk 1 writes twice, with nothing in between but a read of desk 3 that is stale
+
+abbrev between : List Move
+between =
+    begin deskOne
+    ∷ begin deskThree
+    ∷ propose deskOne 0 exclusive
+    ∷ propose deskThree 0 shared
+    ∷ send (writeOriginal 0 (stamp 0 1 0) text205)
+    ∷ send (readUnder (stamp 0 3 0) 0)
+    ∷ send (writeOriginal 0 (stamp 0 1 0) text205)
+    ∷ []
+
+between-rules : ByRules V1 1 16 twoPlaces blankLogs between
+unfolding byRules stepTo proposed pairFor nextT learnt commandBytes formed payload fieldsOf wellFormed all allFrom le toLe part zeros
+between-rules =
+    record {
+      shape = shape;
+      fits = (tt, (tt, (tt, (tt, (sent-bytes (writeOriginal 0 (stamp 0 1 0) text205) tt tt, (sent-bytes (readUnder (stamp 0 3 0) 0) tt tt, (sent-bytes (writeOriginal 0 (stamp 0 1 0) text205) tt tt, tt)))))));
+      rules = refl;
+    }
+
+-- The event at a place of its log, latest first.
+abbrev eventAt : ℕ → Event
+eventAt i = getD (finally V1 1 16 twoPlaces blankLogs between .log) i (eventOf V1 (readUnder 0 0) (serve V1 [] [] []))
+
+nobody-between : none (intrudes 0 (eventAt 0)) (eventAt 1 ∷ []) ≡ true
+unfolding systemAfter stepTo proposed pairFor nextT learnt serve serveBy stepped sound headerSound cardSound translationSound tailZero decode cardAt entryAt readEntry encode bodies pad
+    entryBytes header shapeOk fresh replied raise entrySound commandBytes formed payload fieldsOf wellFormed all allFrom le toLe part splice tabulate
+    concatMap every zeros
+nobody-between = desks-isolated V1 1 16 twoPlaces blankLogs between between-rules 0 [] (eventAt 0) (eventAt 1 ∷ []) (eventAt 2) [] refl refl refl refl
