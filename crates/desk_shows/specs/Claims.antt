@@ -10,6 +10,7 @@ use Rattle.lists.specs.Table.{noRow, applies, earlier, listed}
 use Rattle.desk_shows.specs.Show.{Text, heldText, of, deskRows, shownNumber, shownPart}
 use Rattle.desk_shows.specs.declared.Asked.{Asked}
 use Rattle.desk_shows.specs.declared.Asked.the-variants.{Original, Translation}
+use Rattle.numbers.specs.Numbers.{EDITION-WRONG, REPLY-SHORT}
 
 -- Each number exactly when its row applies and none above it does, and 0 exactly when no row applies.
 pub record ShownExactly (o t : Text) (edition from : ℕ) (asked : Asked) : Type 0 where
@@ -43,7 +44,7 @@ pub record Independent (asked : Asked) (o t o' t' : Text) (edition from : ℕ) :
 
 -- Rule 5.1: what a desk that asks for its text may be answered, besides 0.
 abbrev pub shownNumbers : List ℕ
-shownNumbers = 6 ∷ 8 ∷ []
+shownNumbers = EDITION-WRONG ∷ REPLY-SHORT ∷ []
 
 pub record DeskClaims : Type 0 where
   pub exactly : (o t : Text) (edition from : ℕ) (asked : Asked) → ShownExactly o t edition from asked

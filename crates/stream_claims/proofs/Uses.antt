@@ -4,7 +4,7 @@ use Prim.Native.Nat.{_^_, _≤_, _<_}
 use native.Mathlib.Omega.{arith}
 use mathlib.Core.Path.{_≡_, refl}
 use mathlib.Core.List.{[], _∷_, _++_}
-use lib.ListN.{length, drop, replicate}
+use lib.ListN.{drop, replicate}
 use Rattle.lists.specs.Le.{le, toLe}
 use Rattle.lists.proofs.Bytes.{Bytes-nil, Bytes-cons}
 use Rattle.lists.proofs.Claims.{number-comes-back, bytes-come-back, number-fits}
@@ -53,5 +53,5 @@ digits-largest = bytes-come-back (255 ∷ []) (Bytes-cons [] (omega arith) Bytes
 fits-none : le [] < 256 ^ 0
 fits-none = number-fits [] Bytes-nil
 
-fits-largest : le (255 ∷ []) < 256 ^ length (255 ∷ [])
+fits-largest : le (255 ∷ []) < 256 ^ 1
 fits-largest = number-fits (255 ∷ []) (Bytes-cons [] (omega arith) Bytes-nil)

@@ -14,7 +14,7 @@ use Rattle.lists.specs.Parts.{part, splice, tabulate, concatMap, every, zeros}
 use Rattle.lists.specs.Le.{le, toLe}
 use Rattle.lists.specs.Table.{all, allFrom}
 use Rattle.stamps.specs.Stamp.{stamp, exclusive, noMark}
-use Rattle.commands.specs.Command.{Language, original, wellFormed}
+use Rattle.commands.specs.Command.{original, wellFormed}
 use Rattle.commands.specs.Bytes.{fieldsOf, payload, formed, commandBytes}
 use Rattle.guard.specs.Entry.{entrySound}
 use Rattle.guard.specs.Judge.{raise}
@@ -29,7 +29,6 @@ use Rattle.store_model.proofs.ByTest.{bytes-by, sent-bytes}
 use Rattle.redo_log.specs.Log.{shaped, lastBegun, opened, follows, total, startAt, recordAt, recordOk, goodLog, records}
 use Rattle.redo_log.specs.Append.{stored, puts, lineBytes, stores, appended}
 use Rattle.redo_log_claims.specs.Cases.{beginOf, commitOf, emptyLog}
-use Rattle.redo_recovery_model.specs.Recovery.{Pairs}
 use Rattle.transactions.specs.System.{OneDesk, Step, other, order, arrive, append, crash, recover, renew, oneDeskOpening, withUpdates, outcome, afterStep, afterSteps, lawfulAll}
 use Rattle.transactions.specs.Claims.{AllSteps, Clean, Blank, Moment, ShowsAll}
 use Rattle.transactions.specs.Desks.{Desks, outside, own, desksOpening, afterDeskStep, afterDeskSteps, lawfulDeskSteps, DesksMoment, DesksOnlyThen}

@@ -2,10 +2,9 @@
 -- under the mark with both lines due, a reader who is refused. A stricter hypothesis or a sentence left out is noticed
 -- here.
 -- Assumes nothing.
-use Prim.Native.Nat.{ℕ}
 use native.Mathlib.Omega.{arith}
 use mathlib.Core.Path.{_≡_, refl}
-use mathlib.Core.List.{List, [], _∷_, _++_}
+use mathlib.Core.List.{List, [], _++_}
 use mathlib.Core.Bool.{true, false}
 use lib.Dec.{T, eqb}
 use lib.ListN.{length}
@@ -35,7 +34,7 @@ use Rattle.transactions.specs.Claims.{Moment}
 use Rattle.transactions.proofs.Claims.{fresh-clean, zeros-blank}
 use Rattle.transactions_cases.specs.Cases.{atFirst, five, command, both}
 use Rattle.transactions_cases.proofs.Cases.{belowTest, sentTest, stepTest, stepsTest, steps-tested}
-use Rattle.transactions_editions.specs.Editions.{currentIn, currentWith, currentBy, currentAlong, meantCurrent}
+use Rattle.transactions_editions.specs.Editions.{currentIn, currentBy, meantCurrent}
 use Rattle.transactions_editions.specs.Cases.{writtenTwice, makesReady, commitsIt}
 use Rattle.transactions_editions.proofs.Claims.{editions-at-once, translations-read}
 

@@ -10,7 +10,7 @@ use mathlib.Core.Bool.{true}
 use lib.Dec.{T, eqb}
 use lib.ListN.{length}
 use Rattle.formats.specs.Format.{V1}
-use Rattle.lists.specs.Parts.{part, splice, tabulate, concatMap, every, zeros, Bytes}
+use Rattle.lists.specs.Parts.{part, splice, tabulate, concatMap, every, zeros}
 use Rattle.lists.specs.Le.{le, toLe}
 use Rattle.lists.specs.Table.{all, allFrom}
 use Rattle.commands.specs.Command.{original, wellFormed}
@@ -23,19 +23,19 @@ use Rattle.image.specs.Bytes.{header, entryBytes, pad, readEntry, entryAt}
 use Rattle.image.specs.Image.{bodies, encode, cardAt, decode, tailZero, translationSound, cardSound, headerSound, sound, fresh}
 use Rattle.store_model.specs.Serve.{stepped, serveBy, serve}
 use Rattle.store_model.specs.Cases.{long, text205}
-use Rattle.redo_log.specs.Log.{LogRecord, shaped, lastBegun, opened, follows, total, startAt, recordAt, recordOk, goodLog, records}
+use Rattle.redo_log.specs.Log.{shaped, lastBegun, opened, follows, total, startAt, recordAt, recordOk, goodLog, records}
 use Rattle.redo_log.specs.Append.{stored, puts, lineBytes, stores, appended}
 use Rattle.redo_log_claims.specs.Claims.{appendedAll}
 use Rattle.redo_log_claims.specs.Cases.{beginOf, updateOf, emptyLog}
-use Rattle.redo_recovery_model.specs.Recovery.{Pairs, due, recoverySent, recoveryStep, recovering, recovered}
+use Rattle.redo_recovery_model.specs.Recovery.{Pairs, due, recovered}
 use Rattle.redo_recovery_model.specs.Claims.{textIn, rewritten}
-use Rattle.transactions.specs.System.{OneDesk, Step, order, arrive, recover, lawful, withUpdates, shownBy, afterStep, afterSteps, lawfulAll}
+use Rattle.transactions.specs.System.{OneDesk, order, arrive, recover, withUpdates, afterStep, afterSteps, lawfulAll}
 use Rattle.transactions.specs.Claims.{Clean, Blank, Moment}
 use Rattle.transactions.proofs.Claims.{fresh-clean, zeros-blank}
 use Rattle.transactions_cases.specs.Cases.{atFirst, text190, one, five, writes1, prepare, logs, upToCommit}
 use Rattle.transactions_cases.proofs.Cases.{belowTest, bytes-tested, sentTest, pairsTest, pairs-tested, stepTest, step-tested, stepsTest, steps-tested}
 use Rattle.transactions_progress.specs.Progress.{originalsDue, canFinish, goodPairs}
-use Rattle.transactions_progress.specs.Holders.{seenAs, Acting, takes, ActingBytes, holdersOpening, afterActing, afterActings, lawfulActings}
+use Rattle.transactions_progress.specs.Holders.{seenAs, ActingBytes, holdersOpening, afterActings, lawfulActings}
 use Rattle.transactions_progress.specs.Cases.{loggedOnce, eachUnder, handedOver, afterHandover}
 use Rattle.transactions_progress.proofs.Claims.{recovery-taken, one-step-finishes}
 use Rattle.transactions_progress.proofs.Holders.{holders-are-one}

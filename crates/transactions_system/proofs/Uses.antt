@@ -13,7 +13,6 @@ use Rattle.lists.specs.Parts.{part}
 use Rattle.lists.specs.Le.{le, toLe}
 use Rattle.lists.specs.Table.{all, allFrom}
 use Rattle.stamps.specs.Stamp.{stamp, exclusive, noMark}
-use Rattle.stamps.specs.declared.Pair.{Pair}
 use Rattle.commands.specs.Command.{original}
 use Rattle.commands.specs.Bytes.{fieldsOf, commandBytes}
 use Rattle.image.specs.Layout.{shapeOk}
