@@ -5,7 +5,7 @@ use Prim.Native.Nat.{_+_, _≤_}
 use native.Mathlib.Omega.{arith}
 use mathlib.Core.Path.{_≡_, refl}
 use mathlib.Core.Logic.{_⊎_}
-use mathlib.Core.List.{List, [], _∷_}
+use mathlib.Core.List.{[]}
 use mathlib.Core.Bool.{false}
 use lib.Dec.{T}
 use lib.ListN.{length}
@@ -145,11 +145,17 @@ stays-sound : T (entrySound 0 (judged noEntry verifies 0 0 .entry))
 unfolding entrySound all allFrom
 stays-sound = judging .sound tt
 
-grown : 0 ≤ judged noEntry verifies 0 0 .entry .pair .x
-grown = judging .grows .1
+grown-s : 0 ≤ judged noEntry verifies 0 0 .entry .pair .s
+grown-s = judging .grows .0
 
-bound : stampT (judged noEntry verifies 0 0 .entry .pair .x) ≤ 0 + mostAhead
-bound = judging .bounded .1
+grown-x : 0 ≤ judged noEntry verifies 0 0 .entry .pair .x
+grown-x = judging .grows .1
+
+bound-s : stampT (judged noEntry verifies 0 0 .entry .pair .s) ≤ 0 + mostAhead
+bound-s = judging .bounded .0
+
+bound-x : stampT (judged noEntry verifies 0 0 .entry .pair .x) ≤ 0 + mostAhead
+bound-x = judging .bounded .1
 
 -- The same on an entry one stamp further: stale, and nothing changes.
 abbrev further : Entry

@@ -5,3 +5,4 @@ pub mod Ends
 pub mod Taken
 pub mod Cases
 pub mod Uses
+pub mod AgainCases
