@@ -12,7 +12,7 @@ use lib.Dec.{eqb, ltb, leb}
 use Rattle.formats.specs.Format.{V1}
 use Rattle.lists.specs.Parts.{every}
 use Rattle.lists.proofs.Every.{every-in, every-out}
-use Rattle.lists.proofs.Tests.{cases, never-both, and-in, and-left, and-right, or-right, or-cases, all-out, from-T}
+use Rattle.lists.proofs.Tests.{cases, never-both, and-in, and-left, and-right, or-right, all-out, from-T}
 use Rattle.stamps.specs.Stamp.{stampT}
 use Rattle.commands.specs.Command.{Language, isWrite}
 use Rattle.guard.specs.Judge.{lastEdition}
@@ -27,6 +27,7 @@ use Rattle.transactions.specs.System.{OneDesk, commandIn, dueFor, writtenOut, n
 use Rattle.transactions.specs.Claims.{Moment}
 use Rattle.transactions.proofs.Records.{due-past, kind-not}
 use Rattle.transactions.proofs.Serving.{at}
+use Rattle.transactions.proofs.Requests.{if-so}
 use Rattle.transactions.proofs.Claims.{kept-always, refines, meant-only-then}
 use Rattle.transactions_progress.specs.Progress.{originalsDue, editionBefore, canWrite}
 use Rattle.transaction_steps.specs.declared.LastSeen.{LastSeen}
@@ -407,10 +408,6 @@ module _ (d : ℕ) (y : OneDesk) (small : d < 65536) (m : Moment d y) where
 
   module _ (h1 : every (lineLeft d image lrs) (length lrs) ≡ true) (h2 : every (stampsLeft d image lrs) total ≡ true)
       (h3 : recordCount (y .log) + cardsDue lrs total ≤ mostRecords) (h4 : startAt (y .log) (recordCount (y .log)) + 6 * cardsDue lrs total ≤ length (y .log)) where
-    if-not : (b : Bool) {p : Bool} → (not b || p) ≡ true → b ≡ true → p ≡ true
-    if-not true h e = h
-    if-not false h e = absurd (never-both e refl)
-
     pick-first : (b x c : Bool) → b ≡ true → cond b x c ≡ true → x ≡ true
     pick-first b x c e f = rw e at f
 
@@ -425,7 +422,7 @@ module _ (d : ℕ) (y : OneDesk) (small : d < 65536) (m : Moment d y) where
         go (inr q) = absurd (never-both e (due-past lrs i (ltb-false i (length lrs) q)))
 
     of-line : (i : ℕ) → due lrs i ≡ true → (ltb (recordCard (recordIn lrs i)) total && (not (eqb (at (decode V1 image) (recordCard (recordIn lrs i)) .mark .desk) d) || canWrite image lrs i)) ≡ true
-    of-line i e = if-not (due lrs i) (every-out (lineLeft d image lrs) (length lrs) h1 i (inner i e)) e
+    of-line i e = if-so (due lrs i) (every-out (lineLeft d image lrs) (length lrs) h1 i (inner i e)) e
 
     inside : (i : ℕ) → due lrs i ≡ true → recordCard (recordIn lrs i) < total
     inside i e = ltb-true (recordCard (recordIn lrs i)) total (and-left (ltb (recordCard (recordIn lrs i)) total) _ (of-line i e))
@@ -437,8 +434,8 @@ module _ (d : ℕ) (y : OneDesk) (small : d < 65536) (m : Moment d y) where
         let same : j ≡ k = eqb-true j k (and-right (due lrs i) (eqb j k) q) in
         let marked : eqb (at (decode V1 image) j .mark .desk) d ≡ true = subst (λ (n : ℕ). eqb (at (decode V1 image) n .mark .desk) d ≡ true) (sym same) e in
         let can : canWrite image lrs i ≡ true =
-        if-not (eqb (at (decode V1 image) j .mark .desk) d) (and-right (ltb j total) (not (eqb (at (decode V1 image) j .mark .desk) d) || canWrite image lrs i) (of-line i due-here)) marked in
-        let two = if-not (due lrs i) can due-here in
+        if-so (eqb (at (decode V1 image) j .mark .desk) d) (and-right (ltb j total) (not (eqb (at (decode V1 image) j .mark .desk) d) || canWrite image lrs i) (of-line i due-here)) marked in
+        let two = if-so (due lrs i) can due-here in
         let one : Bool = eqb (recordSide (recordIn lrs i)) 1 in
         let front : Bool = ltb j total && leb (length (recordText (recordIn lrs i))) (decode V1 image .room) in
         let low : Bool = ltb (editionBefore image lrs j i) lastEdition in
@@ -452,7 +449,7 @@ module _ (d : ℕ) (y : OneDesk) (small : d < 65536) (m : Moment d y) where
         })
 
     left : (k : ℕ) → k < total → eqb (at (decode V1 image) k .mark .desk) d ≡ true → stampT (at (decode V1 image) k .pair .x) + linesDue lrs k (length lrs) + 1 < 4294967296
-    left k b e = ltb-true _ 4294967296 (if-not (eqb (at (decode V1 image) k .mark .desk) d) (every-out (stampsLeft d image lrs) total h2 k b) e)
+    left k b e = ltb-true _ 4294967296 (if-so (eqb (at (decode V1 image) k .mark .desk) d) (every-out (stampsLeft d image lrs) total h2 k b) e)
 
     abbrev all-written : Written d small (startsAgain y) begins 0
     all-written = written d small (startsAgain y) begins lines left
