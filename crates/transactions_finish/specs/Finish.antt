@@ -105,6 +105,7 @@ pub record Finishes (d : ℕ) (y : OneDesk) : Type 0 where
   pub told : allAsTold d (startsAgain y) doings ≡ true
   pub finished : Finished d y (afterDoings d (startsAgain y) doings .desk)
 
--- Rule 16.31: from every moment of a run by the rules, whatever the desk was at, where there is room.
+-- Rule 16.31: from every moment of a run by the rules, whatever the desk was at, where there is room. Its number is one that a
+-- mark can have (rule 1.7).
 abbrev pub CanAlwaysFinish : Type 0
 CanAlwaysFinish = (d : ℕ) (y : OneDesk) → d < 65536 → Moment d y → roomToFinish d y ≡ true → Finishes d y
