@@ -12,7 +12,7 @@ use lib.Dec.{eqb, ltb, leb}
 use Rattle.formats.specs.Format.{V1}
 use Rattle.lists.specs.Parts.{every}
 use Rattle.lists.proofs.Every.{every-in, every-out}
-use Rattle.lists.proofs.Tests.{cases, never-both, and-in, and-left, and-right, or-right, or-cases, all-out, from-T}
+use Rattle.lists.proofs.Tests.{cases, never-both, and-in, and-left, and-right, or-right, all-out, from-T}
 use Rattle.stamps.specs.Stamp.{stampT}
 use Rattle.commands.specs.Command.{Language, isWrite}
 use Rattle.guard.specs.Judge.{lastEdition}
@@ -27,6 +27,7 @@ use Rattle.transactions.specs.System.{OneDesk, commandIn, dueFor, writtenOut, n
 use Rattle.transactions.specs.Claims.{Moment}
 use Rattle.transactions.proofs.Records.{due-past, kind-not}
 use Rattle.transactions.proofs.Serving.{at}
+use Rattle.transactions.proofs.Requests.{if-so}
 use Rattle.transactions.proofs.Claims.{kept-always, refines, meant-only-then}
 use Rattle.transactions_progress.specs.Progress.{originalsDue, editionBefore, canWrite}
 use Rattle.transaction_steps.specs.declared.LastSeen.{LastSeen}
@@ -48,11 +49,13 @@ use Rattle.transaction_steps_claims.specs.Follower.{
   afterDoings,
 }
 use Rattle.transaction_steps_claims.proofs.Follower.{Going, nothing-minded, one}
+use Rattle.transaction_steps_claims.proofs.Next.{clear-out}
 use Rattle.transaction_steps_claims.proofs.Ends.{more-lines, idle-at, idle-all, was-due, noted-done}
 use Rattle.transactions_finish.specs.Finish.{linesDue, cardsDue, lineLeft, stampsLeft, ownDoing, ownDoings, startsAgain, Finished, Finishes, CanAlwaysFinish}
 use Rattle.transactions_finish.proofs.Requests.{good-cards}
 use Rattle.transactions_finish.proofs.Walks.{cardsOf, Path, path-none, path-more, path-join, Moved, saw}
 use Rattle.transactions_finish.proofs.Cards.{Writable, Settled, CardDone, card-done}
+use Rattle.transactions_finish.proofs.Inside.{bare-always}
 use Rattle.transactions_finish.proofs.Notes.{last-fits, note-card, note-transaction, note-bytes, noteStores, noted, note-number, note-records, note-length, note-count, note-end}
 
 -- ---- the desk's own steps leave what is meant
@@ -407,28 +410,23 @@ module _ (d : ℕ) (y : OneDesk) (small : d < 65536) (m : Moment d y) where
 
   module _ (h1 : every (lineLeft d image lrs) (length lrs) ≡ true) (h2 : every (stampsLeft d image lrs) total ≡ true)
       (h3 : recordCount (y .log) + cardsDue lrs total ≤ mostRecords) (h4 : startAt (y .log) (recordCount (y .log)) + 6 * cardsDue lrs total ≤ length (y .log)) where
-    if-not : (b : Bool) {p : Bool} → (not b || p) ≡ true → b ≡ true → p ≡ true
-    if-not true h e = h
-    if-not false h e = absurd (never-both e refl)
-
     pick-first : (b x c : Bool) → b ≡ true → cond b x c ≡ true → x ≡ true
     pick-first b x c e f = rw e at f
 
     pick-second : (b x c : Bool) → b ≡ false → cond b x c ≡ true → c ≡ true
     pick-second b x c e f = rw e at f
 
-    inner : (i : ℕ) → due lrs i ≡ true → i < length lrs
-    inner i e = go (cases (ltb i (length lrs)))
-      where
-        go : (ltb i (length lrs) ≡ true) ⊎ (ltb i (length lrs) ≡ false) → i < length lrs
-        go (inl q) = ltb-true i (length lrs) q
-        go (inr q) = absurd (never-both e (due-past lrs i (ltb-false i (length lrs) q)))
-
-    of-line : (i : ℕ) → due lrs i ≡ true → (ltb (recordCard (recordIn lrs i)) total && (not (eqb (at (decode V1 image) (recordCard (recordIn lrs i)) .mark .desk) d) || canWrite image lrs i)) ≡ true
-    of-line i e = if-not (due lrs i) (every-out (lineLeft d image lrs) (length lrs) h1 i (inner i e)) e
-
+    -- What is due is due on cards that are there.
     inside : (i : ℕ) → due lrs i ≡ true → recordCard (recordIn lrs i) < total
-    inside i e = ltb-true (recordCard (recordIn lrs i)) total (and-left (ltb (recordCard (recordIn lrs i)) total) _ (of-line i e))
+    inside i e = go (cases (ltb (recordCard (recordIn lrs i)) total))
+      where
+        j : ℕ
+        j = recordCard (recordIn lrs i)
+
+        go : (ltb j total ≡ true) ⊎ (ltb j total ≡ false) → j < total
+        go (inl q) = ltb-true j total q
+        go (inr q) =
+            absurd (never-both (and-in e (eq-eqb j j refl)) (never-due lrs j (clear-out lrs j (bare-always d y m j (ltb-false j total q))) i))
 
     lines : (k : ℕ) → k < total → eqb (at (decode V1 image) k .mark .desk) d ≡ true → (i : ℕ) → i < length lrs → dueFor lrs k i ≡ true → Writable (decode V1 image) lrs k i
     lines k b e i h q =
@@ -436,9 +434,8 @@ module _ (d : ℕ) (y : OneDesk) (small : d < 65536) (m : Moment d y) where
         let due-here = and-left (due lrs i) (eqb j k) q in
         let same : j ≡ k = eqb-true j k (and-right (due lrs i) (eqb j k) q) in
         let marked : eqb (at (decode V1 image) j .mark .desk) d ≡ true = subst (λ (n : ℕ). eqb (at (decode V1 image) n .mark .desk) d ≡ true) (sym same) e in
-        let can : canWrite image lrs i ≡ true =
-        if-not (eqb (at (decode V1 image) j .mark .desk) d) (and-right (ltb j total) (not (eqb (at (decode V1 image) j .mark .desk) d) || canWrite image lrs i) (of-line i due-here)) marked in
-        let two = if-not (due lrs i) can due-here in
+        let can : canWrite image lrs i ≡ true = if-so (eqb (at (decode V1 image) j .mark .desk) d) (every-out (lineLeft d image lrs) (length lrs) h1 i h) marked in
+        let two = if-so (due lrs i) can due-here in
         let one : Bool = eqb (recordSide (recordIn lrs i)) 1 in
         let front : Bool = ltb j total && leb (length (recordText (recordIn lrs i))) (decode V1 image .room) in
         let low : Bool = ltb (editionBefore image lrs j i) lastEdition in
@@ -452,7 +449,7 @@ module _ (d : ℕ) (y : OneDesk) (small : d < 65536) (m : Moment d y) where
         })
 
     left : (k : ℕ) → k < total → eqb (at (decode V1 image) k .mark .desk) d ≡ true → stampT (at (decode V1 image) k .pair .x) + linesDue lrs k (length lrs) + 1 < 4294967296
-    left k b e = ltb-true _ 4294967296 (if-not (eqb (at (decode V1 image) k .mark .desk) d) (every-out (stampsLeft d image lrs) total h2 k b) e)
+    left k b e = ltb-true _ 4294967296 (if-so (eqb (at (decode V1 image) k .mark .desk) d) (every-out (stampsLeft d image lrs) total h2 k b) e)
 
     abbrev all-written : Written d small (startsAgain y) begins 0
     all-written = written d small (startsAgain y) begins lines left

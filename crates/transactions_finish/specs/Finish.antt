@@ -13,7 +13,7 @@ use Rattle.stamps.specs.Stamp.{stampT}
 use Rattle.commands.specs.Command.{Language, isWrite}
 use Rattle.image.specs.Image.{decode}
 use Rattle.redo_log.specs.Log.{LogRecord, mostRecords, syncedKind, recordCard, recordCount, startAt, records}
-use Rattle.redo_recovery_model.specs.Recovery.{recordIn, due}
+use Rattle.redo_recovery_model.specs.Recovery.{recordIn}
 use Rattle.redo_recovery_model.specs.Claims.{textIn}
 use Rattle.transactions.specs.System.{OneDesk, commandIn, markIn, storedX, dueFor, writtenOut, nothingDue}
 use Rattle.transactions.specs.Claims.{Moment}
@@ -46,13 +46,9 @@ unfoldable pub cardsDue : List LogRecord → ℕ → ℕ
 cardsDue rs zero = 0
 cardsDue rs (suc k) = cond (writtenOut rs k 0 (length rs)) (cardsDue rs k) (suc (cardsDue rs k))
 
--- A line that is due is of a card in the image, and can be written (rule 16.21) if the card bears the desk's mark. Of a card
--- without the mark nothing is written.
+-- A line that is due on a card with the desk's mark can be written (rule 16.21). Of a card without the mark nothing is written.
 abbrev pub lineLeft : ℕ → List ℕ → List LogRecord → ℕ → Bool
-lineLeft d image rs i =
-    not (due rs i)
-    || ltb (recordCard (recordIn rs i)) (length (decode V1 image .cards))
-    && (not (eqb (markIn image (recordCard (recordIn rs i)) .desk) d) || canWrite image rs i)
+lineLeft d image rs i = not (eqb (markIn image (recordCard (recordIn rs i)) .desk) d) || canWrite image rs i
 
 -- A card that bears the mark has a T left for each write and for the release.
 abbrev pub stampsLeft : ℕ → List ℕ → List LogRecord → ℕ → Bool
@@ -109,6 +105,7 @@ pub record Finishes (d : ℕ) (y : OneDesk) : Type 0 where
   pub told : allAsTold d (startsAgain y) doings ≡ true
   pub finished : Finished d y (afterDoings d (startsAgain y) doings .desk)
 
--- Rule 16.31: from every moment of a run by the rules, whatever the desk was at, where there is room.
+-- Rule 16.31: from every moment of a run by the rules, whatever the desk was at, where there is room. Its number is one that a
+-- mark can have (rule 1.7).
 abbrev pub CanAlwaysFinish : Type 0
 CanAlwaysFinish = (d : ℕ) (y : OneDesk) → d < 65536 → Moment d y → roomToFinish d y ≡ true → Finishes d y
