@@ -2,10 +2,11 @@
 -- under the mark with both lines due, a reader who is refused. A stricter hypothesis or a sentence left out is noticed
 -- here.
 -- Assumes nothing.
+use Prim.Native.Nat.{ℕ}
 use native.Mathlib.Omega.{arith}
 use mathlib.Core.Path.{_≡_, refl}
 use mathlib.Core.List.{List, [], _++_}
-use mathlib.Core.Bool.{true, false}
+use mathlib.Core.Bool.{Bool, true, false, not}
 use lib.Dec.{T, eqb}
 use lib.ListN.{length}
 use Rattle.formats.specs.Format.{V1}
@@ -36,7 +37,10 @@ use Rattle.transactions_cases.specs.Cases.{atFirst, five, command, both}
 use Rattle.transactions_cases.proofs.Cases.{belowTest, sentTest, stepTest, stepsTest, steps-tested}
 use Rattle.transactions_editions.specs.Editions.{currentIn, currentBy, meantCurrent}
 use Rattle.transactions_editions.specs.Cases.{writtenTwice, makesReady, commitsIt}
+use Rattle.transactions.specs.Desks.{Desks, desksOpening, afterDeskSteps, lawfulDeskSteps, DesksMoment}
+use Rattle.transactions_editions.specs.Desks.{desksCurrentAlong, desksMeantCurrent}
 use Rattle.transactions_editions.proofs.Claims.{editions-at-once, translations-read}
+use Rattle.transactions_editions.proofs.Desks.{desks-editions-at-once, desks-translations-read}
 
 -- ---- two moments: the beginning, and desk 5's commit of both texts of card 0
 
@@ -119,3 +123,43 @@ marked4 = command 2 0 (five 9) (five 9) (markOf 4 1) noMark [] (long 3)
 shown-so : outcome after marked4 .answer .number ≡ 0 → meantCurrent 5 after committed 0 ≡ true
 unfolding commandBytes fieldsOf le toLe part
 shown-so = translations-read 5 after committed marked4 refl refl .shown
+
+-- ---- many desks: all that have a number are under the rules, and nothing has happened yet
+
+abbrev but0 : ℕ → Bool
+but0 d = not (eqb d 0)
+
+abbrev all-first : Desks
+all-first = desksOpening (fresh V1 2 16) (λ (d : ℕ). emptyLog 64)
+
+all-begin : DesksMoment but0 all-first
+unfolding lawfulDeskSteps afterDeskSteps
+all-begin =
+    record {
+      image = fresh V1 2 16;
+      logs = λ d. emptyLog 64;
+      steps = [];
+      store = fresh-clean but0 refl 2 16 shape-two;
+      blank = λ d. zeros-blank 2265 (omega arith) (omega arith);
+      sent = tt;
+      rules = refl;
+      led = refl;
+    }
+
+desks-plain : currentIn (all-first .image) 9 ≡ desksMeantCurrent but0 all-first all-begin 9
+unfolding decode sound fresh encode bodies tabulate concatMap cardAt entryAt readEntry header entryBytes pad le toLe part
+desks-plain = desks-editions-at-once but0 all-first all-begin .plain 9 refl
+
+desks-marked :
+    but0 (markIn (all-first .image) 0 .desk) ≡ true
+    → currentBy (records (all-first .part (markIn (all-first .image) 0 .desk) .log)) 0 (length (records (all-first .part (markIn (all-first .image) 0 .desk) .log))) (currentIn (all-first .image) 0)
+    ≡ desksMeantCurrent but0 all-first all-begin 0
+desks-marked = desks-editions-at-once but0 all-first all-begin .marked 0
+
+desks-refused : desksMeantCurrent but0 all-first all-begin 0 ≡ false
+unfolding commandBytes fieldsOf le toLe part
+desks-refused = desks-translations-read but0 all-first all-begin translation refl refl .refused first-refused
+
+desks-shown : outcome atFirst translation .answer .number ≡ 0 → desksMeantCurrent but0 all-first all-begin 0 ≡ true
+unfolding commandBytes fieldsOf le toLe part
+desks-shown = desks-translations-read but0 all-first all-begin translation refl refl .shown

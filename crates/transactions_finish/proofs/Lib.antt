@@ -6,3 +6,4 @@ pub mod Notes
 pub mod Inside
 pub mod Finish
 pub mod Cases
+pub mod Uses
