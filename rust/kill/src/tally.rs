@@ -2,6 +2,10 @@
 
 use std::fmt::Write;
 
+/// From so many kills on, what depends on the moment of a kill has to come: how quick the machine is must not decide
+/// whether a short run passes.
+const SOME: u64 = 1_000;
+
 /// From so many kills on, what is rare has to come as well.
 const MANY: u64 = 10_000;
 
@@ -25,21 +29,21 @@ counted! {
     Towns 1 "towns: 2 to 6 desks, 1 to 4 cards, one image and a log for each desk in files"
     OfVersion2 MANY "of them with a store of version 2, without transactions"
     Kills 1 "kills"
-    Unsaved 1 "a command was under way, and the image not saved"
-    Saved 1 "a command was under way, and the image saved but nobody told"
+    Unsaved SOME "a command was under way, and the image not saved"
+    Saved SOME "a command was under way, and the image saved but nobody told"
     Idle MANY "a command was under way that changes nothing"
-    NotAppended 1 "an append was under way, and its record does not stand"
+    NotAppended SOME "an append was under way, and its record does not stand"
     Appended MANY "an append was under way, and its record stands but nobody was told"
     CommitFound MANY "the same of a commit: the transaction counts"
     NotBegun MANY "a log was to begin again, and had not"
     Begun MANY "a log had begun again, and nobody was told"
-    Recovering 1 "a recovery was under way"
+    Recovering SOME "a recovery was under way"
     CutNotes NEVER "a note of the trace was cut"
     Commands 1 "commands, each answered as by the second program, on an image that is the same to its last byte"
     Accepted 1 "of them accepted"
     Stale 1 "refused as stale (3)"
     Marked 1 "refused for a mark (4)"
-    Behind 1 "refused as behind (6)"
+    Behind SOME "refused as behind (6)"
     Sentences 1 "commands held to demand 3's sentences, each in the whole list of its town"
     Sessions MANY "pairs of commands of one session, isolated"
     Shown 1 "accepted reads, showing the text that is meant"
@@ -47,12 +51,12 @@ counted! {
     Appends 1 "appends, each answered as by the second program"
     Opened 1 "logs opened, to their last byte what was appended"
     Done 1 "transactions that were told of as done"
-    GivenUp 1 "transactions that were given up"
+    GivenUp SOME "transactions that were given up"
     Again MANY "logs that began again"
     Recovered 1 "recoveries that came to their end"
     Helped MANY "logs of desks that are down, opened by another desk to recover"
     Surveyed 1 "recoveries on copies, right behind a kill, of a log that nobody held"
-    Due 1 "of them with something due"
+    Due SOME "of them with something due"
     Logs 1 "logs of desks at work, read back right behind a kill"
 }
 
