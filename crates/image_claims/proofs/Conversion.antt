@@ -35,6 +35,7 @@ use Rattle.image.specs.Image.{
   cardSound,
   headerSound,
   sound,
+  fresh,
   makes,
   GoodCard,
   GoodCards,
@@ -151,6 +152,6 @@ conversion image lent b e =
 -- ---- the worked cases, by computation
 
 pub convert-cases : ConvertCases
-unfolding converted decode cardAt sound headerSound cardSound translationSound tailZero entryAt readEntry encode bodies pad entryBytes header makes
+unfolding converted decode cardAt sound headerSound cardSound translationSound tailZero entryAt readEntry encode bodies pad entryBytes header fresh makes
     shapeOk entrySound all allFrom le toLe part concatMap tabulate every zeros
-convert-cases = record { image = refl; numbers = refl }
+convert-cases = record { image = refl; two = refl; numbers = refl }
