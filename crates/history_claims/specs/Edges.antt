@@ -79,8 +79,8 @@ gotOfTwo s =
 abbrev pub weighing : ℕ → List ℕ
 weighing n = replicate (52 + n) 0
 
-abbrev pub writeOf : ℕ → Sent
-writeOf n = request 3 exclusive (pair stamp1 stamp1) 0 (long n) []
+abbrev pub writesLong : ℕ → Sent
+writesLong n = request 3 exclusive (pair stamp1 stamp1) 0 (long n) []
 
 pub record HistoryEdges : Type 0 where
   -- rule 14.5: each largest stamp by itself; the last mark; two editions; the edition that the translation names; the
@@ -107,4 +107,4 @@ pub record HistoryEdges : Type 0 where
       ∷ got 2 0 0 0 0 0 0 0 (long 6)
       ∷ []
   -- rules 14.2 and 14.7: beside 32,766 kept payload bytes a write of two is accepted, and one of three is not
-  pub weights : map (λ (s : Sent). deduced 1 16 (weighing 32766 ∷ []) (s .command) [] .answer .number) (writeOf 2 ∷ writeOf 3 ∷ []) ≡ 0 ∷ 22 ∷ []
+  pub weights : map (λ (s : Sent). deduced 1 16 (weighing 32766 ∷ []) (s .command) [] .answer .number) (writesLong 2 ∷ writesLong 3 ∷ []) ≡ 0 ∷ 22 ∷ []
