@@ -35,7 +35,6 @@ use Rattle.image.specs.Image.{
   cardSound,
   headerSound,
   sound,
-  fresh,
   makes,
   GoodCard,
   GoodCards,
@@ -152,6 +151,6 @@ conversion image lent b e =
 -- ---- the worked cases, by computation
 
 pub convert-cases : ConvertCases
-unfolding converted decode cardAt sound headerSound cardSound translationSound tailZero entryAt readEntry encode bodies pad entryBytes header fresh makes
+unfolding converted decode cardAt sound headerSound cardSound translationSound tailZero entryAt readEntry encode bodies pad entryBytes header makes
     shapeOk entrySound all allFrom le toLe part concatMap tabulate every zeros
-convert-cases = record { image = refl; two = refl; numbers = refl }
+convert-cases = record { image = refl; two = refl; numbers = refl; twelve = refl; thirteen = refl }

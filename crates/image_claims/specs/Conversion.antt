@@ -3,13 +3,15 @@
 use Prim.Native.Nat.{ℕ, _<_}
 use mathlib.Core.Path.{_≡_}
 use mathlib.Core.List.{List, [], _∷_, _++_, map}
+use mathlib.Core.Bool.{true, false}
 use lib.Dec.{T}
 use lib.ListN.{length, set, replicate}
 use Rattle.lists.specs.Parts.{Bytes}
+use Rattle.lists.specs.Table.{Row}
 use Rattle.formats.specs.Format.{V1, V2}
 use Rattle.image.specs.Bytes.{countOf, roomOf}
-use Rattle.image.specs.Image.{Card, translationOf, noTranslation, cardAt, encode, decode, sound, fresh}
-use Rattle.image.specs.Convert.{widenedCards, converted, convertNumber}
+use Rattle.image.specs.Image.{Card, translationOf, noTranslation, cardAt, encode, decode, sound}
+use Rattle.image.specs.Convert.{widenedCards, converted, convertRows, convertNumber}
 use Rattle.image_claims.specs.Cases.{oneCard}
 
 -- Rule 15.9: a card keeps its stamps, its mark, its edition and its original; its translation is that of language 0, and no other language was ever written.
@@ -108,10 +110,6 @@ conversions =
     -- two cards
     ∷ lending twoCards 272 0
     ∷ lending twoCards 144 14
-    -- at room 1,024 twelve cards have room for four translations, thirteen have not, whatever is lent
-    ∷ lending (fresh V1 12 1024) 62032 0
-    ∷ lending (fresh V1 13 1024) 67200 14
-    ∷ lending (fresh V1 13 1024) 65536 14
     -- its zero field broken: whatever is lent
     ∷ lending (set (encode V1 oneCard) 34 1) 144 9
     ∷ lending (set (encode V1 oneCard) 34 1) 143 9
@@ -120,7 +118,14 @@ conversions =
     ∷ lending oneConverted 144 9
     ∷ []
 
+-- A header alone of so many cards with room 1,024: no sound image, so row 9 applies to it; whether row 14 does is told by N, C and what is lent.
+abbrev pub headerWith : ℕ → List ℕ
+headerWith n = 0x52 ∷ 0x43 ∷ 0x31 ∷ 0 ∷ 1 ∷ 0 ∷ n ∷ 0 ∷ 0 ∷ 4 ∷ replicate 6 0
+
 pub record ConvertCases : Type 0 where
   pub image : converted (encode V1 oneCard) ≡ oneConverted
   pub two : converted twoCards ≡ twoConverted
   pub numbers : map (λ (a : ConvertCase). convertNumber (a .source) (a .lent)) conversions ≡ map (λ (a : ConvertCase). a .number) conversions
+  -- twelve such cards have room for four translations, in exactly as many bytes; thirteen have not, whatever is lent
+  pub twelve : map (λ (lent : ℕ). map (λ (r : Row). r .applies) (convertRows (headerWith 12) lent)) (62032 ∷ 62031 ∷ []) ≡ (true ∷ false ∷ []) ∷ (true ∷ true ∷ []) ∷ []
+  pub thirteen : map (λ (lent : ℕ). map (λ (r : Row). r .applies) (convertRows (headerWith 13) lent)) (67200 ∷ 65536 ∷ []) ≡ (true ∷ true ∷ []) ∷ (true ∷ true ∷ []) ∷ []
