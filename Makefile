@@ -1,8 +1,8 @@
 # make run: the program's example. make test: exactly what the gate runs. make soak N=..: the comparison with a new seed, N cases
 # (2,000,000 at the least). make sim N=..: the town of desks with a new seed, N steps (1,000,000 at the least). make pictures: the pictures of
-# docs/pictures, from their texts. make kills: a desk with its files is killed 4,000 times. make hard: the compiled library behind a fence, under memcheck, and shared. make bench: the store against a straightforward Rust version and a tuned one, and the picture of docs/PERFORMANCE.md; make counts: by instructions alone. make audit: the further must-fail edits.
+# docs/pictures, from their texts. make kill N=..: desks as processes on one store file are killed N times (10,000 if nothing is said). make hard: the compiled library behind a fence, under memcheck, shared, and on the interpreter. make bench: the store against a straightforward Rust version and a tuned one, and the picture of docs/PERFORMANCE.md; make counts: by instructions alone. make audit: the further must-fail edits.
 # make install PREFIX=.. DESTDIR=..: the command `lupaniele`, the header, the library, their pages and the file for pkg-config, under PREFIX (/usr/local) in DESTDIR (none); make uninstall takes them away.
-.PHONY: run test soak sim hard kills pictures bench counts audit command install uninstall
+.PHONY: run test soak sim hard kill pictures bench counts audit command install uninstall
 N = 20000000
 SHELL = /bin/bash
 .SHELLFLAGS = -o pipefail -c
@@ -27,9 +27,10 @@ hard:
 	tools/build
 	tools/hard
 
-kills:
+kill: N = 10000
+kill:
 	tools/build
-	cd rust && cargo test --offline --release --quiet -p lupaniele --test killed -- --ignored --nocapture killed_some_thousand_times
+	cd rust && cargo run --offline --release --quiet -p kill -- run $(N)
 
 pictures:
 	tools/build

@@ -516,8 +516,8 @@ LUPANIELE_LOOK uint8_t lupaniele_recover(const uint8_t *log, size_t log_length, 
                                          uint64_t *line);
 
 /* What a desk sees of a card by the answer to a step (rule 16.24): its number, and the desk of the mark that it shows. A
-   command that is no step counts as LUPANIELE_STEP_LOOK; line is that of a write. seen is written: zeros are nothing
-   seen, and a desk clears it when it sends a command for the card. */
+   command that is no step counts as LUPANIELE_STEP_LOOK; line is that of a write. seen is written; its first number
+   is 0 where nothing is seen. A desk sets all of it to 0 when it sends a command for the card. */
 void lupaniele_heard(uint8_t step, uint8_t line, uint8_t number, uint16_t mark, uint16_t seen[LUPANIELE_SEEN]);
 
 /* The next step of a desk for a card (rule 16.25), an enum lupaniele_next; going: it goes on with the transaction that

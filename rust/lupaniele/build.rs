@@ -5,7 +5,7 @@ use std::path::Path;
 fn main() {
     let folder = Path::new(env!("CARGO_MANIFEST_DIR")).join("../../target/staticlib");
     println!("cargo:rustc-link-search=native={}", folder.display());
-    for name in ["exports_v1", "exports_v2", "exports_logs"] {
+    for name in ["exports_v1", "exports_v2", "exports_desks", "exports_logs"] {
         let archive = folder.join(format!("lib{name}.a"));
         println!("cargo:rerun-if-changed={}", archive.display());
         if !archive.exists() {

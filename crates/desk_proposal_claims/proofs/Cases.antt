@@ -18,13 +18,20 @@ proposal-cases =
       next-shared = refl;
       same-exclusive = refl;
       later-start = refl;
+      larger-desk = refl;
+      smaller-desk = refl;
       last-one = refl;
       none-left = refl;
       other-side = refl;
+      none-left-exclusive = refl;
+      other-side-shared = refl;
       desk-zero = refl;
       desk-zero-first = refl;
+      desk-zero-exclusive = refl;
+      mode-zero = refl;
       no-mode = refl;
       both-sides = refl;
+      both-sides-again = refl;
     }
 
 pub denial-cases : DenialCases

@@ -1,7 +1,7 @@
 -- Theorems on proposals, used where their hypotheses only just hold: a shared denial and an exclusive ask, exactly the
 -- denial's pair, the last desk and start, a refusal. A stricter hypothesis or a sentence left out is noticed here.
 -- Assumes nothing.
-use Prim.Native.Nat.{_≤_}
+use Prim.Native.Nat.{ℕ, _≤_, _<_}
 use native.Mathlib.Omega.{arith}
 use mathlib.Core.Path.{_≡_, refl}
 use lib.Dec.{T}
@@ -14,10 +14,10 @@ use Rattle.lock_queue.specs.Requests.{joined, removed, without, upgrading, queu
 use Rattle.lock_queue.specs.declared.Waiting.{Waiting}
 use Rattle.lock_queue_claims.specs.Traces.{queueAfter}
 use Rattle.desk_proposals.specs.declared.Known.{Known}
-use Rattle.desk_proposals.specs.Propose.{learnt, nextT, ownAbove, pairFor, proposed}
-use Rattle.desk_proposal_claims.specs.Claims.{SmallestAbove, quiet, Retries, retried, retryNumbers}
+use Rattle.desk_proposals.specs.Propose.{learnt, lastT, nextT, ownAbove, pairFor, proposed}
+use Rattle.desk_proposal_claims.specs.Claims.{OfDesk, SmallestAbove, proposalNumbers, quiet, Retries, retried, retryNumbers}
 use Rattle.desk_proposal_claims.specs.Cases.{knowing, heldByOne, calm}
-use Rattle.desk_proposal_claims.proofs.Claims.{smallest, well-proposed, not-denied, retry-listed, unmoved}
+use Rattle.desk_proposal_claims.proofs.Claims.{smallest, spent, proposal-listed, well-proposed, not-denied, retry-listed, unmoved}
 
 -- Desk 2's shared ask, which is denied; and a desk that knows exactly the pair of that denial, and no more.
 abbrev low : Waiting
@@ -61,3 +61,15 @@ kept = unmoved (knowing 0 5 7 8) shared 0 refl .0
 none : proposed (knowing 0 5 7 8) shared .pair ≡ noPair
 unfolding proposed
 none = unmoved (knowing 0 5 7 8) shared 0 refl .1
+
+-- No stamp of 64 bits is above the largest one; above the one before it there is the last desk's, and its stamps are not
+-- spent.
+all-spent : lastT < nextT 65535 65535 18446744073709551615
+all-spent = spent 65535 65535 18446744073709551615 (omega arith) (omega arith) .1 (λ m fits own. omega (arith, fits))
+
+none-above : (m : ℕ) → m < 18446744073709551616 → OfDesk 65535 65535 m → m ≤ 18446744073709551615
+none-above = spent 65535 65535 18446744073709551615 (omega arith) (omega arith) .0 all-spent
+
+-- A mode that is none, of desk 0.
+numbered : T (listed proposalNumbers (proposed (knowing 0 0 0 0) 9 .number))
+numbered = proposal-listed (knowing 0 0 0 0) 9

@@ -37,18 +37,29 @@ pub record ProposalCases : Type 0 where
       ≡ gets 0 (stamp 7 2 5) (stamp 3 2 5) (knowing 2 5 (stamp 7 2 5) (stamp 3 2 5))
   -- above a stamp of the same desk with a later start: the next T
   pub later-start : proposed (knowing 2 5 0 (stamp 3 2 6)) exclusive ≡ gets 0 0 (stamp 4 2 5) (knowing 2 5 0 (stamp 4 2 5))
+  -- above a stamp of a larger desk with an earlier start: the next T; of a smaller desk with a later start: the same T
+  pub larger-desk : proposed (knowing 2 5 0 (stamp 3 3 0)) exclusive ≡ gets 0 0 (stamp 4 2 5) (knowing 2 5 0 (stamp 4 2 5))
+  pub smaller-desk : proposed (knowing 2 5 (stamp 3 1 9) 0) shared ≡ gets 0 (stamp 3 2 5) 0 (knowing 2 5 (stamp 3 2 5) 0)
   -- the last stamp that there is, and none after it; the other side has its own
   pub last-one : proposed (knowing 2 5 (stamp 4294967295 2 4) 0) shared ≡ gets 0 (stamp 4294967295 2 5) 0 (knowing 2 5 (stamp 4294967295 2 5) 0)
   pub none-left : proposed (knowing 2 5 (stamp 4294967295 2 5) 0) shared ≡ gets 16 0 0 (knowing 2 5 (stamp 4294967295 2 5) 0)
   pub other-side :
       proposed (knowing 2 5 (stamp 4294967295 2 5) 0) exclusive
       ≡ gets 0 (stamp 4294967295 2 5) (stamp 0 2 5) (knowing 2 5 (stamp 4294967295 2 5) (stamp 0 2 5))
-  -- desk 0, also where no stamp is left; a mode that is none
+  pub none-left-exclusive :
+      proposed (knowing 2 5 (stamp 8 2 5) (stamp 4294967295 9 0)) exclusive ≡ gets 16 0 0 (knowing 2 5 (stamp 8 2 5) (stamp 4294967295 9 0))
+  pub other-side-shared :
+      proposed (knowing 2 5 (stamp 8 2 5) (stamp 4294967295 9 0)) shared
+      ≡ gets 0 (stamp 9 2 5) (stamp 4294967295 9 0) (knowing 2 5 (stamp 9 2 5) (stamp 4294967295 9 0))
+  -- desk 0 in both modes, also where no stamp is left; modes that are none, below and above
   pub desk-zero : proposed (knowing 0 5 0 0) shared ≡ gets 1 0 0 (knowing 0 5 0 0)
   pub desk-zero-first : proposed (knowing 0 5 (stamp 4294967295 2 5) 0) shared ≡ gets 1 0 0 (knowing 0 5 (stamp 4294967295 2 5) 0)
+  pub desk-zero-exclusive : proposed (knowing 0 5 7 3) exclusive ≡ gets 1 0 0 (knowing 0 5 7 3)
+  pub mode-zero : proposed (knowing 2 5 7 3) 0 ≡ gets 1 0 0 (knowing 2 5 7 3)
   pub no-mode : proposed (knowing 2 5 0 0) 3 ≡ gets 1 0 0 (knowing 2 5 0 0)
   -- learning: the larger of each, whichever pair it comes from
   pub both-sides : learnt (knowing 2 5 7 3) (record { s = 4; x = 9 }) ≡ knowing 2 5 7 9
+  pub both-sides-again : learnt (knowing 2 5 4 9) (record { s = 7; x = 3 }) ≡ knowing 2 5 7 9
 
 -- ---- a denial, and a new proposal
 

@@ -13,7 +13,7 @@ use Rattle.stamps.specs.Stamp.{deskNumber, deskOf, stampValid, sessionChecks, e
 use Rattle.stamps.specs.declared.Pair.{Pair}
 use Rattle.lock_queue.specs.Queue.{State}
 use Rattle.lock_queue.specs.declared.Waiting.{Waiting}
-use Rattle.numbers.specs.Numbers.{PAIR-DENIED, STANDS-ALREADY, QUEUE-FULL}
+use Rattle.numbers.specs.Numbers.{MALFORMED, PAIR-DENIED, STANDS-ALREADY, QUEUE-FULL, NO-STAMP-LEFT}
 use Rattle.lock_queue.specs.Requests.{Request, asks, leaves, lapses, number, after, answer}
 use Rattle.lock_queue_claims.specs.Traces.{queueAfter}
 use Rattle.desk_proposals.specs.declared.Known.{Known}
@@ -114,7 +114,7 @@ Unmoved = (k : Known) (mode n : ℕ) → proposed k mode .number ≡ suc n → (
 
 -- Rule 5.1: what a proposal may answer, besides 0.
 abbrev pub proposalNumbers : List ℕ
-proposalNumbers = 1 ∷ 16 ∷ []
+proposalNumbers = MALFORMED ∷ NO-STAMP-LEFT ∷ []
 
 abbrev pub ProposalListed : Type 0
 ProposalListed = (k : Known) (mode : ℕ) → T (listed proposalNumbers (proposed k mode .number))

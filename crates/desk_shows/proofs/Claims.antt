@@ -7,7 +7,7 @@ use lib.Seq.{length-take-le}
 use Rattle.lists.specs.Table.{first, settled, listed}
 use Rattle.lists.proofs.Table.{given, unapplied, settled-old, first-all}
 use Rattle.desk_shows.specs.Show.{Text, of, beyond, behindAsked, showRows, deskRows, shownNumber}
-use Rattle.desk_shows.specs.Claims.{ShownExactly, Prefix, Alike, Independent, shownNumbers, DeskClaims, AlikeCases}
+use Rattle.desk_shows.specs.Claims.{ShownExactly, Prefix, Alike, Independent, shownNumbers, DeskClaims, AlikeCases, ShownCases}
 use Rattle.desk_shows.specs.declared.Asked.{Asked}
 use Rattle.desk_shows.specs.declared.Asked.the-variants.{Original, Translation}
 use Rattle.desk_shows.proofs.Show.{fits}
@@ -57,3 +57,6 @@ alike-cases =
       shows-original = refl;
       shows-translation = refl;
     }
+
+pub shown-cases : ShownCases
+shown-cases = record { gives = refl; shows = refl }

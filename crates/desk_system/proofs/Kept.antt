@@ -148,14 +148,6 @@ is-made made card mode pair h =
       pair-same = pair-is (m .pair) pair (and-right first (samePair (m .pair) pair) holds);
     }
 
--- What is free where malformed is a proposal where it is not.
-pub if-formed : (f : Bool) {P : Bool} → (not f || P) ≡ true → f ≡ true → P ≡ true
-if-formed f {P} h e = go (or-cases (not f) P h)
-  where
-    go : (not f ≡ true) ⊎ (P ≡ true) → P ≡ true
-    go (inl n) = absurd (never-both e (not-true f n))
-    go (inr p) = p
-
 pub proposal-more : {made : List Made} {card mode : ℕ} {pair : Pair} (new : Made) → Proposal made card mode pair → Proposal (new ∷ made) card mode pair
 proposal-more new p =
     record { m = p .m; among = among-later new (p .among); card-is = p .card-is; mode-is = p .mode-is; pair-same = p .pair-same }
@@ -530,7 +522,7 @@ module _ (v : Format) (n c : ℕ) (y : System) (k : Kept v n c y) where
           let same : old ≡ new = cc in
           subst (λ (w : Waiting). Backed (y .made) card (w .pair)) same
           (proposal-backed (is-made (y .made) card (old .mode) (old .pair)
-          (if-formed (waitingFormed old) h (subst (λ (w : Waiting). waitingFormed w ≡ true) (sym same) f))))
+          (rw (subst (λ (w : Waiting). waitingFormed w ≡ true) (sym same) f) at h)))
       fine (leaves d) h new e f = let z : _≡_ {A = ℕ} 0 1 = cc in absurd (omega arith)
       fine (lapses l) h new e f = let z : _≡_ {A = ℕ} 0 1 = cc in absurd (omega arith)
 
@@ -565,7 +557,7 @@ module _ (v : Format) (n c : ℕ) (y : System) (k : Kept v n c y) where
     own-card = getD (cs .cards) (command .card) (noCard (y .version))
 
     proposal : formed (y .version) (s .command) ≡ true → Proposal (y .made) (command .card) (command .mode) (update command)
-    proposal g = is-made (y .made) (command .card) (command .mode) (update command) (if-formed (formed (y .version) (s .command)) h g)
+    proposal g = is-made (y .made) (command .card) (command .mode) (update command) (rw g at h)
 
     -- The pair that an accepted command leaves.
     raised-backed : numberOn (y .version) cs s ≡ 0 → Backed (y .made) (command .card) (largerOfEach (own-card .pair) (update command))

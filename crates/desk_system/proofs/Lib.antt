@@ -6,7 +6,4 @@ pub mod Claims
 pub mod OneHistory
 pub mod Stamps
 pub mod Progress
-pub mod Trials
-pub mod ProgressCases
-pub mod HistoryCases
 pub mod Uses

@@ -19,6 +19,7 @@ use Rattle.commands.specs.declared.Command.{Command}
 use Rattle.guard.specs.declared.Entry.{Entry}
 use Rattle.stamps.specs.declared.Pair.{Pair}
 use Rattle.commands.specs.declared.Parsed.the-variants.{Malformed, Formed}
+use Rattle.numbers.specs.Numbers.{MALFORMED}
 
 -- What holds of an entry that judges a command.
 pub record Judging (e : Entry) (c : Command) (room lent : ℕ) : Type 0 where
@@ -51,7 +52,7 @@ StaleStays = (mode : ℕ) (stored more new : Pair) → stored .s ≤ more .s →
 
 -- Lent bytes by number: 1 exactly where row 1 applies to them, with zeros, else 0 with the numbers at their offsets (rule 3.1).
 pub record Parsing (f : Format) (bytes : List ℕ) : Type 0 where
-  pub number : parsedNumber (parsed f bytes) ≡ first (row (not (formed f bytes)) 1 ∷ [])
+  pub number : parsedNumber (parsed f bytes) ≡ first (row (not (formed f bytes)) MALFORMED ∷ [])
   pub numbers : T (formed f bytes) → parsedCommand (parsed f bytes) ≡ fieldsOf f bytes
   pub blanks : T (not (formed f bytes)) → parsedCommand (parsed f bytes) ≡ parsedCommand Malformed
 

@@ -33,7 +33,7 @@ use Rattle.history.specs.Engine.{overLimits, guardRows, engineRows, deducedBy, 
 use Rattle.history.specs.Lent.{historySize, keptIn, bytesBy, usedBy, historyServe}
 use Rattle.history.proofs.Raised.{entry-here}
 use Rattle.history_claims.specs.Claims.{keptAfter, engineEvent, engineEvents, engineTrace, gave22}
-use Rattle.history_claims.specs.Swaps.{Apart, SameSequences}
+use Rattle.history_claims.specs.Swaps.{swap, Apart, SameSequences}
 use Rattle.history_claims.specs.Cases.{KeptLimits, again, TwoHundred, wrote205, WorkedBytes, onCard, malformed, inLanguage3, gotLanguage3, ApartCases}
 use Rattle.store_model.proofs.ByTest.{bytes-by, sent-bytes}
 use Rattle.history_claims.proofs.Claims.{equals-guard, first-full}
@@ -49,7 +49,23 @@ kept-limits = record { many = refl; too-many = refl; heavy = refl; too-heavy = r
 pub worked-bytes : WorkedBytes
 unfolding historyServe keptIn bytesBy usedBy deduced deducedBy entryFrom textFrom highest timesWritten replied raise commands commandsWithin endOf
     endWithin whole extent commandBytes formed payload fieldsOf wellFormed all allFrom le toLe part splice concatMap zeros
-worked-bytes = record { three = refl; read = refl; text = refl; used = refl; late = refl; late-used = refl; opened = refl }
+worked-bytes =
+    record {
+      three = refl;
+      read = refl;
+      text = refl;
+      used = refl;
+      late = refl;
+      late-used = refl;
+      opened = refl;
+      counted = refl;
+      behind-third = refl;
+      behind-second = refl;
+      used-second = refl;
+      told-second = refl;
+      late-bytes = refl;
+      late-reply = refl;
+    }
 
 -- ---- one command again and again
 
@@ -255,8 +271,11 @@ unfolding run serve serveBy stepped sound headerSound cardSound translationSound
 accepted-2 = refl
 
 pub apart-cases : ApartCases
+unfolding swap commandBytes formed fieldsOf wellFormed all allFrom le toLe part splice zeros
 apart-cases =
     record {
+      swapped = refl;
+      for-card = refl;
       cards-apart =
           swapping V1 (fresh V1 2 16) fresh-bytes (onCard 1 (readOriginal (long 3)) ∷ wrote205 ∷ []) (read-1, (write-0, tt)) 0
           (card-1 (readOriginal (long 3)) reads-1 writes-0);

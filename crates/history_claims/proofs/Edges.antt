@@ -22,4 +22,6 @@ history-edges =
       full = refl;
       reply = refl;
       untouched = refl;
+      two-cards = refl;
+      weights = refl;
     }

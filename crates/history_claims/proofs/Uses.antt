@@ -5,16 +5,18 @@ use Prim.Native.Nat.{ℕ}
 use mathlib.Core.Path.{_≡_}
 use mathlib.Core.List.{List, [], _∷_, map}
 use mathlib.Core.Bool.{false}
+use lib.Dec.{T}
 use lib.ListN.{length, replicate, length-replicate}
 use Rattle.lists.specs.Search.{filter}
+use Rattle.lists.specs.Table.{listed}
 use Rattle.store_model.specs.Words.{Event}
 use Rattle.history.specs.Engine.{overLimits, deduced}
 use Rattle.history.specs.Lent.{historySize, keptIn, historyServe}
-use Rattle.history_claims.specs.Claims.{keptAfter, engineEvents, wasAccepted, EngineNumber}
+use Rattle.history_claims.specs.Claims.{keptAfter, engineEvents, wasAccepted, EngineNumber, historyNumbers}
 use Rattle.history_claims.specs.Cases.{again, malformed}
 use Rattle.history_claims.specs.Lent.{heldAfter, eventsOver}
 use Rattle.history_claims.proofs.Bytes.{bytes-kept}
-use Rattle.history_claims.proofs.Claims.{keeps-accepted, engine-numbers}
+use Rattle.history_claims.proofs.Claims.{keeps-accepted, engine-numbers, engine-listed}
 use Rattle.history_claims.proofs.Lent.{engine-over-bytes}
 
 -- No shape is asked for: with no card and no room, and with one malformed request, the engine keeps what it accepted
@@ -51,3 +53,7 @@ over-events = engine-over-bytes 0 0 sevens sevens-long (again ∷ []) .events
 
 over-kept : keptIn (heldAfter 0 0 sevens (again ∷ []) .bytes) (heldAfter 0 0 sevens (again ∷ []) .used) ≡ keptAfter 0 0 (again ∷ [])
 over-kept = engine-over-bytes 0 0 sevens sevens-long (again ∷ []) .kept
+
+-- And no bytes at all as a command.
+listed-numbers : T (listed historyNumbers (deduced 0 0 (replicate 300 (again .command)) [] [] .answer .number))
+listed-numbers = engine-listed 0 0 (replicate 300 (again .command)) [] []

@@ -2,9 +2,9 @@
 -- Assumes nothing.
 use Prim.Native.Nat.{ℕ, _+_}
 use mathlib.Core.Path.{_≡_}
-use mathlib.Core.List.{List, [], _∷_, _++_, reverse}
+use mathlib.Core.List.{List, [], _∷_, _++_, map, reverse}
 use mathlib.Core.Bool.{true, false}
-use lib.ListN.{replicate}
+use lib.ListN.{length, replicate}
 use Rattle.formats.specs.Format.{V1, V2, fixed}
 use Rattle.lists.specs.Parts.{splice}
 use Rattle.lists.specs.Le.{toLe}
@@ -17,7 +17,7 @@ use Rattle.history.specs.Engine.{overLimits, deduced}
 use Rattle.history.specs.Lent.{historySize, keptIn, historyServe}
 use Rattle.history_claims.specs.Claims.{keptAfter, engineEvent, engineTrace, gave22, EqualSoFar, FirstRefusal}
 use Rattle.history_claims.specs.Lent.{LentEqual}
-use Rattle.history_claims.specs.Swaps.{Undisturbed, SameByCard}
+use Rattle.history_claims.specs.Swaps.{swap, Undisturbed, sentFor, SameByCard}
 
 -- ---- the limits (rule 14.2)
 
@@ -63,6 +63,10 @@ keptBytes = wrote205 .command ++ readOriginal [] .command ++ wrote401 .command +
 abbrev pub readAfter : Sent
 readAfter = request 2 shared (pair stamp2 stamp2) 0 [] (long 5)
 
+-- The same in front of 60 further bytes: 226 in all.
+abbrev pub roomyBytes : List ℕ
+roomyBytes = keptBytes ++ replicate 60 9
+
 -- With 1,000 bytes said to be used, the three commands are kept. The read is accepted, shows 401 and is kept from byte 162 on; a command of the first desk
 -- comes late and leaves the number of used bytes as it was.
 pub record WorkedBytes : Type 0 where
@@ -76,6 +80,21 @@ pub record WorkedBytes : Type 0 where
   pub opened :
       historyServe 1 16 (verifyOpening exclusive (pair stamp1 stamp1) (pair stamp2 stamp2) .command) 52 (again .command) (again .lent) .answer
       ≡ got 3 stamp2 stamp2 0 0 0 0 0 [] .answer
+  -- how many are kept by the number used: the first ends at 55, the second at 107, the third at 162 (rule 14.4)
+  pub counted : map (λ (used : ℕ). length (keptIn keptBytes used)) (0 ∷ 54 ∷ 55 ∷ 106 ∷ 107 ∷ 161 ∷ 162 ∷ 166 ∷ []) ≡ 0 ∷ 0 ∷ 1 ∷ 1 ∷ 2 ∷ 2 ∷ 3 ∷ 3 ∷ []
+  -- an accepted command stands behind the last whole one of the used bytes, over what stood there, and every other byte stays (rule 14.8): from 162 to 213
+  pub behind-third :
+      historyServe 1 16 roomyBytes 200 (readAfter .command) (readAfter .lent) .bytes
+      ≡ wrote205 .command ++ readOriginal [] .command ++ wrote401 .command ++ readAfter .command ++ replicate 12 9
+  -- with 110 bytes used it is the third, from 107 to 158, and no translation is known; 67 bytes stay behind it
+  pub behind-second :
+      historyServe 1 16 roomyBytes 110 (readOriginal (long 5) .command) (long 5) .bytes
+      ≡ wrote205 .command ++ readOriginal [] .command ++ readOriginal [] .command ++ (52 ∷ 48 ∷ 49 ∷ []) ++ replicate 4 7 ++ replicate 60 9
+  pub used-second : historyServe 1 16 roomyBytes 110 (readOriginal (long 5) .command) (long 5) .used ≡ 159
+  pub told-second : historyServe 1 16 roomyBytes 110 (readOriginal (long 5) .command) (long 5) .answer ≡ got 0 stamp2 stamp1 0 0 1 0 3 [] .answer
+  -- a refusal leaves every byte (rule 14.9)
+  pub late-bytes : historyServe 1 16 roomyBytes 200 (again .command) (long 2) .bytes ≡ roomyBytes
+  pub late-reply : historyServe 1 16 roomyBytes 200 (again .command) (long 2) .reply ≡ long 2
 
 -- ---- different cards (rules 14.12 and 14.13)
 
@@ -104,6 +123,14 @@ gotLanguage3 = gotIn 0 1 0 0 [] ∷ gotIn 0 1 0 0 [] ∷ gotIn 0 1 1 0 [] ∷ go
 -- A write of card 0 and a read of card 1 are swapped; so are a malformed request and a write; and two requests to bytes that are no image. Malformed
 -- requests aside, two writes may come in either order.
 pub record ApartCases : Type 0 where
+  -- what it is to change places: the elements at i and i + 1, and nothing where there are no two
+  pub swapped :
+      map (λ (i : ℕ). swap {A = ℕ} i (11 ∷ 12 ∷ 13 ∷ [])) (0 ∷ 1 ∷ 2 ∷ 3 ∷ [])
+      ≡ (12 ∷ 11 ∷ 13 ∷ []) ∷ (11 ∷ 13 ∷ 12 ∷ []) ∷ (11 ∷ 12 ∷ 13 ∷ []) ∷ (11 ∷ 12 ∷ 13 ∷ []) ∷ []
+  -- which requests are for a card, as their version reads them: a malformed one is for none
+  pub for-card :
+      map (λ (k : ℕ). map (sentFor V1 k) (wrote205 ∷ onCard 1 wrote205 ∷ onCard 256 again ∷ malformed ∷ [])) (0 ∷ 1 ∷ 256 ∷ [])
+      ≡ (true ∷ false ∷ false ∷ false ∷ []) ∷ (false ∷ true ∷ false ∷ false ∷ []) ∷ (false ∷ false ∷ true ∷ false ∷ []) ∷ []
   pub cards-apart : Undisturbed V1 (fresh V1 2 16) (onCard 1 (readOriginal (long 3)) ∷ wrote205 ∷ []) 0
   pub malformed-apart : Undisturbed V1 (fresh V1 2 16) (again ∷ wrote205 ∷ malformed ∷ []) 1
   pub unsound-apart : Undisturbed V1 (1 ∷ []) (onCard 1 again ∷ wrote205 ∷ []) 0

@@ -21,7 +21,7 @@ use Rattle.store_model.specs.Words.{Sent, Event, freshAfter, traceOf, received}
 use Rattle.store_model.specs.Claims.{AllBytes}
 use Rattle.history.specs.WorkedOut.{entryFrom, textFrom}
 use Rattle.history.specs.Engine.{overLimits, Deduced, guardRows, engineRows, deduced}
-use Rattle.numbers.specs.Numbers.{HISTORY-FULL}
+use Rattle.numbers.specs.Numbers.{MALFORMED, NO-CARD, STALE, MARK-DIFFERS, PAYLOAD-LONG, EDITION-WRONG, EDITIONS-SPENT, REPLY-SHORT, TOO-FAR, HISTORY-FULL}
 
 -- ---- the engine over a list of requests, at first with nothing kept
 
@@ -128,7 +128,7 @@ EngineNumbers = (n c : ℕ) (kept : List (List ℕ)) (command reply : List ℕ) 
 
 -- Rule 5.1: what the engine may answer, besides 0.
 abbrev pub historyNumbers : List ℕ
-historyNumbers = 1 ∷ 2 ∷ 3 ∷ 4 ∷ 5 ∷ 6 ∷ 7 ∷ 8 ∷ 17 ∷ 22 ∷ []
+historyNumbers = MALFORMED ∷ NO-CARD ∷ STALE ∷ MARK-DIFFERS ∷ PAYLOAD-LONG ∷ EDITION-WRONG ∷ EDITIONS-SPENT ∷ REPLY-SHORT ∷ TOO-FAR ∷ HISTORY-FULL ∷ []
 
 abbrev pub EngineListed : Type 0
 EngineListed =

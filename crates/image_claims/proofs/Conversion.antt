@@ -153,4 +153,4 @@ conversion image lent b e =
 pub convert-cases : ConvertCases
 unfolding converted decode cardAt sound headerSound cardSound translationSound tailZero entryAt readEntry encode bodies pad entryBytes header makes
     shapeOk entrySound all allFrom le toLe part concatMap tabulate every zeros
-convert-cases = record { image = refl; numbers = refl }
+convert-cases = record { image = refl; two = refl; numbers = refl; twelve = refl; thirteen = refl }

@@ -8,12 +8,12 @@ use Rattle.commands.specs.Bytes.{fieldsOf, payload, formed, commandBytes}
 use Rattle.guard.specs.Entry.{entrySound}
 use Rattle.image.specs.Layout.{shapeOk}
 use Rattle.image.specs.Bytes.{header, entryBytes, pad, readEntry, entryAt}
-use Rattle.image.specs.Image.{bodies, encode, cardAt, decode, tailZero, translationSound, cardSound, headerSound, sound}
+use Rattle.image.specs.Image.{bodies, encode, cardAt, decode, tailZero, translationSound, cardSound, headerSound, sound, fresh}
 use Rattle.image_claims.specs.Layouts.{LayoutCases}
 
 pub layout-cases : LayoutCases
 unfolding fieldsOf payload formed commandBytes wellFormed sound headerSound cardSound translationSound tailZero decode cardAt entryAt readEntry encode
-    bodies pad entryBytes header shapeOk entrySound all allFrom le toLe part concatMap tabulate every zeros
+    bodies pad entryBytes header fresh shapeOk entrySound all allFrom le toLe part concatMap tabulate every zeros
 layout-cases =
     record {
       parts = refl;
@@ -38,6 +38,15 @@ layout-cases =
       sounds = (refl, refl);
       other = (refl, refl);
       behind = refl;
+      froms = refl;
+      lengths = refl;
+      editions = refl;
+      originals = refl;
+      texts = refl;
+      first-behind = refl;
+      last-behind = refl;
+      second1 = refl;
+      second2 = refl;
       places1 = refl;
       places2 = refl;
     }

@@ -6,16 +6,20 @@ use native.Mathlib.Omega.{arith}
 use mathlib.Core.Path.{_≡_, refl, subst}
 use mathlib.Core.List.{[]}
 use mathlib.Core.Bool.{false}
-use lib.Dec.{T}
+use lib.Dec.{T, lit<}
 use lib.ListN.{length, drop, getD}
-use Rattle.lists.specs.Parts.{part, Bytes}
-use Rattle.lists.specs.Le.{le}
+use Rattle.lists.specs.Parts.{part, tabulate, concatMap, every, zeros, Bytes}
+use Rattle.lists.specs.Le.{le, toLe}
 use Rattle.lists.specs.Table.{all, allFrom, listed}
 use Rattle.formats.specs.Format.{Format, V1, V2}
 use Rattle.image.specs.Layout.{shapeOk, sizeOf, headerSize}
-use Rattle.image.specs.Bytes.{versionOf}
-use Rattle.image.specs.Image.{GoodCards, encode, decode, sound, fresh, freshCards, makeNumber, goodFront}
+use Rattle.guard.specs.Entry.{entrySound}
+use Rattle.image.specs.Bytes.{versionOf, countOf, roomOf, header, entryBytes, pad, readEntry, entryAt}
+use Rattle.image.specs.Image.{GoodCards, noTranslation, bodies, encode, cardAt, decode, tailZero, translationSound, cardSound, headerSound, sound, fresh, freshCards, makes, makeNumber, translationOf, goodFront}
+use Rattle.image.specs.Convert.{widenedCards, converted, convertNumber}
 use Rattle.image_claims.specs.Claims.{makeNumbers}
+use Rattle.image_claims.specs.Conversion.{Converts}
+use Rattle.image_claims.proofs.Conversion.{conversion}
 use Rattle.image_claims.proofs.Claims.{soundReadsBack, goodEncodes, oneImage, number-tells, oneVersion, noOldFront, freshSound, largest-image, make-listed}
 
 -- The smallest shape and the largest ones.
@@ -103,3 +107,36 @@ smallest-length = largest-image 1 16 smallest1 .past-32
 
 none-made : T (listed makeNumbers (makeNumber V2 0 0 0))
 none-made = make-listed V2 0 0 0
+
+-- ---- a conversion into exactly its bytes, each sentence (rule 15.11)
+
+converts-number : convertNumber (fresh V1 1 16) 144 ≡ 0
+unfolding decode cardAt sound headerSound cardSound translationSound tailZero entryAt readEntry fresh encode bodies pad entryBytes header makes
+    shapeOk entrySound all allFrom le toLe part concatMap tabulate every zeros
+converts-number = refl
+
+converts : Converts (fresh V1 1 16) 144
+converts = conversion (fresh V1 1 16) 144 (fresh-bytes V1 1 16 smallest1) converts-number
+
+converts-bytes : Bytes (converted (fresh V1 1 16))
+converts-bytes = converts .bytes
+
+converts-sound : T (sound V2 (converted (fresh V1 1 16)))
+converts-sound = converts .sounds
+
+converts-long : length (converted (fresh V1 1 16)) ≡ 144
+converts-long = converts .long
+
+converts-count : countOf (converted (fresh V1 1 16)) ≡ countOf (fresh V1 1 16)
+converts-count = converts .count
+
+converts-room : roomOf (converted (fresh V1 1 16)) ≡ roomOf (fresh V1 1 16)
+converts-room = converts .room
+
+converts-cards : decode V2 (converted (fresh V1 1 16)) ≡ widenedCards (decode V1 (fresh V1 1 16))
+converts-cards = converts .cards
+
+-- The last translation of the only card.
+converts-others : translationOf 3 (cardAt V2 (converted (fresh V1 1 16)) 0) ≡ noTranslation
+unfolding fresh header le toLe part
+converts-others = converts .each 0 (lit< tt) .others 3 (lit< tt)

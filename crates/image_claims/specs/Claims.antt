@@ -12,6 +12,7 @@ use Rattle.formats.specs.Format.{Format, V1, version}
 use Rattle.image.specs.Image.{Cards, GoodCards, encode, decode, sound, cardAt, fresh, freshCards, makeNumber, goodFront}
 use Rattle.image.specs.Layout.{shapeOk, sizeOf, headerSize}
 use Rattle.image.specs.Bytes.{versionOf, countOf, roomOf}
+use Rattle.numbers.specs.Numbers.{NOT-MADE}
 
 -- A sound image reads back to cards by the rules, and those encode to the same bytes.
 pub record ReadsBack (f : Format) (image : List ℕ) : Type 0 where
@@ -72,7 +73,7 @@ LargestImage = (n c : ℕ) → T (shapeOk V1 n c) → ImageLength n c
 
 -- Rule 5.1: what making an image may answer, besides 0.
 abbrev pub makeNumbers : List ℕ
-makeNumbers = 14 ∷ []
+makeNumbers = NOT-MADE ∷ []
 
 abbrev pub MakeListed : Type 0
 MakeListed = (f : Format) (n c lent : ℕ) → T (listed makeNumbers (makeNumber f n c lent))

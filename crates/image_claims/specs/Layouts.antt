@@ -5,7 +5,7 @@
 use Prim.Native.Nat.{ℕ, suc, _+_}
 use mathlib.Core.Path.{_≡_}
 use mathlib.Core.List.{List, [], _∷_, _++_, map}
-use mathlib.Core.Bool.{true, false}
+use mathlib.Core.Bool.{Bool, true, false}
 use lib.ListN.{set, replicate}
 use Rattle.formats.specs.Format.{V1, V2}
 use Rattle.lists.specs.Parts.{tabulate}
@@ -14,7 +14,7 @@ use Rattle.commands.specs.declared.Command.{Command}
 use Rattle.commands.specs.Bytes.{fieldsOf, payload, formed, commandBytes}
 use Rattle.image.specs.Layout.{entryPlace, bodyPlace}
 use Rattle.image.specs.Bytes.{readEntry}
-use Rattle.image.specs.Image.{Cards, Translation, encode, decode, sound}
+use Rattle.image.specs.Image.{Cards, Translation, encode, decode, sound, fresh}
 
 -- 1, 2, 3, .. up to n.
 abbrev pub rising : ℕ → List ℕ
@@ -134,6 +134,16 @@ numbers402 =
       length = 3;
     }
 
+-- Whether the image of version 2 is sound with another byte at a place, or at each of four places two bytes apart.
+abbrev pub changedAt : ℕ → Bool
+changedAt at = sound V2 (set imageOf2 at 255)
+
+abbrev pub soundWith : ℕ → ℕ → List Bool
+soundWith at byte = map (λ (t : ℕ). sound V2 (set imageOf2 (at + t) byte)) (0 ∷ 2 ∷ 4 ∷ 6 ∷ [])
+
+abbrev pub inEach : Bool → List Bool
+inEach b = replicate 4 b
+
 pub record LayoutCases : Type 0 where
   -- rule 1.1: T, desk and start
   pub parts : stamp 1 2 3 ≡ 4295098371
@@ -237,6 +247,21 @@ pub record LayoutCases : Type 0 where
   -- each version is unsound in the other, and a byte set at 44 to 47 of an entry of version 2 makes it so
   pub other : (sound V2 imageOf1 ≡ false) × (sound V1 imageOf2 ≡ false)
   pub behind : map (λ (at : ℕ). sound V2 (set imageOf2 (16 + at) 1)) (44 ∷ 45 ∷ 46 ∷ 47 ∷ []) ≡ replicate 4 false
+  -- rule 15.5: each language by itself. Translated-from of languages 0 to 3 as new as the edition, newer, and none; their lengths up to the room, past it,
+  -- and less than what stands in the body
+  pub froms : map (soundWith 44) (20 ∷ 21 ∷ 0 ∷ []) ≡ inEach true ∷ inEach false ∷ inEach false ∷ []
+  pub lengths : map (soundWith 52) (16 ∷ 17 ∷ 0 ∷ []) ≡ inEach true ∷ inEach false ∷ inEach false ∷ []
+  -- an edition as new as what language 3 was made from, and one older; the original's length up to the room, and past it
+  pub editions : map (λ (b : ℕ). sound V2 (set imageOf2 40 b)) (16 ∷ 15 ∷ []) ≡ true ∷ false ∷ []
+  pub originals : map (λ (b : ℕ). sound V2 (set imageOf2 42 b)) (16 ∷ 17 ∷ 4 ∷ []) ≡ true ∷ false ∷ false ∷ []
+  -- the last byte of each text, the first behind it and the last of its body, from the original on
+  pub texts : map changedAt (68 ∷ 80 ∷ 97 ∷ 114 ∷ 131 ∷ []) ≡ replicate 5 true
+  pub first-behind : map changedAt (69 ∷ 81 ∷ 98 ∷ 115 ∷ 132 ∷ []) ≡ replicate 5 false
+  pub last-behind : map changedAt (79 ∷ 95 ∷ 111 ∷ 127 ∷ 143 ∷ []) ≡ replicate 5 false
+  -- rules 2.6 and 15.5: the second of two cards with room 16, nothing on them, and a byte set to 1. An edition without a text may be; the zero field, a
+  -- translated-from that is newer, the zeros behind the numbers, and the first and last byte of its bodies may not
+  pub second1 : map (λ (at : ℕ). sound V1 (set (fresh V1 2 16) at 1)) (72 ∷ 66 ∷ 74 ∷ 112 ∷ 143 ∷ []) ≡ true ∷ replicate 4 false
+  pub second2 : map (λ (at : ℕ). sound V2 (set (fresh V2 2 16) at 1)) (88 ∷ 82 ∷ 92 ∷ 98 ∷ 108 ∷ 111 ∷ 192 ∷ 271 ∷ []) ≡ true ∷ replicate 7 false
   -- rules 2.4, 2.5, 15.3 and 15.4: where entry 2 and the bodies of card 2 stand, among three cards with room 32
   pub places1 : entryPlace V1 2 ∷ bodyPlace V1 3 32 2 0 ∷ bodyPlace V1 3 32 2 1 ∷ [] ≡ 80 ∷ 240 ∷ 272 ∷ []
   pub places2 : entryPlace V2 2 ∷ map (bodyPlace V2 3 32 2) (0 ∷ 1 ∷ 2 ∷ 3 ∷ 4 ∷ []) ≡ 112 ∷ 480 ∷ 512 ∷ 544 ∷ 576 ∷ 608 ∷ []

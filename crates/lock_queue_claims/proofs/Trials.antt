@@ -30,9 +30,9 @@ pub trial-upgraded : TrialUpgraded
 unfolding number after answer answered holds holdsAt noExclusive looked upgrading queueJoined firstPlace good all allFrom distinct stands joined without removed
 trial-upgraded = (refl, refl)
 
-pub trial-systemAfter : TrialTrace
+pub trial-trace : TrialTrace
 unfolding numbers granted largestAsked lasting number after upgrading queueJoined firstPlace good all allFrom distinct stands joined without removed
-trial-systemAfter = (refl, refl, refl)
+trial-trace = (refl, refl, refl)
 
 -- ---- each hypothesis of a claim is met by a case
 

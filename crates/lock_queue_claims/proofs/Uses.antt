@@ -9,13 +9,14 @@ use mathlib.Core.Bool.{false}
 use lib.Dec.{T}
 use lib.ListN.{length, drop, getD}
 use Rattle.lists.proofs.Tests.{to-T}
-use Rattle.lists.specs.Table.{all, allFrom}
+use Rattle.lists.specs.Table.{all, allFrom, noRow, listed}
 use Rattle.stamps.specs.Stamp.{stamp, shared, exclusive}
-use Rattle.lock_queue.specs.Queue.{noWaiting, longer, standing, stands, firstPlace, noExclusive, holdsAt, holds}
+use Rattle.lock_queue.specs.Queue.{noWaiting, emptyQueue, longer, standing, stands, firstPlace, noExclusive, holdsAt, holds}
 use Rattle.lock_queue.specs.Good.{distinct, good}
-use Rattle.lock_queue.specs.Requests.{asks, leaves, lapses, modeOf, removed, without, upgrading, number, after, answer}
+use Rattle.lock_queue.specs.Requests.{asks, leaves, lapses, queueRows, modeOf, removed, without, upgrading, number, after, answer}
 use Rattle.lock_queue.specs.declared.Waiting.{Waiting}
 use Rattle.lock_queue_claims.specs.Trials.{guest, asker, twoShared}
+use Rattle.lock_queue_claims.specs.Claims.{askNumbers, leaveNumbers, lapseNumbers}
 use Rattle.lock_queue_claims.specs.LeaseCases.{silent}
 use Rattle.lock_queue_claims.specs.Answers.{seat, given, fourStand}
 use Rattle.lock_queue_claims.proofs.Claims.{
@@ -34,6 +35,8 @@ use Rattle.lock_queue_claims.proofs.Claims.{
   leaver-holds-nothing,
   holders-shared,
   no-desk-zero,
+  acceptance,
+  queue-listed,
 }
 use Rattle.lock_queue_claims.proofs.Upgrades.{upgrade-is-both}
 
@@ -153,3 +156,21 @@ zero-first = no-desk-zero 2 twoShared 0 good-two (omega arith)
 
 zero-last : number 2 twoShared (leaves 65535) ≡ 15
 zero-last = no-desk-zero 2 twoShared 65535 good-two (omega arith)
+
+-- ---- numbers (rules 5.1 and 7.14)
+
+no-row : T (noRow (queueRows 2 twoShared (leaves (seat 1))))
+no-row = acceptance 2 twoShared (leaves (seat 1)) .0 leaves-one
+
+accepted : number 2 twoShared (leaves (seat 1)) ≡ 0
+accepted = acceptance 2 twoShared (leaves (seat 1)) .1 no-row
+
+-- No place at all, and none lent.
+asked-none : T (listed askNumbers (number 0 (emptyQueue []) (asks noWaiting)))
+asked-none = queue-listed .asked 0 (emptyQueue []) noWaiting
+
+left-none : T (listed leaveNumbers (number 0 (emptyQueue []) (leaves 0)))
+left-none = queue-listed .left 0 (emptyQueue []) 0
+
+lapsed-none : T (listed lapseNumbers (number 0 (emptyQueue []) (lapses (silent 0x0 0x0 0x0 0x0))))
+lapsed-none = queue-listed .lapsed 0 (emptyQueue []) (silent 0x0 0x0 0x0 0x0)

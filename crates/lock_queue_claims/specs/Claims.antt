@@ -14,6 +14,7 @@ use Rattle.lock_queue.specs.Good.{good}
 use Rattle.lock_queue.specs.Requests.{removed, modeOf, Request, asks, leaves, lapses, queueRows, blankAnswer, number, after, answer}
 use Rattle.lock_queue.specs.declared.LeaseExpiry.{LeaseExpiry}
 use Rattle.lock_queue.specs.declared.Waiting.{Waiting}
+use Rattle.numbers.specs.Numbers.{MALFORMED, BAD-QUEUE, PAIR-DENIED, STANDS-ALREADY, QUEUE-FULL, NOT-STANDING, LEASE-OUT-OF-RANGE, LEASE-RUNS}
 
 -- Each number exactly when its row applies and none above it does.
 abbrev pub EachNumber : Type 0
@@ -100,11 +101,11 @@ HoldersShared =
 abbrev pub RoomAfterLeaving : Type 0
 RoomAfterLeaving =
     (lent : ℕ) (q : State) (d : ℕ) (new : Waiting) → number lent q (leaves d) ≡ 0 →
-    number lent (after lent q (leaves d)) (asks new) ≡ 13 → ⊥
+    number lent (after lent q (leaves d)) (asks new) ≡ QUEUE-FULL → ⊥
 
 -- Desk 0, with any start, never stands in a good queue, so that its leaving gets 15.
 abbrev pub NoDeskZero : Type 0
-NoDeskZero = (lent : ℕ) (q : State) (start : ℕ) → T (good lent q) → start < 65536 → number lent q (leaves start) ≡ 15
+NoDeskZero = (lent : ℕ) (q : State) (start : ℕ) → T (good lent q) → start < 65536 → number lent q (leaves start) ≡ NOT-STANDING
 
 -- Places beyond the lent ones make no difference, and keep what they hold.
 abbrev pub BeyondLent : Type 0
@@ -114,13 +115,13 @@ BeyondLent =
 
 -- Rule 5.1: what asking, leaving and leaving by lease may answer, besides 0.
 abbrev pub askNumbers : List ℕ
-askNumbers = 1 ∷ 10 ∷ 11 ∷ 12 ∷ 13 ∷ []
+askNumbers = MALFORMED ∷ BAD-QUEUE ∷ PAIR-DENIED ∷ STANDS-ALREADY ∷ QUEUE-FULL ∷ []
 
 abbrev pub leaveNumbers : List ℕ
-leaveNumbers = 10 ∷ 15 ∷ []
+leaveNumbers = BAD-QUEUE ∷ NOT-STANDING ∷ []
 
 abbrev pub lapseNumbers : List ℕ
-lapseNumbers = 10 ∷ 15 ∷ 21 ∷ 25 ∷ []
+lapseNumbers = BAD-QUEUE ∷ NOT-STANDING ∷ LEASE-OUT-OF-RANGE ∷ LEASE-RUNS ∷ []
 
 -- Rule 5.1: every number of the queue is from its list.
 pub record QueueListed : Type 0 where

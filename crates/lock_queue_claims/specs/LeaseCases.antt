@@ -39,6 +39,8 @@ LeaseEnds =
     ∷ silent 0x403e_0000_0000_0000 0x3fe0_0000_0000_0000 0x4062_2000_0000_0000 0x4059_0000_0000_0000
     -- since 2^-60, at 45: the difference is below 45, and rounds to it
     ∷ silent 0x403e_0000_0000_0000 0x3fe0_0000_0000_0000 0x3c30_0000_0000_0000 0x4046_8000_0000_0000
+    -- a period of 0.1, since 0.4, at 0.5: 0.5 less 0.4 is below 0.1, though 0.4 and 0.1 add up to 0.5
+    ∷ silent 0x3fb9_9999_9999_999a 0x0 0x3fd9_9999_9999_999a 0x3fe0_0000_0000_0000
     -- drift 2^-53: 1 and the drift round to 1, so that the wait is 30; one step more, and they round up
     ∷ silent 0x403e_0000_0000_0000 0x3ca0_0000_0000_0000 0x0 0x403e_0000_0000_0000
     ∷ silent 0x403e_0000_0000_0000 0x3ca0_0000_0000_0001 0x0 0x403e_0000_0000_0000
@@ -51,7 +53,7 @@ LeaseEnds =
     ∷ silent 0x40f5_1800_0000_0000 0x3fe0_0000_0000_0000 0x0 0x40ff_a400_0000_0000
     ∷ silent 0x40f5_1800_0000_0000 0x3fe0_0000_0000_0000 0x0 0x40ff_a3ff_ffff_ffff
     ∷ [])
-    ≡ 0 ∷ 25 ∷ 0 ∷ 25 ∷ 0 ∷ 0 ∷ 25 ∷ 25 ∷ 0 ∷ 25 ∷ 0 ∷ 25 ∷ []
+    ≡ 0 ∷ 25 ∷ 0 ∷ 25 ∷ 0 ∷ 25 ∷ 0 ∷ 25 ∷ 25 ∷ 0 ∷ 25 ∷ 0 ∷ 25 ∷ []
 
 -- The limits of the lease term and their neighbours (rule 13.2), with times at which the wait is over.
 abbrev pub LeaseLimits : Type 0

@@ -13,6 +13,7 @@ use Rattle.lock_queue.specs.Good.{good}
 use Rattle.lock_queue.specs.Lease.{inRange}
 use Rattle.lock_queue.specs.Requests.{leaves, lapses, number, after, answer}
 use Rattle.lock_queue.specs.declared.LeaseExpiry.{LeaseExpiry}
+use Rattle.numbers.specs.Numbers.{LEASE-OUT-OF-RANGE, LEASE-RUNS}
 
 -- Rules 13.3 to 13.5: a silent desk leaves exactly when the queue is good, the term and the times are in range, the desk stands, and the time since
 -- `begin`, rounded once, is at least the period times the rounded sum of 1 and the drift.
@@ -35,7 +36,7 @@ LeavesAsLeaving =
 abbrev pub NoNumber : Type 0
 NoNumber =
     (lent : ℕ) (q : State) (r : LeaseExpiry) → (r .lease .period ≡ nan) ⊎ (r .lease .drift ≡ nan) ⊎ (r .begin ≡ nan) ⊎ (r .now ≡ nan) →
-    T (good lent q) → number lent q (lapses r) ≡ 21
+    T (good lent q) → number lent q (lapses r) ≡ LEASE-OUT-OF-RANGE
 
 -- The time now is before `begin`.
 abbrev pub WentBack : LeaseExpiry → Type 0
@@ -51,4 +52,4 @@ ClockBack =
 abbrev pub BackWaits : Type 0
 BackWaits =
     (lent : ℕ) (q : State) (r : LeaseExpiry) → T (fits binary64 (r .lease .period)) → WentBack r →
-    T (good lent q) → T (inRange r) → T (stands (r .desk) (desks (standing q))) → number lent q (lapses r) ≡ 25
+    T (good lent q) → T (inRange r) → T (stands (r .desk) (desks (standing q))) → number lent q (lapses r) ≡ LEASE-RUNS

@@ -12,6 +12,7 @@ use Rattle.lock_queue.specs.Queue.{State, standing, desk, desks, stands, noExcl
 use Rattle.lock_queue.specs.Good.{waitingFormed, good}
 use Rattle.lock_queue.specs.Requests.{modeOf, upgrading, denied, asks, leaves, number, after, answer}
 use Rattle.lock_queue.specs.declared.Waiting.{Waiting}
+use Rattle.numbers.specs.Numbers.{STANDS-ALREADY, QUEUE-FULL}
 
 -- The entry asks for an upgrade of the one that its desk has in the queue.
 abbrev pub AsksUpgrade : Waiting → State → Type 0
@@ -22,7 +23,7 @@ AsksUpgrade new q = T (upgrading (new .mode) (desk new) (standing q))
 abbrev pub TwelveMeans : Type 0
 TwelveMeans =
     (lent : ℕ) (q : State) (new : Waiting) →
-    (number lent q (asks new) ≡ 12)
+    (number lent q (asks new) ≡ STANDS-ALREADY)
     ↔ (T (good lent q) × T (waitingFormed new) × T (stands (desk new) (desks (standing q))) × ((new .mode ≡ shared) ⊎ (modeOf (desk new) (standing q) ≡ exclusive)))
 
 -- Rule 7.8: only the pair decides on a well-formed upgrade in a good queue.
@@ -33,7 +34,7 @@ UpgradeByPair =
 
 -- Rule 7.9: an upgrade is never told that the queue is full.
 abbrev pub UpgradeNeverFull : Type 0
-UpgradeNeverFull = (lent : ℕ) (q : State) (new : Waiting) → AsksUpgrade new q → number lent q (asks new) ≡ 13 → ⊥
+UpgradeNeverFull = (lent : ℕ) (q : State) (new : Waiting) → AsksUpgrade new q → number lent q (asks new) ≡ QUEUE-FULL → ⊥
 
 -- Rule 7.10: an accepted upgrade is an accepted leave, and then an accepted ask on the queue as it then is.
 abbrev pub UpgradeIsBoth : Type 0

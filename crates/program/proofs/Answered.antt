@@ -4,7 +4,7 @@ use mathlib.Core.Path.{_≡_, refl, sym, ap, _∙_}
 use mathlib.Core.List.{List, _++_}
 use mathlib.Core.Bool.{Bool, true, false}
 use lib.ListN.{length, take, drop, replicate, length-drop, length-append}
-use lib.Seq.{take-at, take-length, length-take-le}
+use lib.Seq.{take-at, length-take-le}
 use borrow.Author.Tests.{lt-ltb, le-ltb}
 use native.Mathlib.Omega.{arith}
 use native.Mathlib.Nat.{zero-add}
@@ -21,10 +21,7 @@ use Rattle.image.specs.declared.Dimensions.{Dimensions}
 use Rattle.program.specs.Program.{firstLine, mostLine, mostInput, imageOf, streamOf, blankOf, printed, mostPrinted, outputOf, mostOutput, outputWithin}
 use Rattle.program.specs.inner.Ready.{Ready}
 use Rattle.image.proofs.InFront.{Fronting, front, good-front}
-
--- The stream lent as the rest of the input, from a place on to its end.
-pub back-of : (size : ℕ) (input : List ℕ) → take (length input - size) (drop size input) ≡ drop size input
-back-of size input = rw (← length-drop size input) (take-length (drop size input))
+use Rattle.store.proofs.Running.{back-of}
 
 front-of : (n : ℕ) (v l : List ℕ) → length v ≡ n → take n (splice 0 v l) ≡ v
 unfolding splice

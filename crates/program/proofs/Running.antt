@@ -10,7 +10,10 @@ use Rattle.program.specs.inner.Put.{Put}
 use Rattle.program.proofs.Puts.{put-put, put-wide, Putting, putting-none, putting-more, putting-done}
 use Rattle.guard.specs.declared.Answer.{Answer}
 use Rattle.program.specs.Program.{lineBy, lineOf, linesFrom, lastLine, mostLine, printed, mostPrinted}
-use Rattle.store.specs.Runs.{runs, numbersOf}
+use Rattle.store.specs.Runs.{runs, numbersOf, perLine, ServesTo}
+use Rattle.store.specs.Ran.{RunsTo}
+use Rattle.store.specs.declared.Ran.{Ran}
+use Rattle.program.proofs.OneLine.{none-left, one-judged}
 use Rattle.store_model.specs.Serve.{serve}
 use Rattle.stream.specs.Stream.{commands, nextAt, endOf}
 use Rattle.stream.specs.declared.Next.the-variants.{Whole, Cut}
@@ -40,6 +43,16 @@ running-none start image reply stream out h =
     }
 
 module _ {start : ℕ} {image₀ reply₀ stream out₀ image reply out : List ℕ} {from place to : ℕ} (r : Running start image₀ reply₀ stream out₀ image reply out from place to) where
+  -- What is left was run with room for one line.
+  module _ (line : List ℕ) {image′ reply′ line′ : List ℕ} {ran : Ran} (eight : length line ≡ perLine)
+      (run : RunsTo V1 image (take (length stream - from) (drop from stream)) reply line ran image′ reply′ line′) where
+    pub running-stops : ran .count ≡ 0 → nextAt V1 stream from ≡ Cut
+    running-stops = none-left image reply stream line from eight run
+
+    pub running-judged : (ran .count ≡ 0 → ⊥) →
+        (nextAt V1 stream from ≡ Whole (from + ran .end)) × ServesTo V1 image (take (from + ran .end - from) (drop from stream)) reply line′ image′ reply′
+    running-judged = one-judged image reply stream line from eight run
+
   pub running-within : (end : ℕ) → nextAt V1 stream from ≡ Whole end → (from < end) × (end ≤ length stream) × (place < end) × (to + mostLine ≤ length out)
   running-within end e =
       let s = walk.passes V1 stream from end e in

@@ -11,6 +11,7 @@ use Rattle.lists.specs.Parts.{Bytes}
 use Rattle.lists.specs.Table.{applies, earlier, noRow, settled, listed}
 use Rattle.redo_log.specs.Log.{LogRecord, beginKind, bodiesFrom, mostLog, recordTransaction, recordCount, recordAt, lastBegun, goodLog, logNumber, records}
 use Rattle.redo_log.specs.Append.{Store, stored, stores, appendRows, appendNumber, appended}
+use Rattle.numbers.specs.Numbers.{BAD-LOG, LOG-FULL, APPEND-CUT}
 
 -- ---- one append (rules 11.10 to 11.13)
 
@@ -24,10 +25,10 @@ pub record Appending (budget : ℕ) (log : List ℕ) (r : LogRecord) : Type 0 wh
       ↔ (T (applies (suc n) (appendRows budget log r)) × T (noRow (earlier (suc n) (appendRows budget log r))))
   pub taken : (appendNumber budget log r ≡ 0) ↔ T (noRow (appendRows budget log r))
   -- a refusal changes nothing
-  pub bad : appendNumber budget log r ≡ 23 → appended budget log r ≡ log
-  pub full : appendNumber budget log r ≡ 24 → appended budget log r ≡ log
+  pub bad : appendNumber budget log r ≡ BAD-LOG → appended budget log r ≡ log
+  pub full : appendNumber budget log r ≡ LOG-FULL → appended budget log r ≡ log
   -- power fails after any store but the last: what is read back is what was read back before
-  pub cut : appendNumber budget log r ≡ 26 → (goodLog (appended budget log r) ≡ true) × (records (appended budget log r) ≡ records log)
+  pub cut : appendNumber budget log r ≡ APPEND-CUT → (goodLog (appended budget log r) ≡ true) × (records (appended budget log r) ≡ records log)
   -- after the last store it is that and the record
   pub whole : appendNumber budget log r ≡ 0 → (goodLog (appended budget log r) ≡ true) × (records (appended budget log r) ≡ records log ++ r ∷ [])
   -- until the body is stored, nothing in front of the bodies changes; until every other store is done, the count stays
@@ -42,10 +43,10 @@ Appends = (budget : ℕ) (log : List ℕ) (r : LogRecord) → Appending budget l
 
 -- Rule 5.1: what a check and an append may answer, besides 0.
 abbrev pub checkNumbers : List ℕ
-checkNumbers = 23 ∷ []
+checkNumbers = BAD-LOG ∷ []
 
 abbrev pub appendNumbers : List ℕ
-appendNumbers = 23 ∷ 24 ∷ 26 ∷ []
+appendNumbers = BAD-LOG ∷ LOG-FULL ∷ APPEND-CUT ∷ []
 
 pub record LogListed : Type 0 where
   pub checked : (log : List ℕ) → T (listed checkNumbers (logNumber log))

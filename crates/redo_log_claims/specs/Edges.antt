@@ -1,13 +1,16 @@
 -- Worked cases of a redo log that notice a rule misread in definition and code alike: a log written out in bytes, what
 -- damages it, the order of records and the limits. Proved in proofs/Edges.antt.
 -- Assumes nothing.
-use Prim.Native.Nat.{ℕ}
+use Prim.Native.Nat.{ℕ, _+_, _*_}
 use mathlib.Core.Path.{_≡_}
 use mathlib.Core.List.{List, [], _∷_, _++_, map}
 use mathlib.Core.Bool.{true, false}
 use lib.ListN.{set, take, replicate}
+use Rattle.lists.specs.Le.{toLe}
+use Rattle.lists.specs.Parts.{part, tabulate, concatMap}
 use Rattle.redo_log.specs.Log.{LogRecord, noRecord, recordCard, recordSide, recordText, recordTransaction, shaped, checksum, logNumber, readBack, readAt}
-use Rattle.redo_log.specs.Append.{lacks}
+use Rattle.redo_log.specs.Append.{lacks, appendNumber, appended}
+use Rattle.redo_log_claims.specs.Claims.{appendedAll}
 use Rattle.redo_log_claims.specs.Cases.{beginOf, updateOf, commitOf, syncedOf, emptyLog, AppendCase, AllHold, appendCase}
 
 -- ---- A log in bytes (rules 11.1 to 11.4): begin 7, an update of card 258 on side 2 with one byte, commit 7, card 258 synced as of 7.
@@ -45,11 +48,30 @@ damaged =
     -- a commit of 8, with its sum; a begin of 0, with its sum
     ∷ set (set fourBytes 2209 8) 30 8
     ∷ set (set fourBytes 2201 0) 8 0
-    -- side 3, with its sum
+    -- side 3 and side 0, with their sums
     ∷ set (set fourBytes 2207 3) 19 103
+    ∷ set (set fourBytes 2207 0) 19 100
+    -- line 0 again: the third and the fourth byte of its place, the second of its length, the third and the fourth of its sum
+    ∷ set fourBytes 4 1
+    ∷ set fourBytes 5 1
+    ∷ set fourBytes 7 1
+    ∷ set fourBytes 10 1
+    ∷ set fourBytes 11 1
     -- a fifth record is counted, whose line is zeros
     ∷ set fourBytes 0 5
     ∷ []
+
+-- 201 synced records, all of them as rule 11.6 asks, but for their count: line 200 is the first 11 bytes of the bodies.
+abbrev pub overfull : List ℕ
+overfull =
+    201
+    ∷ 4 ∷ 153 ∷ 8 ∷ 0 ∷ 0 ∷ 6 ∷ 0 ∷ 96 ∷ 0 ∷ 0 ∷ 0
+    ∷ (concatMap (λ (i : ℕ). (4 ∷ []) ++ toLe 4 (2207 + 6 * i) ++ (6 ∷ 0 ∷ 0 ∷ 0 ∷ 0 ∷ 0 ∷ [])) (tabulate (λ (i : ℕ). i) 199)
+    ++ (4 ∷ 73 ∷ 13 ∷ 0 ∷ 0 ∷ 6 ∷ replicate 1200 0))
+
+-- A body whose length needs two bytes and whose sum needs three.
+abbrev pub wide : List LogRecord
+wide = beginOf 7 ∷ updateOf 258 2 (replicate 300 255) ∷ []
 
 -- ---- The order of records (rule 11.5).
 
@@ -83,7 +105,15 @@ pub record EdgeCases : Type 0 where
   pub text : recordText (logRecord 2 (2 ∷ 1 ∷ 2 ∷ 97 ∷ [])) ≡ 97 ∷ []
   -- what is not counted means nothing, and of a bad log nothing is read back
   pub uncounted : readBack (set (set fourBytes 0 3) 34 9) ≡ take 3 fourRecords
-  pub bad : map logNumber damaged ≡ replicate 10 23
+  pub bad : map logNumber damaged ≡ replicate 16 23
+  pub counted201 : logNumber overfull ≡ 23
+  -- line 1: kind 2, place 2,205, length 303, sum 76,505
+  pub wide-line : part 12 11 (appendedAll (emptyLog 307) wide) ≡ 2 ∷ 157 ∷ 8 ∷ 0 ∷ 0 ∷ 47 ∷ 1 ∷ 217 ∷ 42 ∷ 1 ∷ 0 ∷ []
+  pub wide-back : readBack (appendedAll (emptyLog 307) wide) ≡ wide
+  -- rule 11.12: a log without room gets 24 and is as it was, whatever the budget; so it is after 23
+  pub full : map (λ (n : ℕ). appendNumber n fourBytes (beginOf 8)) (0 ∷ 3 ∷ 99 ∷ []) ≡ replicate 3 24
+  pub full-kept : map (λ (n : ℕ). appended n fourBytes (beginOf 8)) (0 ∷ 3 ∷ 99 ∷ []) ≡ replicate 3 fourBytes
+  pub bad-kept : map (λ (n : ℕ). appended n fourBytes (commitOf 7)) (0 ∷ 3 ∷ 99 ∷ []) ≡ replicate 3 fourBytes
   pub none : readAt (set fourBytes 0 5) 0 ≡ noRecord
   pub orders : AllHold orderCases
   -- the longest log, and one byte more; the last line of the table is used, and there is no other

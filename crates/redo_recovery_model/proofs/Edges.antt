@@ -24,9 +24,12 @@ recovery-edges =
     record {
       own-pair = refl;
       no-pair = refl;
+      short-s = refl;
+      short-x = refl;
       marks = refl;
       given-up = refl;
       synced = refl;
+      synced-both = refl;
       ahead = refl;
       last-edition = refl;
     }

@@ -2,11 +2,11 @@
 -- a cut in front of the last store. A stricter hypothesis or a sentence left out is noticed here. Assumes nothing.
 use Prim.Native.Nat.{ℕ, zero, suc, _<_}
 use native.Mathlib.Omega.{arith}
-use mathlib.Core.Path.{_≡_, refl}
-use mathlib.Core.List.{List, [], _∷_, _++_}
+use mathlib.Core.Path.{_≡_, refl, sym}
+use mathlib.Core.List.{List, [], _∷_, _++_, append-nil}
 use mathlib.Core.Bool.{true, false}
 use lib.Dec.{T, eqb, lit<}
-use lib.ListN.{getD}
+use lib.ListN.{getD, set}
 use Rattle.formats.specs.Format.{V1}
 use Rattle.lists.specs.Parts.{part, splice, tabulate, concatMap, every, zeros, Bytes}
 use Rattle.lists.specs.Le.{le, toLe}
@@ -25,17 +25,20 @@ use Rattle.store_model.specs.Serve.{stepped, serveBy, serve}
 use Rattle.store_model.specs.Cases.{stamp1, stamp2, text205}
 use Rattle.image_claims.proofs.Uses.{nothing-numbered}
 use Rattle.store_model.proofs.ByTest.{bytes-by}
-use Rattle.redo_log.specs.Log.{LogRecord, shaped, lastBegun, opened, follows, total, startAt, recordAt, recordOk, goodLog, records}
+use Rattle.redo_log.specs.Log.{LogRecord, shaped, lastBegun, opened, follows, total, startAt, recordAt, recordOk, goodLog, logNumber, records}
 use Rattle.redo_log.specs.Append.{stored, puts, lineBytes, stores, appendNumber, appended}
 use Rattle.redo_log_claims.specs.Claims.{appendedAll, allStores, admittedOf, wholly, cutAfter, BytesOfRecords}
 use Rattle.redo_log_claims.specs.Cases.{beginOf, updateOf, commitOf, emptyLog}
 use Rattle.redo_recovery_model.specs.Recovery.{Pairs, FitsPairs, due, recoverySent, recoveryStep, recovering, recovered}
-use Rattle.redo_recovery_model.specs.Claims.{NoneRefused, Mixed, oneRecovery, neverAnswered, textIn, textOf, dueBelow, Untouched}
+use Rattle.redo_recovery_model.specs.Claims.{NoneRefused, FromRecovery, AllUnder, Mixed, oneRecovery, neverAnswered, textIn, textOf, rewritten, dueBelow, Untouched}
 use Rattle.redo_recovery_model.specs.Cases.{pairs1, pairs2, blankImage}
 use Rattle.redo_recovery_model.proofs.Never.{recovery-never}
 use Rattle.redo_recovery_model.proofs.Sending.{demand3-mixed}
-use Rattle.redo_recovery_model.proofs.Texts.{twice, cut-recovers, cut-anywhere}
-use Rattle.redo_recovery_model.proofs.Versions.{no-recovery-2}
+use Rattle.redo_recovery_model.proofs.Texts.{twice, cut-recovers, cut-anywhere, stopped-texts, cut-recovery}
+use Rattle.redo_recovery_model.proofs.Versions.{no-recovery-2, unsound-recovery}
+use Rattle.redo_recovery_model.proofs.Pairs.{under}
+use Rattle.redo_recovery_model.proofs.Steps.{recovery-listed}
+use Rattle.redo_log_claims.proofs.Life.{byte-changed}
 
 -- ---- what the uses rest on, by computation
 
@@ -166,3 +169,48 @@ cut49 = refl
 cut49-text : textIn (recovered pairs1 (cutAfter 49 before three) blankImage .image) original 0 ≡ textOf
     (records before ++ wholly 49 (admittedOf before three)) original 0 (textIn blankImage original 0)
 cut49-text = cut-anywhere 49 before three before-good pairs1 blankImage fits1 before-bytes three-bytes blank-bytes cut49 original 0
+
+-- ---- bytes that are no image of version 1, with an update due (rule 11.18)
+
+unsound-first : (recovered pairs1 after (1 ∷ []) .number ≡ 9) × (recovered pairs1 after (1 ∷ []) .line ≡ 1)
+unfolding due dueBelow appendedAll appended stores lineBytes puts stored shaped lastBegun opened follows total startAt recordAt recordOk goodLog records
+    every all allFrom le toLe part splice tabulate sound headerSound
+unsound-first = unsound-recovery pairs1 after (1 ∷ []) refl .first refl 1 (lit< tt) refl refl
+
+-- ---- numbers and pairs (rules 5.1, 11.16 and 11.17), of what is no log and no image too
+
+listed-number : FromRecovery (recovered pairs1 [] [] .number)
+listed-number = recovery-listed pairs1 [] []
+
+under-pairs : AllUnder pairs2 (recovered pairs2 after blankImage .sent)
+under-pairs = under pairs2 after blankImage fits2 after-bytes blank-bytes
+
+-- ---- a recovery that stopped (rule 11.23): at its first write, on what is no image; and one that was cut before it
+
+stopped-number : recovered pairs1 after (1 ∷ []) .number ≡ 0 → ⊥
+stopped-number e = absurd (omega (arith, e, unsound-first .0))
+
+after-good : goodLog after ≡ true
+unfolding appendedAll appended stores lineBytes puts stored shaped lastBegun opened follows total startAt recordAt recordOk goodLog every all allFrom le toLe part
+after-good = refl
+
+stopped : textIn (recovered pairs1 after (1 ∷ []) .image) original 0 ≡ rewritten (records after) original 0 (recovered pairs1 after (1 ∷ []) .line) (textIn (1 ∷ []) original 0)
+stopped = stopped-texts pairs1 after (1 ∷ []) fits1 after-bytes (bytes-by (1 ∷ []) tt) after-good stopped-number original 0
+
+-- The power fails before the only write; the second run is under other pairs.
+cut-number : recovered pairs2 after blankImage .number ≡ 0
+unfolding due recoverySent recoveryStep recovering recovered appendedAll stored puts lineBytes stores appended shaped lastBegun
+    opened follows total startAt recordAt recordOk goodLog records serve serveBy stepped sound headerSound cardSound translationSound tailZero decode
+    cardAt entryAt readEntry encode bodies pad entryBytes header shapeOk fresh replied raise entrySound commandBytes formed payload fieldsOf
+    wellFormed all allFrom le toLe part splice tabulate concatMap every zeros
+cut-number = refl
+
+cut-before : textIn (recovered pairs2 after blankImage .image) original 0 ≡ textOf (records after) original 0 (textIn blankImage original 0)
+unfolding imageAfter
+cut-before = cut-recovery pairs1 pairs2 after blankImage fits1 fits2 after-bytes blank-bytes (recovered pairs1 after blankImage .sent) [] (sym (append-nil (recovered pairs1 after blankImage .sent))) cut-number original 0
+
+-- ---- the last byte of a log's last body, one more than it was (rule 11.26)
+
+changed : logNumber (set after 2214 1) ≡ 23
+unfolding appendedAll appended stores lineBytes puts stored shaped lastBegun opened follows total startAt recordAt recordOk goodLog every all allFrom le toLe part
+changed = byte-changed after 2 2214 1 after-good after-bytes (omega arith) (omega arith) (omega arith) (omega arith) (λ e. absurd (omega (arith, e)))

@@ -24,6 +24,7 @@ use Rattle.stamps.specs.Stamp.{exclusive}
 use Rattle.commands.specs.Command.{verifier, update}
 use Rattle.commands.specs.Bytes.{fieldsOf}
 use Rattle.redo_recovery_model.specs.Recovery.{Pairs, FitsPairs, Recovery, recordIn, due, recoveryPair, recoverySent, recovered}
+use Rattle.numbers.specs.Numbers.{MARK-DIFFERS, EDITION-WRONG, REPLY-SHORT, UNSOUND, TOO-FAR, BAD-LOG, APPEND-CUT}
 
 -- ---- recovery's requests and its answer (rules 11.18 and 11.19)
 
@@ -64,10 +65,10 @@ pub record Recovers (pairs : Pairs) (log image : List ℕ) : Type 0 where
   -- it stops at the first request that is refused, and answers its number
   pub stops : StopsWith (recovered pairs log image .number) (traceFrom V1 image (recovered pairs log image .sent))
   -- 23 comes exactly for a bad log, and then nothing is sent
-  pub bad : (recovered pairs log image .number ≡ 23) ↔ (goodLog log ≡ false)
+  pub bad : (recovered pairs log image .number ≡ BAD-LOG) ↔ (goodLog log ≡ false)
   pub silent : goodLog log ≡ false → recovered pairs log image .sent ≡ []
   -- line 0 is never that of a refused write: it comes exactly with 0 and with 23
-  pub line : (recovered pairs log image .line ≡ 0) ↔ ((recovered pairs log image .number ≡ 0) ⊎ (recovered pairs log image .number ≡ 23))
+  pub line : (recovered pairs log image .line ≡ 0) ↔ ((recovered pairs log image .number ≡ 0) ⊎ (recovered pairs log image .number ≡ BAD-LOG))
   -- from a good log 0 comes exactly when no request was refused, and then every update that is due was written
   pub accepts : goodLog log ≡ true → (recovered pairs log image .number ≡ 0) ↔ AllTaken (traceFrom V1 image (recovered pairs log image .sent))
   pub all-due : recovered pairs log image .number ≡ 0 → WritesOf pairs (records log) image (dueBelow (records log) (length (records log))) (recovered pairs log image .sent)
@@ -79,7 +80,7 @@ RecoversAll = (pairs : Pairs) (log image : List ℕ) → Recovers pairs log imag
 
 -- Rule 5.1: recovery answers a number of the store or 23.
 abbrev pub FromRecovery : ℕ → Type 0
-FromRecovery number = ((number ≤ 9) ⊎ (number ≡ 17)) ⊎ (number ≡ 23)
+FromRecovery number = ((number ≤ UNSOUND) ⊎ (number ≡ TOO-FAR)) ⊎ (number ≡ BAD-LOG)
 
 abbrev pub RecoveryListed : Type 0
 RecoveryListed = (pairs : Pairs) (log image : List ℕ) → FromRecovery (recovered pairs log image .number)
@@ -132,7 +133,7 @@ Under =
 -- Rule 11.22: the mark that a write of recovery expects is the stored one, a translation names the stored edition, and no write reads. So recovery does not answer
 -- these.
 abbrev pub neverAnswered : List ℕ
-neverAnswered = 4 ∷ 6 ∷ 8 ∷ []
+neverAnswered = MARK-DIFFERS ∷ EDITION-WRONG ∷ REPLY-SHORT ∷ []
 
 abbrev pub RecoveryNever : Type 0
 RecoveryNever =
@@ -176,7 +177,7 @@ CutAnywhere =
 -- Rule 11.13: recovery from a log whose append was cut is recovery from the log before it.
 abbrev pub CutRecovers : Type 0
 CutRecovers =
-    (budget : ℕ) (log : List ℕ) (r : LogRecord) → appendNumber budget log r ≡ 26
+    (budget : ℕ) (log : List ℕ) (r : LogRecord) → appendNumber budget log r ≡ APPEND-CUT
     → (pairs : Pairs) (image : List ℕ) → recovered pairs (appended budget log r) image ≡ recovered pairs log image
 
 -- Rule 11.21: a recovery that answers 0 leaves each text as the updates that are due leave it; one that stopped, as those do that stand above its line. Whether the
@@ -220,10 +221,10 @@ Twice =
 -- The image stays. A bad log is told by 23; else the first update that is due is refused with 9, at its line; else the answer is 0.
 pub record Untouched (log image : List ℕ) (r : Recovery) : Type 0 where
   pub kept : r .image ≡ image
-  pub bad : goodLog log ≡ false → (r .number ≡ 23) × (r .line ≡ 0)
+  pub bad : goodLog log ≡ false → (r .number ≡ BAD-LOG) × (r .line ≡ 0)
   pub first :
       goodLog log ≡ true → (i : ℕ) → i < length (records log) → due (records log) i ≡ true → dueBelow (records log) i ≡ []
-      → (r .number ≡ 9) × (r .line ≡ i)
+      → (r .number ≡ UNSOUND) × (r .line ≡ i)
   pub idle : goodLog log ≡ true → dueBelow (records log) (length (records log)) ≡ [] → (r .number ≡ 0) × (r .line ≡ 0)
 
 abbrev pub UnsoundRecovery : Type 0

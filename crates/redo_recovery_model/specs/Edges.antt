@@ -26,6 +26,13 @@ pairsOf0 = record { s = stamp2 ∷ []; x = stamp2 ∷ [] }
 abbrev pub pairsAhead : Pairs
 pairsAhead = record { s = stamp1 ∷ []; x = stamp 1000001 1 0 ∷ [] }
 
+-- For card 1 an x and no s, and an s and no x.
+abbrev pub pairsShortS : Pairs
+pairsShortS = record { s = stamp1 ∷ []; x = stamp1 ∷ stamp2 ∷ [] }
+
+abbrev pub pairsShortX : Pairs
+pairsShortX = record { s = stamp1 ∷ stamp2 ∷ []; x = stamp1 ∷ [] }
+
 -- Both texts of card 1 in one transaction.
 abbrev pub bothOf1 : List LogRecord
 bothOf1 = beginOf 1 ∷ updateOf 1 1 text205 ∷ updateOf 1 2 text401 ∷ commitOf 1 ∷ []
@@ -69,6 +76,13 @@ pub record RecoveryEdges : Type 0 where
   -- a card beyond the lists has no pair: its write is sent all the same, and is malformed
   pub no-pair :
       runLeft pairsOf0 bothOf1 blankImage ≡ left 1 1 (noPair ∷ noPair ∷ []) (0 ∷ 0 ∷ []) (write 3 1 noPair 0 0 0 text205 ∷ [])
+  -- rule 11.16: each list has its own end; the s may be none, and without an x the write is malformed
+  pub short-s :
+      runLeft pairsShortS (beginOf 1 ∷ updateOf 1 1 text205 ∷ commitOf 1 ∷ []) blankImage
+      ≡ left 0 0 (noPair ∷ pair 0 stamp2 ∷ []) (0 ∷ 1 ∷ []) (write 3 1 (pair 0 stamp2) 0 0 0 text205 ∷ [])
+  pub short-x :
+      runLeft pairsShortX (beginOf 1 ∷ updateOf 1 1 text205 ∷ commitOf 1 ∷ []) blankImage
+      ≡ left 1 1 (noPair ∷ noPair ∷ []) (0 ∷ 0 ∷ []) (write 3 1 (pair stamp2 0) 0 0 0 text205 ∷ [])
   -- rule 11.17: the stored mark, expected and left, in each of three writes; the translation names the second edition
   pub marks :
       runLeft pairsOf0 (beginOf 1 ∷ updateOf 0 1 text401 ∷ updateOf 0 1 text205 ∷ updateOf 0 2 text401 ∷ commitOf 1 ∷ []) markedImage
@@ -82,6 +96,10 @@ pub record RecoveryEdges : Type 0 where
       (beginOf 1 ∷ updateOf 0 1 text205 ∷ commitOf 1 ∷ beginOf 2 ∷ updateOf 0 1 text205 ∷ commitOf 2 ∷ beginOf 3 ∷ updateOf 0 1 text401 ∷ commitOf 3 ∷ syncedOf 0 2 ∷ [])
       blankImage
       ≡ left 0 0 (pair stamp2 stamp2 ∷ noPair ∷ []) (1 ∷ 0 ∷ []) (write 3 0 (pair stamp2 stamp2) 0 0 0 text401 ∷ [])
+  -- and it leaves out both texts of the card
+  pub synced-both :
+      runLeft pairsOf0 (beginOf 2 ∷ updateOf 0 1 text205 ∷ updateOf 0 2 text401 ∷ commitOf 2 ∷ syncedOf 0 2 ∷ []) blankImage
+      ≡ left 0 0 (noPair ∷ noPair ∷ []) (0 ∷ 0 ∷ []) []
   -- rule 11.22: a pair from too far ahead; the last edition, and none behind it
   pub ahead :
       runLeft pairsAhead (beginOf 1 ∷ updateOf 0 1 text205 ∷ commitOf 1 ∷ []) blankImage

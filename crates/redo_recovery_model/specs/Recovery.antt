@@ -17,6 +17,7 @@ use Rattle.redo_log.specs.Log.{LogRecord, noRecord, updateKind, commitKind, syn
 use Rattle.store_model.specs.Serve.{serve}
 use Rattle.lists.specs.Search.{any}
 use Rattle.store_model.specs.Words.{Sent}
+use Rattle.numbers.specs.Numbers.{BAD-LOG}
 
 -- ---- which updates are due (rule 11.15), of records in the order of the log
 
@@ -112,7 +113,7 @@ recovering pairs rs image (suc i) =
 -- Rules 11.18 and 11.19: recovery goes by what is read back of the log and by nothing else; a bad log gets 23 and no request.
 unfoldable pub recovered : Pairs → List ℕ → List ℕ → Recovery
 recovered pairs log image =
-    cond (goodLog log) (recovering pairs (records log) image (length (records log))) (record { number = 23; line = 0; image = image; sent = [] })
+    cond (goodLog log) (recovering pairs (records log) image (length (records log))) (record { number = BAD-LOG; line = 0; image = image; sent = [] })
 
 -- Each stamp fits in 64 bits.
 pub record FitsPairs (p : Pairs) : Type 0 where

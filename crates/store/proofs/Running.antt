@@ -20,8 +20,8 @@ use Rattle.stream.proofs.Commands.{Walked, walked-none, walked-more}
 use Rattle.stream.proofs.Walks as walk
 use Rattle.store.specs.Ran.{lined, RunsTo}
 
--- What stands first in what is left of a stream stands at its place.
-back-of : (at : ℕ) (s : List ℕ) → take (length s - at) (drop at s) ≡ drop at s
+-- A stream lent from a place on to its end; what stands first in it stands at that place.
+pub back-of : (at : ℕ) (s : List ℕ) → take (length s - at) (drop at s) ≡ drop at s
 back-of at s = rw (← length-drop at s) (take-length (drop at s))
 
 pub rest-whole : (f : Format) (stream : List ℕ) (at size : ℕ) → nextAt f (take (length stream - at) (drop at stream)) 0 ≡ Whole size → nextAt f stream at ≡ Whole (at + size)

@@ -35,6 +35,7 @@ use Rattle.store_model.specs.Words.{
   intrudes,
 }
 use Rattle.store_model.specs.Cases.{sentA, sentD, sentHidden, sentLifted}
+use Rattle.numbers.specs.Numbers.{STALE, EDITION-WRONG, UNSOUND, TOO-FAR}
 
 -- What is sent is bytes: each element is below 256, and nothing else.
 pub record SentBytes (s : Sent) : Type 0 where
@@ -52,12 +53,12 @@ pub record Claim (n : ℕ) (sent : List Sent) (trace : List Event) : Type 0 wher
   -- a command that is well formed and names a card of the image gets 3 exactly when it comes late
   pub staleness :
       (later : List Event) (e : Event) (before : List Event) → trace ≡ later ++ e ∷ before → Proper n e
-      → (e .answer .number ≡ 3) ↔ (late before (commandOf e) ≡ true)
+      → (e .answer .number ≡ STALE) ↔ (late before (commandOf e) ≡ true)
   -- one that is not late is refused with 17 exactly when it comes from too far ahead
   pub aheadness :
       (later : List Event) (e : Event) (before : List Event) → trace ≡ later ++ e ∷ before → Proper n e
       → late before (commandOf e) ≡ false
-      → (e .answer .number ≡ 17) ↔ (farAhead before (commandOf e) ≡ true)
+      → (e .answer .number ≡ TOO-FAR) ↔ (farAhead before (commandOf e) ≡ true)
   -- a read of a translation that is neither late nor from too far ahead and has the right mark is refused as behind exactly when the translation is
   pub behindness :
       (later : List Event) (e : Event) (before : List Event) (t : ℕ) → trace ≡ later ++ e ∷ before → Proper n e
@@ -65,7 +66,7 @@ pub record Claim (n : ℕ) (sent : List Sent) (trace : List Event) : Type 0 wher
       → late before (commandOf e) ≡ false
       → farAhead before (commandOf e) ≡ false
       → rightMark before (commandOf e) ≡ true
-      → (e .answer .number ≡ 6) ↔ (outdated t before (commandOf e .card) ≡ true)
+      → (e .answer .number ≡ EDITION-WRONG) ↔ (outdated t before (commandOf e .card) ≡ true)
   -- rule 9.4: what an accepted read shows is the text of its card and language that was accepted last, as long as its length field says, and nothing
   -- where there is none
   pub showing :
@@ -126,7 +127,7 @@ Exactly = (f : Format) (image command reply : List ℕ) → Given f image comman
 
 -- Demand 1: every number is from the list (rule 4.1: 0 to 9, and 17), and a refusal changes nothing.
 pub record Safe (f : Format) (image command reply : List ℕ) : Type 0 where
-  pub listed : (serve f image command reply .answer .number ≤ 9) ⊎ (serve f image command reply .answer .number ≡ 17)
+  pub listed : (serve f image command reply .answer .number ≤ UNSOUND) ⊎ (serve f image command reply .answer .number ≡ TOO-FAR)
   pub kept :
       (n : ℕ) → serve f image command reply .answer .number ≡ suc n
       → (serve f image command reply .image ≡ image) × (serve f image command reply .reply ≡ reply)
@@ -142,7 +143,7 @@ StaysSound =
 
 -- Rule 15.13: bytes whose header has not the number of a version, sound or not, are answered 9 by it, whatever is asked, and nothing changes.
 pub record Turned (g : Format) (image command reply : List ℕ) : Type 0 where
-  pub number : serve g image command reply .answer .number ≡ 9
+  pub number : serve g image command reply .answer .number ≡ UNSOUND
   pub kept : serve g image command reply .image ≡ image
   pub silent : serve g image command reply .reply ≡ reply
 

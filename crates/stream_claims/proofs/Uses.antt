@@ -1,10 +1,13 @@
--- Theorems on streams, used where their hypotheses only just hold: no bytes, a place beyond the end, no commands in
--- front of a rest. A stricter hypothesis or a sentence left out is noticed here. Assumes nothing.
-use Prim.Native.Nat.{_≤_}
+-- Theorems on streams, and on the numbers in them, used where their hypotheses only just hold: no bytes, a place beyond the end, no commands in
+-- front of a rest, the largest byte. A stricter hypothesis or a sentence left out is noticed here. Assumes nothing.
+use Prim.Native.Nat.{_^_, _≤_, _<_}
 use native.Mathlib.Omega.{arith}
 use mathlib.Core.Path.{_≡_, refl}
-use mathlib.Core.List.{[], _++_}
+use mathlib.Core.List.{[], _∷_, _++_}
 use lib.ListN.{drop, replicate}
+use Rattle.lists.specs.Le.{le, toLe}
+use Rattle.lists.proofs.Bytes.{Bytes-nil, Bytes-cons}
+use Rattle.lists.proofs.Claims.{number-comes-back, bytes-come-back, number-fits}
 use Rattle.formats.specs.Format.{V1, V2}
 use Rattle.stream.specs.Stream.{endToEnd, whole, commands, endOf, nextAt}
 use Rattle.stream.specs.declared.Next.the-variants.{Cut}
@@ -32,3 +35,23 @@ rest67 = claims .back V2 [] (replicate 67 0) (λ i h. absurd (omega (arith, h)))
 -- A place beyond the end is a cut, and nothing is read from there on.
 beyond : nextAt V1 [] 99 ≡ Cut → commands V1 (drop 99 []) ≡ []
 beyond = claims .stepping V1 [] 99 .stops
+
+-- ---- little-endian numbers, of no bytes and of one, at its largest
+
+number-none : le (toLe 0 0) ≡ 0
+number-none = number-comes-back 0 0 (omega arith)
+
+number-largest : le (toLe 1 255) ≡ 255
+number-largest = number-comes-back 1 255 (omega arith)
+
+digits-none : toLe 0 (le []) ≡ []
+digits-none = bytes-come-back [] Bytes-nil
+
+digits-largest : toLe 1 (le (255 ∷ [])) ≡ 255 ∷ []
+digits-largest = bytes-come-back (255 ∷ []) (Bytes-cons [] (omega arith) Bytes-nil)
+
+fits-none : le [] < 256 ^ 0
+fits-none = number-fits [] Bytes-nil
+
+fits-largest : le (255 ∷ []) < 256 ^ 1
+fits-largest = number-fits (255 ∷ []) (Bytes-cons [] (omega arith) Bytes-nil)

@@ -95,6 +95,9 @@ textCases =
     ∷ textCase (around 6 (holding 0 [])) (around 7 (holding 0 [])) 20 20
     ∷ textCase (around 7 (holding 1 c205)) (around 7 (holding 1 f401)) 0 0
     ∷ textCase (around 7 (holding 1 c205)) (around 7 (holding 1 f402)) 20 23
+    -- Sections beside one another are not within one another: nine of them, and two that are 8 deep with the outermost.
+    ∷ textCase (holding 9 (times 9 (sectionStep 0 []))) (holding 9 (times 9 (sectionStep 0 []))) 0 0
+    ∷ textCase (holding 3 (times 2 (4 ∷ around 6 (holding 0 [])) ++ c205)) (holding 3 (times 2 (4 ∷ around 6 (holding 0 [])) ++ f402)) 20 44
     -- As many steps as a count can say, and words as long as a length can say.
     ∷ textCase (holding 255 (times 255 noWords)) (holding 255 (times 255 abc)) 0 0
     ∷ textCase (holding 255 (times 254 noWords ++ c205)) (holding 255 (times 255 noWords)) 20 510
@@ -102,6 +105,11 @@ textCases =
     ∷ textCase (holding 255 (times 254 noWords)) (holding 0 []) 18 0
     ∷ textCase (holding 2 (2 ∷ 255 ∷ replicate 255 7 ++ c205)) (holding 2 (noWords ++ f402)) 20 259
     ∷ textCase (holding 1 (2 ∷ 255 ∷ replicate 254 7)) (holding 0 []) 18 0
+    -- The same in an inner section; words of any bytes; the least and the largest tenths.
+    ∷ textCase (holding 2 (sectionStep 255 (times 255 noWords) ++ c205)) (holding 2 (sectionStep 255 (times 255 abc) ++ f402)) 20 515
+    ∷ textCase (holding 2 (2 ∷ 4 ∷ 0 ∷ 255 ∷ 1 ∷ 4 ∷ c205)) (holding 2 (noWords ++ f402)) 20 8
+    ∷ textCase (holding 2 (3 ∷ 70 ∷ 0 ∷ 0 ∷ 3 ∷ 67 ∷ 255 ∷ 255 ∷ [])) (holding 2 (3 ∷ 70 ∷ 0 ∷ 0 ∷ 3 ∷ 67 ∷ 255 ∷ 255 ∷ [])) 0 0
+    ∷ textCase (holding 2 (3 ∷ 67 ∷ 0 ∷ 0 ∷ 3 ∷ 70 ∷ 255 ∷ 255 ∷ [])) (holding 2 (3 ∷ 70 ∷ 64 ∷ 1 ∷ 3 ∷ 70 ∷ 255 ∷ 254 ∷ [])) 20 6
     -- Bytes left over, by the text or by a section in it.
     ∷ textCase (holding 0 (0 ∷ [])) (holding 0 []) 18 0
     ∷ textCase (holding 0 []) (holding 0 noWords) 19 0

@@ -12,6 +12,7 @@ use Rattle.text_drops.specs.Drop.{near}
 use Rattle.text_drops.specs.declared.Drop.{Drop}
 use Rattle.texts.specs.Text.{TextStep, words, temperature, section, Section, done, _then_, stepBytes, stepsBytes, sectionBytes, Says, WellFormedText}
 use Rattle.texts.specs.Agree.{agreeSteps, unmatched, Verdict, Compared}
+use Rattle.numbers.specs.Numbers.{FIRST-ILL, SECOND-ILL, UNMATCHED}
 
 -- Rule 12.11: no text has two readings.
 abbrev pub OneReading : Type 0
@@ -100,16 +101,16 @@ AgreedBothWays = (a b : List ℕ) → Agreed a b ↔ Agreed b a
 -- there. Without 20 it is zero.
 pub record VerdictExactly (a b : List ℕ) (v : Verdict) : Type 0 where
   pub agreed : (v .number ≡ 0) ↔ Agreed a b
-  pub firstRefused : (v .number ≡ 18) ↔ (WellFormedText a → ⊥)
-  pub secondRefused : (v .number ≡ 19) ↔ (WellFormedText a × (WellFormedText b → ⊥))
-  pub differing : (v .number ≡ 20) ↔ Disagreed a b
-  pub inside : v .number ≡ 20 → (2 ≤ v .place) × (v .place ≤ length a)
-  pub there : v .number ≡ 20 → BeginsThere a (v .place) ⊎ EndsThere a (v .place)
-  pub placeless : (v .number ≡ 20 → ⊥) → v .place ≡ 0
+  pub firstRefused : (v .number ≡ FIRST-ILL) ↔ (WellFormedText a → ⊥)
+  pub secondRefused : (v .number ≡ SECOND-ILL) ↔ (WellFormedText a × (WellFormedText b → ⊥))
+  pub differing : (v .number ≡ UNMATCHED) ↔ Disagreed a b
+  pub inside : v .number ≡ UNMATCHED → (2 ≤ v .place) × (v .place ≤ length a)
+  pub there : v .number ≡ UNMATCHED → BeginsThere a (v .place) ⊎ EndsThere a (v .place)
+  pub placeless : (v .number ≡ UNMATCHED → ⊥) → v .place ≡ 0
 
 -- Rule 5.1: what a comparison may answer, besides 0.
 abbrev pub compareNumbers : List ℕ
-compareNumbers = 18 ∷ 19 ∷ 20 ∷ []
+compareNumbers = FIRST-ILL ∷ SECOND-ILL ∷ UNMATCHED ∷ []
 
 -- All of it.
 pub record TextClaims : Type 0 where

@@ -5,13 +5,13 @@ use mathlib.Core.Path.{_≡_, refl, sym, ap, _∙_, subst}
 use mathlib.Core.Logic.{_⊎_, inl, inr}
 use mathlib.Core.List.{List, [], _∷_, _++_}
 use mathlib.Core.Bool.{Bool, true, false, cond, not, _&&_, _||_, or-true, and-false}
-use borrow.Author.Tests.{eqb-true, eq-eqb, ne-eqb, ltb-true, ltb-false, le-leb}
+use borrow.Author.Tests.{eqb-true, eq-eqb, ne-eqb, ltb-true, ltb-false, le-leb, not-true}
 use lib.ListN.{length}
 use lib.Dec.{eqb, ltb, leb}
 use Rattle.lists.specs.Parts.{every}
 use Rattle.lists.specs.Search.{any}
 use Rattle.lists.proofs.Every.{every-in, every-out}
-use Rattle.lists.proofs.Tests.{cases, never-both, and-in, and-left, and-right, or-right}
+use Rattle.lists.proofs.Tests.{cases, never-both, and-in, and-left, and-right, or-right, or-cases}
 use Rattle.redo_log.specs.Log.{LogRecord, mostRecords, updateKind, commitKind, syncedKind, recordCard, recordTransaction, records}
 use Rattle.redo_log.proofs.Records.{good-out}
 use Rattle.redo_log.proofs.ReadBack.{length-records}
@@ -27,6 +27,14 @@ use Rattle.transaction_steps.specs.Steps.{plainStep, nothingStep, lookStep, wri
 use Rattle.transaction_steps_claims.specs.Follower.{noMind}
 use Rattle.transaction_steps_claims.specs.Ends.{Course, Notes, taking, courseAfter, Ended, EndsSoon, StepsEnd}
 use Rattle.transaction_steps_claims.proofs.Next.{out-from, Found, line-at, no-line, found}
+
+-- No line of a card that is written out is due.
+pub idle-at : (rs : List LogRecord) (k n i : ℕ) → writtenOut rs k 0 n ≡ true → i < n → dueFor rs k i ≡ false
+idle-at rs k n i w h = go (or-cases (ltb i 0) (not (dueFor rs k i)) (every-out (λ j. ltb j 0 || not (dueFor rs k j)) n w i h))
+  where
+    go : (ltb i 0 ≡ true) ⊎ (not (dueFor rs k i) ≡ true) → dueFor rs k i ≡ false
+    go (inl a) = absurd (omega (arith, ltb-true i 0 a))
+    go (inr a) = not-true (dueFor rs k i) a
 
 -- ---- a note ends what is due of its card
 
@@ -45,40 +53,21 @@ module _ (rs : List LogRecord) (o : Ordered rs) (k : ℕ) (r : LogRecord) where
           let same : i ≡ n = omega (arith, ltb-false i n b, q) in
           absurd (never-both (subst (λ (m : ℕ). dueFor rs k m ≡ true) same e) a)
 
-  abbrev more-lines : List LogRecord
+  abbrev pub more-lines : List LogRecord
   more-lines = rs ++ (r ∷ [])
 
-  module _ (kind : r .kind ≡ syncedKind) (card : recordCard r ≡ k) (named : recordTransaction r ≡ lastDue rs k (length rs)) where
-    -- An old line after the note.
-    none-old : (i : ℕ) → i < length rs → dueFor more-lines k i ≡ false
+  module _ (kind : r .kind ≡ syncedKind) where
+    no-commit : (t : ℕ) → commitsTo t r ≡ false
+    no-commit t = rw kind
+
+    -- A line that is not due before a note is not due after it, and the note is none.
+    pub idle-more : (i : ℕ) → i < length rs → dueFor rs k i ≡ false → dueFor more-lines k i ≡ false
     unfolding due
-    none-old i h =
+    idle-more i h e =
         rw (in-old rs r i h, transaction-old rs r i (omega arith), any-more (commitsTo (transactionIn rs i)) rs r, any-more (syncsFrom (recordCard (recordIn rs i)) (transactionIn rs i)) rs r)
-        (go (cases (dueFor rs k i)) (cases (eqb (recordCard (recordIn rs i)) k)))
+        (still (eqb (recordIn rs i .kind) updateKind) (any (commitsTo (transactionIn rs i)) rs) (any (syncsFrom (recordCard (recordIn rs i)) (transactionIn rs i)) rs)
+        (eqb (recordCard (recordIn rs i)) k) (commitsTo (transactionIn rs i) r) (syncsFrom (recordCard (recordIn rs i)) (transactionIn rs i) r) (no-commit (transactionIn rs i)) e)
       where
-        u : Bool
-        u = eqb (recordIn rs i .kind) updateKind
-
-        c : Bool
-        c = any (commitsTo (transactionIn rs i)) rs
-
-        s : Bool
-        s = any (syncsFrom (recordCard (recordIn rs i)) (transactionIn rs i)) rs
-
-        no-commit : commitsTo (transactionIn rs i) r ≡ false
-        no-commit = rw kind
-
-        noted : recordCard (recordIn rs i) ≡ k → dueFor rs k i ≡ true → syncsFrom (recordCard (recordIn rs i)) (transactionIn rs i) r ≡ true
-        noted f e =
-            and-in (and-in (eq-eqb (r .kind) syncedKind kind) (eq-eqb (recordCard r) (recordCard (recordIn rs i)) (card ∙ sym f)))
-            (le-leb (transactionIn rs i) (recordTransaction r) (subst (λ (m : ℕ). transactionIn rs i ≤ m) (sym named) (last-most (length rs) i (omega arith) h e)))
-
-        never : (x y z p q : Bool) → q ≡ true → (x && y && not (z || q) && p) ≡ false
-        never true true true p q e = refl
-        never true true false p q e = rw e
-        never true false z p q e = refl
-        never false y z p q e = refl
-
         still : (x y z p v q : Bool) → v ≡ false → (x && y && not z && p) ≡ false → (x && (y || v) && not (z || q) && p) ≡ false
         still true true true p v q e f = refl
         still true true false p v true e f = refl
@@ -87,22 +76,66 @@ module _ (rs : List LogRecord) (o : Ordered rs) (k : ℕ) (r : LogRecord) where
         still true false z p false q e f = refl
         still false y z p v q e f = refl
 
-        go : (dueFor rs k i ≡ true) ⊎ (dueFor rs k i ≡ false) → (eqb (recordCard (recordIn rs i)) k ≡ true) ⊎ (eqb (recordCard (recordIn rs i)) k ≡ false)
-            → (u && (c || commitsTo (transactionIn rs i) r) && not (s || syncsFrom (recordCard (recordIn rs i)) (transactionIn rs i) r) && eqb (recordCard (recordIn rs i)) k) ≡ false
-        go (inl a) (inl b) = never u (c || commitsTo (transactionIn rs i) r) s (eqb (recordCard (recordIn rs i)) k) (syncsFrom (recordCard (recordIn rs i)) (transactionIn rs i) r) (noted (eqb-true (recordCard (recordIn rs i)) k b) a)
-        go (inl a) (inr b) = absurd (never-both (and-right (due rs i) (eqb (recordCard (recordIn rs i)) k) a) b)
-        go (inr a) b = still u c s (eqb (recordCard (recordIn rs i)) k) (commitsTo (transactionIn rs i) r) (syncsFrom (recordCard (recordIn rs i)) (transactionIn rs i) r) no-commit a
-
     none-new : dueFor more-lines k (length rs) ≡ false
     unfolding due
     none-new = rw (in-new rs r, kind)
 
-    pub noted-done : writtenOut more-lines k 0 (length more-lines) ≡ true
-    noted-done = every-in (λ j. ltb j 0 || not (dueFor more-lines k j)) (length more-lines) (λ i h. or-right (ltb i 0) (ap not (at i h (cases (ltb i (length rs))))))
+    -- Where each old line is not due, none is.
+    none-more : ((i : ℕ) → i < length rs → dueFor more-lines k i ≡ false) → (i : ℕ) → i < length more-lines → dueFor more-lines k i ≡ false
+    none-more old i h = go (cases (ltb i (length rs)))
       where
-        at : (i : ℕ) → i < length more-lines → (ltb i (length rs) ≡ true) ⊎ (ltb i (length rs) ≡ false) → dueFor more-lines k i ≡ false
-        at i h (inl a) = none-old i (ltb-true i (length rs) a)
-        at i h (inr a) = subst (λ (m : ℕ). dueFor more-lines k m ≡ false) (omega (arith, length-more rs r, ltb-false i (length rs) a, h)) none-new
+        go : (ltb i (length rs) ≡ true) ⊎ (ltb i (length rs) ≡ false) → dueFor more-lines k i ≡ false
+        go (inl a) = old i (ltb-true i (length rs) a)
+        go (inr a) = subst (λ (m : ℕ). dueFor more-lines k m ≡ false) (omega (arith, length-more rs r, ltb-false i (length rs) a, h)) none-new
+
+    -- So what is due after a note was due before it.
+    pub was-due : (i : ℕ) → dueFor more-lines k i ≡ true → dueFor rs k i ≡ true
+    was-due i e = go (cases (dueFor rs k i)) (cases (ltb i (length rs))) (cases (ltb i (length more-lines)))
+      where
+        go : (dueFor rs k i ≡ true) ⊎ (dueFor rs k i ≡ false) → (ltb i (length rs) ≡ true) ⊎ (ltb i (length rs) ≡ false)
+            → (ltb i (length more-lines) ≡ true) ⊎ (ltb i (length more-lines) ≡ false) → dueFor rs k i ≡ true
+        go (inl a) b c = a
+        go (inr a) (inl b) c = absurd (never-both e (idle-more i (ltb-true i (length rs) b) a))
+        go (inr a) (inr b) (inl c) =
+            absurd (never-both e (subst (λ (m : ℕ). dueFor more-lines k m ≡ false) (omega (arith, length-more rs r, ltb-false i (length rs) b, ltb-true i (length more-lines) c)) none-new))
+        go (inr a) (inr b) (inr c) =
+            absurd (never-both (and-left (due more-lines i) (eqb (recordCard (recordIn more-lines i)) k) e) (due-past more-lines i (ltb-false i (length more-lines) c)))
+
+    out-more : ((i : ℕ) → i < length rs → dueFor more-lines k i ≡ false) → writtenOut more-lines k 0 (length more-lines) ≡ true
+    out-more old = every-in (λ j. ltb j 0 || not (dueFor more-lines k j)) (length more-lines) (λ i h. or-right (ltb i 0) (ap not (none-more old i h)))
+
+    -- What is written out stays so.
+    pub idle-all : writtenOut rs k 0 (length rs) ≡ true → writtenOut more-lines k 0 (length more-lines) ≡ true
+    idle-all w = out-more (λ i h. idle-more i h (idle-at rs k (length rs) i w h))
+
+    module _ (card : recordCard r ≡ k) (named : recordTransaction r ≡ lastDue rs k (length rs)) where
+      -- An old line that is due before the note.
+      ended-old : (i : ℕ) → i < length rs → dueFor rs k i ≡ true → dueFor more-lines k i ≡ false
+      unfolding due
+      ended-old i h e =
+          rw (in-old rs r i h, transaction-old rs r i (omega arith), any-more (commitsTo (transactionIn rs i)) rs r, any-more (syncsFrom (recordCard (recordIn rs i)) (transactionIn rs i)) rs r)
+          (never (eqb (recordIn rs i .kind) updateKind) (any (commitsTo (transactionIn rs i)) rs || commitsTo (transactionIn rs i) r) (any (syncsFrom (recordCard (recordIn rs i)) (transactionIn rs i)) rs)
+          (eqb (recordCard (recordIn rs i)) k) (syncsFrom (recordCard (recordIn rs i)) (transactionIn rs i) r) noted)
+        where
+          noted : syncsFrom (recordCard (recordIn rs i)) (transactionIn rs i) r ≡ true
+          noted =
+              and-in
+              (and-in (eq-eqb (r .kind) syncedKind kind)
+              (eq-eqb (recordCard r) (recordCard (recordIn rs i)) (card ∙ sym (eqb-true (recordCard (recordIn rs i)) k (and-right (due rs i) (eqb (recordCard (recordIn rs i)) k) e)))))
+              (le-leb (transactionIn rs i) (recordTransaction r) (subst (λ (m : ℕ). transactionIn rs i ≤ m) (sym named) (last-most (length rs) i (omega arith) h e)))
+
+          never : (x y z p q : Bool) → q ≡ true → (x && y && not (z || q) && p) ≡ false
+          never true true true p q e = refl
+          never true true false p q e = rw e
+          never true false z p q e = refl
+          never false y z p q e = refl
+
+      pub noted-done : writtenOut more-lines k 0 (length more-lines) ≡ true
+      noted-done = out-more (λ i h. at i h (cases (dueFor rs k i)))
+        where
+          at : (i : ℕ) → i < length rs → (dueFor rs k i ≡ true) ⊎ (dueFor rs k i ≡ false) → dueFor more-lines k i ≡ false
+          at i h (inl a) = ended-old i h a
+          at i h (inr a) = idle-more i h a
 
 -- ---- the course of a card
 

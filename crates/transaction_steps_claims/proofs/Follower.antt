@@ -82,7 +82,7 @@ use Rattle.transaction_steps_claims.proofs.Next.{clear-out, last-commit
 use Rattle.transaction_steps_claims.proofs.Sees.{Freely, Sees, sees-other, looks-new, sees-arrive, arrives-new, sees-order, sees-append, sees-renew}
 
 -- What holds of a desk that follows: what holds at every moment, and what it has seen is so.
-abbrev Minded : ℕ → OneDesk → ℕ → Mind → Type 0
+abbrev pub Minded : ℕ → OneDesk → ℕ → Mind → Type 0
 Minded d y k mind = mind .seen .known ≡ true → Sees d y k (mind .seen)
 
 pub record Going (d : ℕ) (z : Follower) : Type 0 where
@@ -97,7 +97,7 @@ minds-with Q k mind minds w away j = go (cases (eqb j k))
     go (inr e) = subst (λ (t : Bool). Q j (cond t mind (minds j))) (sym e) (away j e)
     go (inl e) = subst (λ (t : Bool). Q j (cond t mind (minds j))) (sym e) (subst (λ (m : ℕ). Q m mind) (sym (eqb-true j k e)) w)
 
-nothing-minded : (d : ℕ) (y : OneDesk) (k : ℕ) → Minded d y k noMind
+pub nothing-minded : (d : ℕ) (y : OneDesk) (k : ℕ) → Minded d y k noMind
 nothing-minded d y k e = absurd (never-both refl (sym e))
 
 picks-first : (b x q : Bool) → b ≡ true → cond b x q ≡ true → x ≡ true
@@ -303,9 +303,9 @@ unfolding lawfulAll afterSteps
 ran-more d y end m b h r = record { steps = m ∷ r .steps; sent = (b, r .sent); rules = and-in h (r .rules); led = r .led }
 
 -- One thing more: a step by the rules, or none; and what holds goes on holding.
-record One (d : ℕ) (z : Follower) (a : Doing) : Type 0 where
-  going : Going d (afterDoing d z a)
-  ran : (end : OneDesk) → Ran d (afterDoing d z a .desk) end → Ran d (z .desk) end
+pub record One (d : ℕ) (z : Follower) (a : Doing) : Type 0 where
+  pub going : Going d (afterDoing d z a)
+  pub ran : (end : OneDesk) → Ran d (afterDoing d z a .desk) end → Ran d (z .desk) end
 
 module _ (d : ℕ) (z : Follower) (g : Going d z) where
   stepped : (a : Doing) (m : Step) → StepBytes m → lawful d (z .desk) m ≡ true → afterDoing d z a .desk ≡ afterStep d (z .desk) m
@@ -319,7 +319,7 @@ module _ (d : ℕ) (z : Follower) (g : Going d z) where
         ran = λ end r. ran-more d (z .desk) end m b h (subst (λ (y : OneDesk). Ran d y end) e r);
       }
 
-  one : (a : Doing) → DoingBytes a → asTold d z a ≡ true → One d z a
+  pub one : (a : Doing) → DoingBytes a → asTold d z a ≡ true → One d z a
   unfolding afterDoing
   one (incoming s true) b h =
       stepped (incoming s true) (other s) b h refl

@@ -4,3 +4,5 @@ pub mod Follower
 pub mod Ends
 pub mod Taken
 pub mod Cases
+pub mod Uses
+pub mod AgainCases

@@ -58,7 +58,7 @@ use Rattle.transactions.proofs.Records.{more}
 use Rattle.transactions.proofs.Due.{no-more, same-commit}
 use Rattle.transactions.proofs.Serving.{at, then, Taken, taken, kept, shown-mark}
 use Rattle.transactions.proofs.Kept.{bears, Clear, cardFor, relies, Fine, preparing, releasing, writing, Safe, Held, Kept, all-at}
-use Rattle.transactions.proofs.Requests.{if-formed, outcome-is, number-now, mark-shown}
+use Rattle.transactions.proofs.Requests.{if-so, outcome-is, number-now, mark-shown}
 use Rattle.transactions.proofs.Orders.{past-none}
 use Rattle.transactions.proofs.Logged.{held-of, follow, uncounted}
 use Rattle.transaction_steps.specs.declared.LastSeen.{LastSeen}
@@ -177,7 +177,7 @@ module _ (d : ℕ) (y : OneDesk) (w : Kept d y) (s : Sent) where
 module _ (d : ℕ) (y : OneDesk) (w : Kept d y) (s : Sent) (h : lawful d y (other s) ≡ true) where
   unnamed : formed V1 (s .command) ≡ true → (expects d (commandIn s) ≡ false) × (leaves d (commandIn s) ≡ false)
   unnamed f =
-      let both = if-formed (formed V1 (s .command)) h f in (
+      let both = if-so (formed V1 (s .command)) h f in (
         not-true (expects d (commandIn s)) (and-left (not (expects d (commandIn s))) (not (leaves d (commandIn s))) both),
         not-true (leaves d (commandIn s)) (and-right (not (expects d (commandIn s))) (not (leaves d (commandIn s))) both),
       )

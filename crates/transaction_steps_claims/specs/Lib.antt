@@ -1,3 +1,4 @@
 pub mod Follower
 pub mod Ends
 pub mod Cases
+pub mod AgainCases

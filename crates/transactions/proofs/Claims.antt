@@ -106,7 +106,7 @@ first-line : (rs : List LogRecord) (l : Language) (j : ℕ) (s : List ℕ) → r
 unfolding rewritten
 first-line rs l j s = refl
 
-refines : (d : ℕ) (y : OneDesk) → Kept d y → Refines d y
+pub refines : (d : ℕ) (y : OneDesk) → Kept d y → Refines d y
 refines d y k =
     let same = decoded d y k in
     record {

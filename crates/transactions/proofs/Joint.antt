@@ -121,7 +121,7 @@ stand-as ruled logs new meant then k card e m s =
 
 -- ---- one desk alone: what is meant of a card that does not bear its mark is what stands there
 
-abbrev alone : ℕ → Desks → OneDesk
+abbrev pub alone : ℕ → Desks → OneDesk
 alone d y =
     record {
       image = y .image;
@@ -136,10 +136,10 @@ module _ (ruled : ℕ → Bool) (y : Desks) (j : Joint ruled y) (d : ℕ) (r : r
   abbrev cs : Cards
   cs = decode V1 (y .image)
 
-  nonzero : d ≡ 0 → ⊥
+  pub nonzero : d ≡ 0 → ⊥
   nonzero e = never-both r (subst (λ (n : ℕ). ruled n ≡ false) (sym e) (j .nobody))
 
-  stands-alone : (k : ℕ) → Stands d (records (y .part d .log)) (alone d y .meant k) k (at cs k)
+  pub stands-alone : (k : ℕ) → Stands d (records (y .part d .log)) (alone d y .meant k) k (at cs k)
   stands-alone k =
       record {
         plain = λ b l. sym (ap (λ (t : Bool). cond t (y .meant k l) (text l (at cs k))) b);
@@ -150,7 +150,7 @@ module _ (ruled : ℕ → Bool) (y : Desks) (j : Joint ruled y) (d : ℕ) (r : r
             ∙ sym (ap (λ (t : Bool). cond t (y .meant k l) (text l (at cs k))) b);
       }
 
-  abbrev kept-alone : Kept d (alone d y)
+  abbrev pub kept-alone : Kept d (alone d y)
   kept-alone =
       let w = j .side d r in
       record {
@@ -204,7 +204,7 @@ module _ (ruled : ℕ → Bool) (y : Desks) (j : Joint ruled y) (s : Sent) where
   served : out ≡ serve V1 (encode V1 old) (s .command) (s .lent)
   served = ap (λ (i : List ℕ). serve V1 i (s .command) (s .lent)) (sym (j .same))
 
-  number-then : out .answer .number ≡ numberOn V1 old s
+  pub number-then : out .answer .number ≡ numberOn V1 old s
   number-then = ap (λ (o : Outcome). o .answer .number) served ∙ number-is old s (j .good)
 
   image-then : out .image ≡ encode V1 (then old s)
@@ -214,7 +214,7 @@ module _ (ruled : ℕ → Bool) (y : Desks) (j : Joint ruled y) (s : Sent) where
     good-then : GoodCards V1 (then old s)
     good-then = good-more V1 old s (j .good) b (numberOn V1 old s) refl
 
-    decode-then : decode V1 (out .image) ≡ then old s
+    pub decode-then : decode V1 (out .image) ≡ then old s
     decode-then = ap (decode V1) image-then ∙ goodEncodes V1 (then old s) good-then .same
 
     same-then : encode V1 (decode V1 (out .image)) ≡ out .image
@@ -248,7 +248,7 @@ module _ (ruled : ℕ → Bool) (y : Desks) (j : Joint ruled y) (s : Sent) (b : 
   abbrev got : Outcome
   got = serve V1 (y .image) (s .command) (s .lent)
 
-  unruled : formed V1 (s .command) ≡ true → (ruled (cmd .expected .desk) ≡ false) × (ruled (cmd .next .desk) ≡ false)
+  pub unruled : formed V1 (s .command) ≡ true → (ruled (cmd .expected .desk) ≡ false) × (ruled (cmd .next .desk) ≡ false)
   unruled f = go (or-cases (not (formed V1 (s .command))) (not (ruled (cmd .expected .desk)) && not (ruled (cmd .next .desk))) h)
     where
       go : (not (formed V1 (s .command)) ≡ true) ⊎ ((not (ruled (cmd .expected .desk)) && not (ruled (cmd .next .desk))) ≡ true) →
@@ -259,7 +259,7 @@ module _ (ruled : ℕ → Bool) (y : Desks) (j : Joint ruled y) (s : Sent) (b : 
         not-true (ruled (cmd .next .desk)) (and-right (not (ruled (cmd .expected .desk))) (not (ruled (cmd .next .desk))) p),
       )
 
-  not-of : (e n : ℕ) → ruled e ≡ true → ruled n ≡ false → eqb n e ≡ false
+  pub not-of : (e n : ℕ) → ruled e ≡ true → ruled n ≡ false → eqb n e ≡ false
   not-of e n r q = ne-eqb n e (λ z. never-both r (subst (λ (m : ℕ). ruled m ≡ false) z q))
 
   stand-outside : (k : ℕ) → Stand ruled (λ (e : ℕ). y .part e .log) (meantAfter (got .answer .number) s (y .meant) k) k (at (decode V1 (got .image)) k)
@@ -326,7 +326,7 @@ module _ (ruled : ℕ → Bool) (y : Desks) (j : Joint ruled y) (d : ℕ) (r : r
   mine = kept-alone ruled y j d r
 
   -- Its own part is as it makes it; another desk's is as that one meets it.
-  by-desk : (P : ℕ → Part → Type 0) (a : Part) (f : ℕ → Part) → P d a → ((e : ℕ) → eqb e d ≡ false → P e (f e)) → (e : ℕ) → P e (cond (eqb e d) a (f e))
+  pub by-desk : (P : ℕ → Part → Type 0) (a : Part) (f : ℕ → Part) → P d a → ((e : ℕ) → eqb e d ≡ false → P e (f e)) → (e : ℕ) → P e (cond (eqb e d) a (f e))
   by-desk P a f p q e = go (cases (eqb e d))
     where
       go : (eqb e d ≡ true) ⊎ (eqb e d ≡ false) → P e (cond (eqb e d) a (f e))
@@ -518,7 +518,7 @@ module _ (ruled : ℕ → Bool) (y : Desks) (j : Joint ruled y) (d : ℕ) (r : r
     image-left = refl
 
     -- Each card, before and after.
-    raised-here : (k : ℕ) → Raised d (at before k) (at (decode V1 left) k)
+    pub raised-here : (k : ℕ) → Raised d (at before k) (at (decode V1 left) k)
     raised-here k = raised d (alone d y) mine pairs lines fp h k
 
     own-left : (k : ℕ) → Stands d (records (y .part d .log)) (alone d y .meant k) k (at (decode V1 left) k)
@@ -610,15 +610,15 @@ module _ (ruled : ℕ → Bool) (y : Desks) (j : Joint ruled y) (d : ℕ) (r : r
     abbrev got-o : Outcome
     got-o = serve V1 (y .image) (s .command) (s .lent)
 
-    safe : Safe d (records (y .part d .log)) (cardFor o) (at before (cardFor o)) o
+    pub safe : Safe d (records (y .part d .log)) (cardFor o) (at before (cardFor o)) o
     safe = all-at (λ (p : Order). Safe d (records (y .part d .log)) (cardFor p) (at before (cardFor p)) p) (y .part d .orders) i noOrder (ltb-true i (length (y .part d .orders)) h) (j .side d r .sent)
 
     -- Its marks are its own, or none.
-    none-of : (n : ℕ) → (n ≡ 0) ⊎ (n ≡ d) → (e : ℕ) → ruled e ≡ true → eqb e d ≡ false → eqb n e ≡ false
+    pub none-of : (n : ℕ) → (n ≡ 0) ⊎ (n ≡ d) → (e : ℕ) → ruled e ≡ true → eqb e d ≡ false → eqb n e ≡ false
     none-of n (inl z) e w x = ne-eqb n e (λ f. never-both w (subst (λ (m : ℕ). ruled m ≡ false) (sym z ∙ f) (j .nobody)))
     none-of n (inr z) e w x = ne-eqb n e (λ f. eqb-false e d x (sym f ∙ z))
 
-    ends : ((cmd-o .expected .desk ≡ 0) ⊎ (cmd-o .expected .desk ≡ d)) × ((cmd-o .next .desk ≡ 0) ⊎ (cmd-o .next .desk ≡ d))
+    pub ends : ((cmd-o .expected .desk ≡ 0) ⊎ (cmd-o .expected .desk ≡ d)) × ((cmd-o .next .desk ≡ 0) ⊎ (cmd-o .next .desk ≡ d))
     ends = go (safe .fine)
       where
         go : Fine d (records (y .part d .log)) (cardFor o) (at before (cardFor o)) o → ((cmd-o .expected .desk ≡ 0) ⊎ (cmd-o .expected .desk ≡ d)) × ((cmd-o .next .desk ≡ 0) ⊎ (cmd-o .next .desk ≡ d))
@@ -737,7 +737,7 @@ joint-opening ruled y r =
           };
     }
 
-joint-always : (ruled : ℕ → Bool) (y : Desks) → DesksMoment ruled y → Joint ruled y
+pub joint-always : (ruled : ℕ → Bool) (y : Desks) → DesksMoment ruled y → Joint ruled y
 joint-always ruled y r = subst (Joint ruled) (r .led) (joint-run ruled (desksOpening (r .image) (r .logs)) (r .steps) (joint-opening ruled y r) (r .sent) (r .rules))
 
 -- ---- the claims

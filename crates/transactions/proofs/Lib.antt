@@ -10,3 +10,4 @@ pub mod Rewriting
 pub mod Renewing
 pub mod Claims
 pub mod Joint
+pub mod Uses

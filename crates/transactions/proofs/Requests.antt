@@ -10,7 +10,7 @@ use lib.Dec.{eqb}
 use Rattle.formats.specs.Format.{V1}
 use Rattle.lists.specs.Table.{settled}
 use Rattle.stamps.specs.declared.Mark.{Mark}
-use Rattle.lists.proofs.Tests.{cases, never-both, and-left, and-right, or-cases, or-fails}
+use Rattle.lists.proofs.Tests.{cases, never-both, and-left, and-right, or-fails}
 use Rattle.commands.specs.declared.Command.{Command}
 use Rattle.commands.specs.Command.{Language, original, translation, isWrite, writes, writesTranslation}
 use Rattle.commands.proofs.Languages.{none-written}
@@ -48,13 +48,9 @@ use Rattle.transactions.specs.System.{
 use Rattle.transactions.proofs.Serving.{at, then, Taken, taken, kept, number-is, shown-x, shown-mark}
 use Rattle.transactions.proofs.Kept.{bears, Clear, Onward, Stands, cardFor, Fine, preparing, releasing, writing, Safe, Told, Knows, Kept, all-moved, stands-as}
 
--- What is free where malformed holds where it is not.
-pub if-formed : (f : Bool) {P : Bool} → (not f || P) ≡ true → f ≡ true → P ≡ true
-if-formed f {P} h e = go (or-cases (not f) P h)
-  where
-    go : (not f ≡ true) ⊎ (P ≡ true) → P ≡ true
-    go (inl n) = absurd (never-both e (not-true f n))
-    go (inr p) = p
+-- What is asked only where a test holds holds there.
+pub if-so : (a : Bool) {b : Bool} → (not a || b) ≡ true → a ≡ true → b ≡ true
+if-so a h e = rw e at h
 
 -- One answer more, which says nothing of lines written out on this card.
 pub knows-shown : (d : ℕ) (rs : List LogRecord) (orders : List Order) (shown : List Shown) (v : Shown) (k : ℕ) (card : Card) (h : Holding)
@@ -182,7 +178,7 @@ module _ (d : ℕ) (y : OneDesk) (k : Kept d y) (s : Sent) (b : SentBytes s) (h 
     t = taken (k .cs) s (k .good) z
 
     apart : (not (expects d c) && not (leaves d c)) ≡ true
-    apart = if-formed (formed V1 (s .command)) h (t .wellFormed)
+    apart = if-so (formed V1 (s .command)) h (t .wellFormed)
 
     unborne : bears d (at (k .cs) (c .card)) ≡ false
     unborne = subst (λ (m : ℕ). eqb m d ≡ false) (t .fits) (not-true (expects d c) (and-left (not (expects d c)) (not (leaves d c)) apart))

@@ -64,6 +64,7 @@ use Rattle.transactions_cases.specs.Cases.{
   fiveCommits,
   seeDesks,
   TwoDesks,
+  TransactionRuns,
   writesOut0,
   releases0,
   syncs0,
@@ -88,7 +89,7 @@ below-tested bound [] h e i = h
 below-tested bound (b ∷ l) h e zero = ltb-true b bound (and-left (ltb b bound) (belowTest bound l) e)
 below-tested bound (b ∷ l) h e (suc i) = below-tested bound l h (and-right (ltb b bound) (belowTest bound l) e) i
 
-bytes-tested : (l : List ℕ) → belowTest 256 l ≡ true → Bytes l
+pub bytes-tested : (l : List ℕ) → belowTest 256 l ≡ true → Bytes l
 bytes-tested l e = below-tested 256 l (lit< tt) e
 
 unfoldable pub sentTest : Sent → Bool
@@ -105,7 +106,7 @@ sent-tested s e =
 unfoldable pub pairsTest : Pairs → Bool
 pairsTest p = belowTest 18446744073709551616 (p .s) && belowTest 18446744073709551616 (p .x)
 
-pairs-tested : (p : Pairs) → pairsTest p ≡ true → FitsPairs p
+pub pairs-tested : (p : Pairs) → pairsTest p ≡ true → FitsPairs p
 unfolding pairsTest
 pairs-tested p e =
     record {
@@ -132,11 +133,11 @@ step-tested crash e = tt
 step-tested (recover pairs lines) e = pairs-tested pairs e
 step-tested renew e = tt
 
-stepsTest : List Step → Bool
+unfoldable pub stepsTest : List Step → Bool
 stepsTest [] = true
 stepsTest (m ∷ steps) = stepTest m && stepsTest steps
 
-steps-tested : (steps : List Step) → stepsTest steps ≡ true → AllSteps steps
+pub steps-tested : (steps : List Step) → stepsTest steps ≡ true → AllSteps steps
 unfolding stepsTest
 steps-tested [] e = tt
 steps-tested (m ∷ steps) e = (step-tested m (and-left (stepTest m) (stepsTest steps) e), steps-tested steps (and-right (stepTest m) (stepsTest steps) e))
@@ -264,7 +265,7 @@ unfolding walkParts walk lawfulAll afterSteps afterStep withUpdates rewritten du
     allFrom le toLe part splice tabulate concatMap every zeros
 walked-between = refl
 
-pub ordinary : Ordinary
+ordinary : Ordinary
 ordinary =
     let w = parts-are atFirst wholeRun in
     let b = parts-are atFirst between in
@@ -275,35 +276,35 @@ ordinary =
       marked = ap (λ (y : OneDesk). readNow y 1 (five 2)) (b .end-is) ∙ ap (λ (q : Shows × Shows). q .1) walked-between;
     }
 
-pub cut : Cut
+cut : Cut
 unfolding lawfulAll afterSteps afterStep withUpdates rewritten due stored puts lineBytes stores appended shaped lastBegun opened follows total startAt
     recordAt recordOk goodLog records serve serveBy stepped sound headerSound cardSound translationSound tailZero decode cardAt entryAt readEntry
     encode bodies pad entryBytes header shapeOk fresh replied raise entrySound commandBytes formed payload fieldsOf wellFormed all allFrom le toLe
     part splice tabulate concatMap every zeros
 cut = record { rules = refl; sees15 = refl; freed = refl; rules16 = refl; sees16 = refl }
 
-pub crash-recovered : CrashRecovered
+crash-recovered : CrashRecovered
 unfolding lawfulAll afterSteps afterStep withUpdates rewritten due stored puts lineBytes stores appended shaped lastBegun opened follows total startAt
     recordAt recordOk goodLog records serve serveBy stepped sound headerSound cardSound translationSound tailZero decode cardAt entryAt readEntry
     encode bodies pad entryBytes header shapeOk fresh replied raise entrySound commandBytes formed payload fieldsOf wellFormed all allFrom le toLe
     part splice tabulate concatMap every zeros
 crash-recovered = record { rules = refl; sees = refl }
 
-pub hazard : Hazard
+hazard : Hazard
 unfolding lawfulAll afterSteps afterStep withUpdates rewritten due stored puts lineBytes stores appended shaped lastBegun opened follows total startAt
     recordAt recordOk goodLog records serve serveBy stepped sound headerSound cardSound translationSound tailZero decode cardAt entryAt readEntry
     encode bodies pad entryBytes header shapeOk fresh replied raise entrySound commandBytes formed payload fieldsOf wellFormed all allFrom le toLe
     part splice tabulate concatMap every zeros recovered recovering recoveryStep recoverySent shownBy
 hazard = record { rules = refl; sees = refl; before = refl; after = refl }
 
-pub rewritten-twice : Rewritten
+rewritten-twice : Rewritten
 unfolding lawfulAll afterSteps afterStep withUpdates rewritten due stored puts lineBytes stores appended shaped lastBegun opened follows total startAt
     recordAt recordOk goodLog records serve serveBy stepped sound headerSound cardSound translationSound tailZero decode cardAt entryAt readEntry
     encode bodies pad entryBytes header shapeOk fresh replied raise entrySound commandBytes formed payload fieldsOf wellFormed all allFrom le toLe
     part splice tabulate concatMap every zeros recovering recoveryStep recoverySent shownBy
 rewritten-twice = record { rules = refl; sees = refl; met = met }
 
-pub renewed-log : Renewed
+renewed-log : Renewed
 unfolding lawfulAll afterSteps afterStep withUpdates rewritten due stored puts lineBytes stores appended shaped lastBegun opened follows total startAt
     recordAt recordOk goodLog records serve serveBy stepped sound headerSound cardSound translationSound tailZero decode cardAt entryAt readEntry
     encode bodies pad entryBytes header shapeOk fresh replied raise entrySound commandBytes formed payload fieldsOf wellFormed all allFrom le toLe
@@ -339,7 +340,7 @@ broken-at lead wrong rest e =
           ∙ ap (λ (v : Verdict). v .1 .1 .1) e;
     }
 
-pub rules-needed : OrderRulesNeeded
+rules-needed : OrderRulesNeeded
 unfolding walk lawfulAll afterSteps afterStep withUpdates rewritten due stored puts lineBytes stores appended shaped lastBegun opened follows total
     startAt recordAt recordOk goodLog records serve serveBy stepped sound headerSound cardSound translationSound tailZero decode cardAt entryAt
     readEntry encode bodies pad entryBytes header shapeOk fresh replied raise entrySound commandBytes formed payload fieldsOf wellFormed all allFrom
@@ -410,7 +411,7 @@ unfolding lawfulAll afterSteps afterStep withUpdates rewritten due stored puts l
     part splice tabulate concatMap every zeros lawfulDeskSteps afterDeskSteps afterDeskStep walkDesks
 desks-verdict = refl
 
-pub two-desks : TwoDesks
+two-desks : TwoDesks
 two-desks =
     let y : Desks = walkDesks twoDesks bothBegin .desks in
     let z : Desks = walkDesks y sixCommits .desks in
@@ -439,3 +440,6 @@ two-desks =
       first = ap seeDesks mid ∙ ap (λ (v : DesksVerdict). v .1 .1 .1 .1 .0) desks-verdict;
       last = ap seeDesks end ∙ ap (λ (v : DesksVerdict). v .1 .1 .1 .1 .1) desks-verdict;
     }
+
+pub transaction-runs : TransactionRuns
+transaction-runs = (ordinary, (cut, (crash-recovered, (hazard, (rewritten-twice, (renewed-log, (two-desks, rules-needed)))))))

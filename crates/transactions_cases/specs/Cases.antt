@@ -499,3 +499,10 @@ pub record TwoDesks : Type 0 where
   pub early : lawfulDeskStep bothRuled (afterDeskSteps twoDesks bothBegin) (own 5 (logs (commitOf 1))) ≡ false
   pub first : seeDesks (afterDeskSteps twoDesks (bothBegin ++ sixCommits)) ≡ seeing text190 text380 text190 text210
   pub last : seeDesks (afterDeskSteps twoDesks (bothBegin ++ (sixCommits ++ (sixFinishes ++ fiveCommits)))) ≡ seeing text190 text210 text205 text401
+
+-- ---- all of them
+
+-- One table of runs: an ordinary one, a commit that is cut, a crash, the hazard, a recovery that is cut, a log that begins
+-- again, two desks; and for each rule a run that breaks it.
+abbrev pub TransactionRuns : Type 0
+TransactionRuns = Ordinary × (Cut × (CrashRecovered × (Hazard × (Rewritten × (Renewed × (TwoDesks × OrderRulesNeeded))))))

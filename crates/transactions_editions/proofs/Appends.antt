@@ -44,8 +44,7 @@ data Shift (d : ℕ) (y : OneDesk) (r : LogRecord) (card : Card) (j : ℕ) (old 
       (recordTransaction r) j (length (records (y .log))) (currentBy (records (y .log)) j (length (records (y .log))) c))
       → new ≡ currentWith (records (y .log)) (recordTransaction r) j (length (records (y .log))) old → Shift d y r card j old new
 
-module _ (d : ℕ) (y : OneDesk) (k : Kept d y) (c : ℕ → Bool) (w : Turned d (records (y .log)) (y .orders) (y .shown) c (k .cs)) (budget : ℕ)
-    (r : LogRecord) (rb : Bytes (r .body)) (h : lawful d y (append budget r) ≡ true) where
+module _ (d : ℕ) (y : OneDesk) (k : Kept d y) (c : ℕ → Bool) (budget : ℕ) (r : LogRecord) (rb : Bytes (r .body)) (h : lawful d y (append budget r) ≡ true) where
   abbrev rs : List LogRecord
   rs = records (y .log)
 
@@ -58,10 +57,10 @@ module _ (d : ℕ) (y : OneDesk) (k : Kept d y) (c : ℕ → Bool) (w : Turned d
   cut : (n : ℕ) → number ≡ suc n → (j : ℕ) → c-now j ≡ c j
   cut n e j = let no : eqb number 0 ≡ false = ne-eqb number 0 (λ z. omega (arith, e, z)) in rw no
 
-  module _ (z : number ≡ 0) where
-    abbrev longer : List LogRecord
-    longer = more rs r
+  abbrev longer : List LogRecord
+  longer = more rs r
 
+  module _ (z : number ≡ 0) where
     no-commit : eqb (r .kind) commitKind ≡ false → (j : ℕ) → c-now j ≡ c j
     no-commit e j = rw (z, e)
 
@@ -93,65 +92,80 @@ module _ (d : ℕ) (y : OneDesk) (k : Kept d y) (c : ℕ → Bool) (w : Turned d
                 pick (inl u) = ap (λ (b : Bool). updateIn rs (recordTransaction r) i && b) (apart d y k budget r rb h z j e q i g u) ∙ and-false (updateIn rs (recordTransaction r) i)
                 pick (inr u) = ap (λ (b : Bool). b && eqb (recordCard (recordIn rs i)) j) u
 
-    plain-more : (j : ℕ) → Shift d y r (at (k .cs) j) j (c j) (c-now j) → bears d (at (k .cs) j) ≡ false → cur (at (k .cs) j) ≡ c-now j
-    plain-more j (same e f) b = w .plain j b ∙ sym f
-    plain-more j (plainly q f) b = w .plain j b ∙ sym f
-    plain-more j (holding g e f) b = absurd (never-both (g .bearing) b)
-
-    marked-more : (j : ℕ) → Shift d y r (at (k .cs) j) j (c j) (c-now j) → bears d (at (k .cs) j) ≡ true → currentBy longer j (length longer) (cur (at (k .cs) j)) ≡ c-now j
-    marked-more j (same e f) b = by-same-all rs r j e (cur (at (k .cs) j)) ∙ w .marked j b ∙ sym f
-    marked-more j (plainly q f) b = absurd (never-both b q)
-    marked-more j (holding g e f) b = e (cur (at (k .cs) j)) ∙ ap (currentWith rs (recordTransaction r) j (length rs)) (w .marked j b) ∙ sym f
-
-    done-more : (i : ℕ) (o : Order) → getD (y .orders) i noOrder ≡ o → i < length (y .orders) → Shift d y r (at (k .cs) (cardFor o)) (cardFor o)
-        (c (cardFor o)) (c-now (cardFor o)) → Done d rs (at (k .cs) (cardFor o)) o → Done d longer (at (k .cs) (cardFor o)) o
-    done-more i o e g (same s f) q p live b = by-same-all rs r (cardFor o) s (cur (at (k .cs) (cardFor o))) ∙ q p live b
-    done-more i o e g (plainly s f) q p live b = absurd (never-both b s)
-    done-more i o e g (holding held s f) q p live b =
-        let old = all-at (λ (a : Order). cardFor a ≡ cardFor o → relies a < at (k .cs) (cardFor o) .pair .x) (y .orders) i noOrder g (held .stale) (ap cardFor e) in
-        absurd (omega (arith, live, subst (λ (a : Order). relies a < at (k .cs) (cardFor o) .pair .x) e old))
-
-    onwards-more : (j n : ℕ) (b : Bool) → ((i : ℕ) → dueFor longer j i ≡ dueFor rs j i) → Onwards rs j n b → Onwards longer j n b
-    onwards-more j n b e (inl later) = inl (later .0, later .1, e (later .0) ∙ later .2)
-    onwards-more j n b e (inr q) = inr (by-same rs r j e n b ∙ q)
-
-    tells-more : (i : ℕ) (v : Shown) → getD (y .shown) i noShown ≡ v → i < length (y .shown) → Shift d y r (at (k .cs) (v .card)) (v .card)
-        (c (v .card)) (c-now (v .card)) → Tells d rs (at (k .cs) (v .card)) v → Tells d longer (at (k .cs) (v .card)) v
-    tells-more i v e g (same s f) q live b = onwards-more (v .card) (v .reach) (cur (at (k .cs) (v .card))) s (q live b)
-    tells-more i v e g (plainly s f) q live b = absurd (never-both b s)
-    tells-more i v e g (holding held s f) q live b =
-        let none = all-at (λ (a : Shown). a .card ≡ v .card → at (k .cs) (v .card) .pair .x ≤ a .x → a .reach ≡ 0) (y .shown) i noShown g (held .unwritten) (ap (λ (a : Shown). a .card) e) in
-        says-nothing d longer (at (k .cs) (v .card)) v (sym (ap (λ (a : Shown). a .reach) e) ∙ none (subst (λ (a : Shown). at (k .cs) (v .card) .pair .x ≤ a .x) (sym e) live)) live b
-
-    turned-more : Turned d longer (y .orders) (y .shown) c-now (k .cs)
-    turned-more =
-        record {
-          plain = λ j b. plain-more j (shift j) b;
-          marked = λ j b. marked-more j (shift j) b;
-          sent =
-              all-by (λ (o : Order). Done d longer (at (k .cs) (cardFor o)) o) (y .orders) noOrder
-              (λ i g.
-              let o : Order = getD (y .orders) i noOrder in
-              done-more i o refl g (shift (cardFor o)) (all-at (λ (a : Order). Done d rs (at (k .cs) (cardFor a)) a) (y .orders) i noOrder g (w .sent)));
-          told =
-              all-by (λ (v : Shown). Tells d longer (at (k .cs) (v .card)) v) (y .shown) noShown
-              (λ i g.
-              let v : Shown = getD (y .shown) i noShown in
-              tells-more i v refl g (shift (v .card)) (all-at (λ (a : Shown). Tells d rs (at (k .cs) (a .card)) a) (y .shown) i noShown g (w .told)));
-        }
-
-  turned-append : Turned d (records (appended budget (y .log) r)) (y .orders) (y .shown) c-now (k .cs)
-  turned-append = go number refl
+  -- Of a card without the desk's mark it changes nothing.
+  pub unborne-current : (j : ℕ) → bears d (at (k .cs) j) ≡ false → c-now j ≡ c j
+  unborne-current j b = go number refl
     where
-      go : (n : ℕ) → number ≡ n → Turned d (records (appended budget (y .log) r)) (y .orders) (y .shown) c-now (k .cs)
-      go zero e = subst (λ (q : List LogRecord). Turned d q (y .orders) (y .shown) c-now (k .cs)) (sym (appends budget (y .log) r .whole e .1)) (turned-more e)
-      go (suc n) e =
-          subst (λ (q : List LogRecord). Turned d q (y .orders) (y .shown) c-now (k .cs)) (sym (uncounted d y k budget r rb h n e .1))
-          (record { plain = λ j b. w .plain j b ∙ sym (cut n e j); marked = λ j b. w .marked j b ∙ sym (cut n e j); sent = w .sent; told = w .told })
+      by-shift : Shift d y r (at (k .cs) j) j (c j) (c-now j) → c-now j ≡ c j
+      by-shift (same e f) = f
+      by-shift (plainly q f) = f
+      by-shift (holding g e f) = absurd (never-both (g .bearing) b)
 
-  pub holds-append : Holds d (afterStep d y (append budget r)) c-now
-  unfolding afterStep
-  holds-append = subst (Turned d (records (appended budget (y .log) r)) (y .orders) (y .shown) c-now) (sym (decoded d y k)) turned-append
+      go : (n : ℕ) → number ≡ n → c-now j ≡ c j
+      go zero e = by-shift (shift e j)
+      go (suc n) e = cut n e j
+
+  module _ (w : Turned d (records (y .log)) (y .orders) (y .shown) c (k .cs)) where
+    module _ (z : number ≡ 0) where
+      plain-more : (j : ℕ) → Shift d y r (at (k .cs) j) j (c j) (c-now j) → bears d (at (k .cs) j) ≡ false → cur (at (k .cs) j) ≡ c-now j
+      plain-more j (same e f) b = w .plain j b ∙ sym f
+      plain-more j (plainly q f) b = w .plain j b ∙ sym f
+      plain-more j (holding g e f) b = absurd (never-both (g .bearing) b)
+
+      marked-more : (j : ℕ) → Shift d y r (at (k .cs) j) j (c j) (c-now j) → bears d (at (k .cs) j) ≡ true → currentBy longer j (length longer) (cur (at (k .cs) j)) ≡ c-now j
+      marked-more j (same e f) b = by-same-all rs r j e (cur (at (k .cs) j)) ∙ w .marked j b ∙ sym f
+      marked-more j (plainly q f) b = absurd (never-both b q)
+      marked-more j (holding g e f) b = e (cur (at (k .cs) j)) ∙ ap (currentWith rs (recordTransaction r) j (length rs)) (w .marked j b) ∙ sym f
+
+      done-more : (i : ℕ) (o : Order) → getD (y .orders) i noOrder ≡ o → i < length (y .orders) → Shift d y r (at (k .cs) (cardFor o)) (cardFor o)
+          (c (cardFor o)) (c-now (cardFor o)) → Done d rs (at (k .cs) (cardFor o)) o → Done d longer (at (k .cs) (cardFor o)) o
+      done-more i o e g (same s f) q p live b = by-same-all rs r (cardFor o) s (cur (at (k .cs) (cardFor o))) ∙ q p live b
+      done-more i o e g (plainly s f) q p live b = absurd (never-both b s)
+      done-more i o e g (holding held s f) q p live b =
+          let old = all-at (λ (a : Order). cardFor a ≡ cardFor o → relies a < at (k .cs) (cardFor o) .pair .x) (y .orders) i noOrder g (held .stale) (ap cardFor e) in
+          absurd (omega (arith, live, subst (λ (a : Order). relies a < at (k .cs) (cardFor o) .pair .x) e old))
+
+      onwards-more : (j n : ℕ) (b : Bool) → ((i : ℕ) → dueFor longer j i ≡ dueFor rs j i) → Onwards rs j n b → Onwards longer j n b
+      onwards-more j n b e (inl later) = inl (later .0, later .1, e (later .0) ∙ later .2)
+      onwards-more j n b e (inr q) = inr (by-same rs r j e n b ∙ q)
+
+      tells-more : (i : ℕ) (v : Shown) → getD (y .shown) i noShown ≡ v → i < length (y .shown) → Shift d y r (at (k .cs) (v .card)) (v .card)
+          (c (v .card)) (c-now (v .card)) → Tells d rs (at (k .cs) (v .card)) v → Tells d longer (at (k .cs) (v .card)) v
+      tells-more i v e g (same s f) q live b = onwards-more (v .card) (v .reach) (cur (at (k .cs) (v .card))) s (q live b)
+      tells-more i v e g (plainly s f) q live b = absurd (never-both b s)
+      tells-more i v e g (holding held s f) q live b =
+          let none = all-at (λ (a : Shown). a .card ≡ v .card → at (k .cs) (v .card) .pair .x ≤ a .x → a .reach ≡ 0) (y .shown) i noShown g (held .unwritten) (ap (λ (a : Shown). a .card) e) in
+          says-nothing d longer (at (k .cs) (v .card)) v (sym (ap (λ (a : Shown). a .reach) e) ∙ none (subst (λ (a : Shown). at (k .cs) (v .card) .pair .x ≤ a .x) (sym e) live)) live b
+
+      turned-more : Turned d longer (y .orders) (y .shown) c-now (k .cs)
+      turned-more =
+          record {
+            plain = λ j b. plain-more j (shift z j) b;
+            marked = λ j b. marked-more j (shift z j) b;
+            sent =
+                all-by (λ (o : Order). Done d longer (at (k .cs) (cardFor o)) o) (y .orders) noOrder
+                (λ i g.
+                let o : Order = getD (y .orders) i noOrder in
+                done-more i o refl g (shift z (cardFor o)) (all-at (λ (a : Order). Done d rs (at (k .cs) (cardFor a)) a) (y .orders) i noOrder g (w .sent)));
+            told =
+                all-by (λ (v : Shown). Tells d longer (at (k .cs) (v .card)) v) (y .shown) noShown
+                (λ i g.
+                let v : Shown = getD (y .shown) i noShown in
+                tells-more i v refl g (shift z (v .card)) (all-at (λ (a : Shown). Tells d rs (at (k .cs) (a .card)) a) (y .shown) i noShown g (w .told)));
+          }
+
+    turned-append : Turned d (records (appended budget (y .log) r)) (y .orders) (y .shown) c-now (k .cs)
+    turned-append = go number refl
+      where
+        go : (n : ℕ) → number ≡ n → Turned d (records (appended budget (y .log) r)) (y .orders) (y .shown) c-now (k .cs)
+        go zero e = subst (λ (q : List LogRecord). Turned d q (y .orders) (y .shown) c-now (k .cs)) (sym (appends budget (y .log) r .whole e .1)) (turned-more e)
+        go (suc n) e =
+            subst (λ (q : List LogRecord). Turned d q (y .orders) (y .shown) c-now (k .cs)) (sym (uncounted d y k budget r rb h n e .1))
+            (record { plain = λ j b. w .plain j b ∙ sym (cut n e j); marked = λ j b. w .marked j b ∙ sym (cut n e j); sent = w .sent; told = w .told })
+
+    pub holds-append : Holds d (afterStep d y (append budget r)) c-now
+    unfolding afterStep
+    holds-append = subst (Turned d (records (appended budget (y .log) r)) (y .orders) (y .shown) c-now) (sym (decoded d y k)) turned-append
 
 -- ---- a log that begins again
 

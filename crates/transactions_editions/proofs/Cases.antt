@@ -17,12 +17,14 @@ use Rattle.redo_log.specs.Append.{stored, puts, lineBytes, stores, appended}
 use Rattle.redo_recovery_model.specs.Recovery.{due}
 use Rattle.redo_recovery_model.specs.Claims.{rewritten}
 use Rattle.transactions.specs.System.{withUpdates, afterStep, afterSteps, lawfulAll}
+use Rattle.transactions.specs.Desks.{afterDeskStep, afterDeskSteps, lawfulDeskSteps}
 use Rattle.transactions_editions.specs.Editions.{currentWith, currentBy, currentAlong}
+use Rattle.transactions_editions.specs.Desks.{desksCurrentAlong}
 use Rattle.transactions_editions.specs.Cases.{DropsChanged}
 
 pub drops-changed : DropsChanged
-unfolding currentWith currentBy currentAlong lawfulAll afterSteps afterStep withUpdates rewritten due stored puts lineBytes stores appended shaped
+unfolding desksCurrentAlong afterDeskSteps lawfulDeskSteps afterDeskStep currentWith currentBy currentAlong lawfulAll afterSteps afterStep withUpdates rewritten due stored puts lineBytes stores appended shaped
     lastBegun opened follows total startAt recordAt recordOk goodLog records serve serveBy stepped sound headerSound cardSound translationSound
     tailZero decode cardAt entryAt readEntry encode bodies pad entryBytes header shapeOk fresh replied raise entrySound commandBytes formed payload
     fieldsOf wellFormed all allFrom le toLe part splice tabulate concatMap every zeros
-drops-changed = record { rules = refl; reads = refl; current = refl; rules-alone = refl; reads-alone = refl; behind = refl }
+drops-changed = record { rules = refl; reads = refl; current = refl; rules-alone = refl; reads-alone = refl; behind = refl; two-desks = refl }

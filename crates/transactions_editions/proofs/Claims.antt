@@ -18,7 +18,7 @@ use Rattle.commands.specs.Bytes.{formed}
 use Rattle.commands.proofs.CommandBytes.{language-within}
 use Rattle.guard.specs.Judge.{behind}
 use Rattle.guard.specs.declared.Entry.{Entry}
-use Rattle.image.specs.Image.{view}
+use Rattle.image.specs.Image.{Cards, view}
 use Rattle.store_model.specs.Serve.{requestRows}
 use Rattle.store_model.specs.Words.{Sent}
 use Rattle.store_model.proofs.Machine.{numberOn, passed}
@@ -48,11 +48,11 @@ module _ (d : ℕ) (y : OneDesk) (k : Kept d y) (c : ℕ → Bool) (w : Holds d 
   unfolding afterStep
   holds-crash = w
 
-  holds-next : (m : Step) → StepBytes m → lawful d y m ≡ true → Holds d (afterStep d y m) (currentAfter d y c m)
+  pub holds-next : (m : Step) → StepBytes m → lawful d y m ≡ true → Holds d (afterStep d y m) (currentAfter d y c m)
   holds-next (other s) b h = holds-other d y k c by-cards s b h
   holds-next (order s line from) b h = holds-order d y c w s line from h (k .some)
   holds-next (arrive i) b h = holds-arrive d y k c by-cards i h
-  holds-next (append budget r) b h = holds-append d y k c by-cards budget r b h
+  holds-next (append budget r) b h = holds-append d y k c budget r b h by-cards
   holds-next crash b h = holds-crash
   holds-next (recover pairs lines) b h = holds-recover d y k c by-cards pairs lines b h
   holds-next renew b h = holds-renew d y k c w h
@@ -77,44 +77,44 @@ pub editions-at-once : EditionsAtOnce
 editions-at-once d y m = let w = holds-always d y m in record { plain = λ k b. w .plain k b; marked = λ k b. w .marked k b }
 
 -- What a number says of the card, on cards by the rules.
-module _ (d : ℕ) (y : OneDesk) (k : Kept d y) (s : Sent) (r : readsTranslation (commandIn s) ≡ true) where
+module _ (cs : Cards) (s : Sent) (r : readsTranslation (commandIn s) ≡ true) where
   abbrev c : Command
   c = commandIn s
 
   abbrev entry : Entry
-  entry = view (c .language) (at (k .cs) (c .card))
+  entry = view (c .language) (at cs (c .card))
 
   abbrev rows : List Row
-  rows = requestRows V1 (k .cs) (s .command) (length (s .lent))
+  rows = requestRows V1 cs (s .command) (length (s .lent))
 
   -- Of version 1 there is one language.
-  seen : formed V1 (s .command) ≡ true → behind (entry .edition) (entry .from) ≡ not (cur (at (k .cs) (c .card)))
+  seen : formed V1 (s .command) ≡ true → behind (entry .edition) (entry .from) ≡ not (cur (at cs (c .card)))
   seen f =
       let below : c .language < 1 = language-within V1 (s .command) f in
       let zero-th : c .language ≡ 0 = omega arith in
-      ap (λ (n : ℕ). behind (view n (at (k .cs) (c .card)) .edition) (view n (at (k .cs) (c .card)) .from)) zero-th
-      ∙ twice (behind (view 0 (at (k .cs) (c .card)) .edition) (view 0 (at (k .cs) (c .card)) .from))
+      ap (λ (n : ℕ). behind (view n (at cs (c .card)) .edition) (view n (at cs (c .card)) .from)) zero-th
+      ∙ twice (behind (view 0 (at cs (c .card)) .edition) (view 0 (at cs (c .card)) .from))
     where
       twice : (b : Bool) → b ≡ not (not b)
       twice true = refl
       twice false = refl
 
-  accepted : numberOn V1 (k .cs) s ≡ 0 → (c .expected .desk ≡ at (k .cs) (c .card) .mark .desk) × (cur (at (k .cs) (c .card)) ≡ true)
+  pub accepted : numberOn V1 cs s ≡ 0 → (c .expected .desk ≡ at cs (c .card) .mark .desk) × (cur (at cs (c .card)) ≡ true)
   accepted z =
-      let p = passed V1 (k .cs) s z in (
+      let p = passed V1 cs s z in (
         eqb-true (c .expected .desk) (entry .mark .desk) (and-left (eqb (c .expected .desk) (entry .mark .desk)) _ (p .judged .mark)),
-        not-false (cur (at (k .cs) (c .card))) (sym (seen (p .wellFormed)) ∙ p .judged .current r),
+        not-false (cur (at cs (c .card))) (sym (seen (p .wellFormed)) ∙ p .judged .current r),
       )
 
   no-write : writesTranslation c ≡ false
   no-write = ap (λ (n : ℕ). eqb n 4) (eqb-true (c .act) 2 r)
 
-  behind-then : numberOn V1 (k .cs) s ≡ 6 → (c .expected .desk ≡ at (k .cs) (c .card) .mark .desk) × (cur (at (k .cs) (c .card)) ≡ false)
+  pub behind-then : numberOn V1 cs s ≡ 6 → (c .expected .desk ≡ at cs (c .card) .mark .desk) × (cur (at cs (c .card)) ≡ false)
   behind-then z =
       let row : applies 6 rows ≡ true = from-T (applies 6 rows) (given rows tt 5 .0 z .0) in
       let above : noRow (earlier 6 rows) ≡ true = from-T (noRow (earlier 6 rows)) (given rows tt 5 .0 z .1) in
       let well : formed V1 (s .command) ≡ true = not-false (formed V1 (s .command)) (not-true (not (formed V1 (s .command))) (and-left (not (not (formed V1 (s .command)))) _ above)) in
-      let third = and-right (not (not (ltb (c .card) (length (k .cs .cards))))) _ (and-right (not (not (formed V1 (s .command)))) _ above) in
+      let third = and-right (not (not (ltb (c .card) (length (cs .cards))))) _ (and-right (not (not (formed V1 (s .command)))) _ above) in
       let fifth = and-right (not (tooFar (entry .pair) (update c))) _ (and-right (not (stale (c .mode) (entry .pair) (verifier c))) _ third) in
       let fits : markFits (entry .mark) (c .expected) ≡ true = not-false (markFits (entry .mark) (c .expected))
       (not-true (not (markFits (entry .mark) (c .expected))) (and-left (not (not (markFits (entry .mark) (c .expected)))) _ fifth)) in
@@ -122,7 +122,7 @@ module _ (d : ℕ) (y : OneDesk) (k : Kept d y) (s : Sent) (r : readsTranslation
       (one-of (readsTranslation c && behind (entry .edition) (entry .from)) (writesTranslation c && not (eqb (c .edition) (entry .edition))) row
       (ap (λ (b : Bool). b && not (eqb (c .edition) (entry .edition))) no-write)) in (
         eqb-true (c .expected .desk) (entry .mark .desk) (and-left (eqb (c .expected .desk) (entry .mark .desk)) _ fits),
-        not-true (cur (at (k .cs) (c .card))) (sym (seen well) ∙ late),
+        not-true (cur (at cs (c .card))) (sym (seen well) ∙ late),
       )
     where
       one-of : (a b : Bool) → (a || b) ≡ true → b ≡ false → a ≡ true
@@ -134,6 +134,6 @@ translations-read d y m s r e =
     let k = kept-always d y m in
     let w = by-cards d y k (meantCurrent d y m) (holds-always d y m) in
     record {
-      shown = λ z. let two = accepted d y k s r (sym (number-now d y k s) ∙ z) in sym (w .plain (commandIn s .card) (subst (λ (n : ℕ). eqb n d ≡ false) (two .0) e)) ∙ two .1;
-      refused = λ z. let two = behind-then d y k s r (sym (number-now d y k s) ∙ z) in sym (w .plain (commandIn s .card) (subst (λ (n : ℕ). eqb n d ≡ false) (two .0) e)) ∙ two .1;
+      shown = λ z. let two = accepted (k .cs) s r (sym (number-now d y k s) ∙ z) in sym (w .plain (commandIn s .card) (subst (λ (n : ℕ). eqb n d ≡ false) (two .0) e)) ∙ two .1;
+      refused = λ z. let two = behind-then (k .cs) s r (sym (number-now d y k s) ∙ z) in sym (w .plain (commandIn s .card) (subst (λ (n : ℕ). eqb n d ≡ false) (two .0) e)) ∙ two .1;
     }

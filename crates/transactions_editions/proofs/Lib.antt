@@ -4,4 +4,6 @@ pub mod Steps
 pub mod Appends
 pub mod Recovers
 pub mod Claims
+pub mod Desks
 pub mod Cases
+pub mod Uses

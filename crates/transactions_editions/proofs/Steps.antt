@@ -51,7 +51,7 @@ use Rattle.transactions.specs.System.{
 use Rattle.transactions.proofs.Records.{All}
 use Rattle.transactions.proofs.Serving.{at, then, Taken, taken, kept}
 use Rattle.transactions.proofs.Kept.{bears, Clear, cardFor, relies, Ready, Fine, preparing, releasing, writing, Safe, Told, Kept, all-at}
-use Rattle.transactions.proofs.Requests.{if-formed, number-now, image-now, good-now}
+use Rattle.transactions.proofs.Requests.{if-so, number-now, image-now, good-now}
 use Rattle.transactions.proofs.Orders.{out-none}
 use Rattle.transactions.proofs.Renewing.{some-written}
 use Rattle.transactions.proofs.Arrivals.{rises}
@@ -164,7 +164,7 @@ module _ (d : ℕ) (y : OneDesk) (k : Kept d y) (c : ℕ → Bool) (w : Turned d
     t = taken (k .cs) s (k .good) z
 
     rule : (not (expects d cmd) && not (leaves d cmd)) ≡ true
-    rule = if-formed (formed V1 (s .command)) h (t .wellFormed)
+    rule = if-so (formed V1 (s .command)) h (t .wellFormed)
 
     was-off : bears d (at (k .cs) (cmd .card)) ≡ false
     was-off = subst (λ (n : ℕ). eqb n d ≡ false) (t .fits) (not-true (expects d cmd) (and-left (not (expects d cmd)) (not (leaves d cmd)) rule))

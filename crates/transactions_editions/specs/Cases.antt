@@ -4,15 +4,17 @@
 use Prim.Native.Nat.{ℕ}
 use mathlib.Core.Path.{_≡_}
 use mathlib.Core.List.{List, [], _∷_, _++_}
-use mathlib.Core.Bool.{true, false}
+use mathlib.Core.Bool.{Bool, true, false}
 use lib.ListN.{take}
 use Rattle.stamps.specs.Stamp.{exclusive, noMark}
 use Rattle.store_model.specs.Cases.{pair, withPairs, sends, text205, text401, long}
 use Rattle.redo_log.specs.Log.{LogRecord}
-use Rattle.redo_log_claims.specs.Cases.{beginOf, commitOf}
+use Rattle.redo_log_claims.specs.Cases.{beginOf, updateOf, commitOf, syncedOf}
 use Rattle.transactions.specs.System.{OneDesk, Step, other, order, arrive, outcome, afterSteps}
-use Rattle.transactions_cases.specs.Cases.{atFirst, text190, text380, one, five, command, writes1, ours, prepare, writeOut, release, logs, logsAll, inOrder, Shows, both, single}
+use Rattle.transactions.specs.Desks.{Desks, DeskStep, outside, own, seenBy, afterDeskSteps, lawfulDeskSteps}
+use Rattle.transactions_cases.specs.Cases.{atFirst, text190, text380, text210, one, five, six, theirs, bothRuled, twoDesks, command, writes1, ours, prepare, writeOut, release, logs, logsAll, inOrder, Shows, both, single}
 use Rattle.transactions_editions.specs.Editions.{currentIn, currentAlong}
+use Rattle.transactions_editions.specs.Desks.{desksCurrentAlong}
 
 -- Desk 1 writes card 0 in both languages.
 abbrev pub writtenTwice : List Step
@@ -54,6 +56,59 @@ together = writtenTwice ∷ makesReady both ∷ commitsIt ∷ originalOut ∷ tr
 abbrev pub originalAlone : List (List Step)
 originalAlone = writtenTwice ∷ makesReady single ∷ commitsIt ∷ originalOut ∷ releasedAt (five 3) ∷ []
 
+-- Two desks, one after the other: desk 6 changes the original alone, and then desk 5 both languages.
+abbrev pub oneAfterTheOther : List (List DeskStep)
+oneAfterTheOther =
+    (outside (command 3 0 (one 1) (one 1) noMark noMark text190 [])
+    ∷ outside (sends (withPairs 4 exclusive 0 (pair 0 (one 1)) (pair 0 (one 1)) noMark noMark 1 3) text380 [])
+    ∷ [])
+    ∷ (own 6 (logs (beginOf 7))
+    ∷ own 6 (logs (updateOf 0 1 text210))
+    ∷ own 6 (order (command 5 0 (one 1) (six 2) noMark theirs [] []) 0 0)
+    ∷ own 6 (arrive 0)
+    ∷ own 6 (logs (commitOf 7))
+    ∷ [])
+    ∷ (own 6 (order (command 3 0 (six 2) (six 3) theirs theirs text210 []) 1 0)
+    ∷ own 6 (arrive 0)
+    ∷ own 6 (order (command 5 0 (six 3) (six 4) theirs noMark [] []) 0 0)
+    ∷ own 6 (arrive 0)
+    ∷ own 6 (logs (syncedOf 0 7))
+    ∷ [])
+    ∷ (own 5 (logs (beginOf 1))
+    ∷ own 5 (logs (updateOf 0 1 text205))
+    ∷ own 5 (logs (updateOf 0 2 text401))
+    ∷ own 5 (order (prepare 0 (six 4) (five 5)) 0 0)
+    ∷ own 5 (arrive 0)
+    ∷ own 5 (logs (commitOf 1))
+    ∷ [])
+    ∷ (own 5 (order (writeOut 0 (five 5) (five 6) text205) 1 0)
+    ∷ own 5 (arrive 0)
+    ∷ own 5 (order (sends (withPairs 4 exclusive 0 (pair 0 (five 6)) (pair 0 (five 7)) ours ours 3 3) text401 []) 2 0)
+    ∷ own 5 (arrive 0)
+    ∷ own 5 (order (release 0 (five 7) (five 8)) 0 0)
+    ∷ own 5 (arrive 0)
+    ∷ [])
+    ∷ []
+
+-- What a reader of the translation gets, whether it is meant to be current, and whether all was by the rules.
+pub record Turn : Type 0 where
+  pub gets : Shows
+  pub current : Bool
+  pub lawfully : Bool
+
+abbrev pub turn : ℕ → List ℕ → Bool → Turn
+turn number text current = record { gets = readerGets number text; current = current; lawfully = true }
+
+abbrev pub turnsOf : Desks → (ℕ → Bool) → List (List DeskStep) → List Turn
+turnsOf y c [] = []
+turnsOf y c (part ∷ parts) =
+    record {
+      gets = readIt (seenBy 5 (afterDeskSteps y part));
+      current = desksCurrentAlong y c part 0;
+      lawfully = lawfulDeskSteps bothRuled y part;
+    }
+    ∷ turnsOf (afterDeskSteps y part) (desksCurrentAlong y c part) parts
+
 pub record DropsChanged : Type 0 where
   pub rules : inOrder atFirst together ≡ true
   -- the old one, nothing while the card is marked, the new one
@@ -63,3 +118,7 @@ pub record DropsChanged : Type 0 where
   pub rules-alone : inOrder atFirst originalAlone ≡ true
   pub reads-alone : translationAfter atFirst originalAlone ≡ readerGets 0 text380 ∷ readerGets 4 [] ∷ readerGets 4 [] ∷ readerGets 4 [] ∷ readerGets 6 [] ∷ []
   pub behind : currentAlong 5 atFirst (currentIn (atFirst .image)) (writtenTwice ++ (makesReady single ++ commitsIt)) 0 ≡ false
+  -- two desks: the old one; nothing while the card is marked, then 6, since the original is newer; the new one
+  pub two-desks :
+      turnsOf twoDesks (currentIn (twoDesks .image)) oneAfterTheOther
+      ≡ turn 0 text380 true ∷ turn 4 [] false ∷ turn 6 [] false ∷ turn 4 [] true ∷ turn 0 text401 true ∷ []

@@ -36,14 +36,11 @@ use Rattle.redo_recovery_model.proofs.Texts.{cards-good, decode-is, number-here
 use Rattle.transactions.specs.System.{commandIn, markIn, storedX, dueFor, writtenOut, rewritable, afterStep}
 use Rattle.transactions.proofs.Serving.{at, then, taken, stepped-here}
 use Rattle.transactions.proofs.Kept.{Kept}
+use Rattle.transactions.proofs.Requests.{if-so}
 use Rattle.transactions.proofs.Rewriting.{left, left-idle}
 use Rattle.transactions.proofs.Claims.{kept-always, commits-at-once, recovers-meant}
 use Rattle.transactions_progress.specs.Progress.{originalsDue, editionBefore, canWrite, goodPair, RecoveryTaken, OneStepFinishes}
 use Rattle.transactions_progress.proofs.Taken.{writing, well, taken-by, same-pair, raised-to}
-
--- What is free where a line is not due holds where it is.
-if-due : (b : Bool) {q : Bool} → b ≡ true → (not b || q) ≡ true → q ≡ true
-if-due b e f = rw e at f
 
 -- What is asked of a line that is due, on cards.
 record LineOk (pairs : Pairs) (rs : List LogRecord) (cs : Cards) (i : ℕ) : Type 0 where
@@ -254,9 +251,9 @@ module _ (pairs : Pairs) (log image : List ℕ) (fp : FitsPairs pairs) (lb : Byt
 
   lines-ok : (i : ℕ) → i < length lrs → due lrs i ≡ true → LineOk pairs lrs (decode V1 image) i
   lines-ok i h e =
-      let two = if-due (due lrs i) e (every-out (canWrite image lrs) (length lrs) can i h) in
+      let two = if-so (due lrs i) (every-out (canWrite image lrs) (length lrs) can i h) e in
       let front = and-left (inside && fits) (cond one left-one some) two in
-      let three = if-due (due lrs i) e (every-out (goodPair image lrs pairs) (length lrs) may i h) in
+      let three = if-so (due lrs i) (every-out (goodPair image lrs pairs) (length lrs) may i h) e in
       let first = and-left (ses && not old) (not far) three in
       record {
         there = ltb-true (recordCard (recordIn lrs i)) (length (decode V1 image .cards)) (and-left inside fits front);
@@ -337,5 +334,5 @@ one-step-finishes d y pairs m fp h can may j l =
             let bearing = and-left (eqb (markIn (y .image) (recordCard (recordIn (records (y .log)) n)) .desk) d)
             (ltb (storedX (y .image) (recordCard (recordIn (records (y .log)) n)))
             (recoveryPair pairs (recordCard (recordIn (records (y .log)) n)) .x))
-            (if-due (due (records (y .log)) n) (and-left (due (records (y .log)) n) (eqb (recordCard (recordIn (records (y .log)) n)) i) f) one) in
+            (if-so (due (records (y .log)) n) one (and-left (due (records (y .log)) n) (eqb (recordCard (recordIn (records (y .log)) n)) i) f)) in
             absurd (never-both (subst (λ (m : ℕ). eqb (markIn (y .image) m .desk) d ≡ true) here bearing) e)

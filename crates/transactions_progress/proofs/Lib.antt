@@ -2,3 +2,4 @@ pub mod Taken
 pub mod Claims
 pub mod Holders
 pub mod Cases
+pub mod Uses

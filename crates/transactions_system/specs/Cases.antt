@@ -14,7 +14,7 @@ use Rattle.store_model.specs.Cases.{pair, text205}
 use Rattle.redo_log_claims.specs.Cases.{beginOf, updateOf, commitOf, syncedOf, emptyLog}
 use Rattle.redo_recovery_model.specs.Claims.{textIn}
 use Rattle.desk_system.specs.System.{begin, propose, learn}
-use Rattle.desk_system.specs.Trials.{twoPlaces}
+use Rattle.desk_system_cases.specs.Trials.{twoPlaces}
 use Rattle.transactions.specs.System.{order, arrive, recover, markIn}
 use Rattle.transactions.specs.Desks.{outside, own, desksOpening, afterDeskSteps}
 use Rattle.transactions_cases.specs.Cases.{text190, one, five, command, prepare, release, logs, bothUnder}

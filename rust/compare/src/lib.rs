@@ -5,7 +5,8 @@
 //! - [`run`]: how a difference is told. [`coverage`]: what a run counts.
 //! - [`answers`], [`images`], [`lists`], [`queues`], [`desks`], [`streams`],
 //!   [`texts`], [`logs`], [`program`]: what is compared, part by part.
-//! - [`outputs`]: what the program prints, whole and in process.
+//! - [`outputs`]: what the program prints, whole and in process. [`inputs`]:
+//!   inputs and outputs as files.
 //! - [`upgrades`]: lists of turns from an empty queue, in which standing desks
 //!   ask again. [`lapses`]: desks that fall silent.
 //! - [`history`]: the history engine, beside the store. [`swaps`]: commands for
@@ -28,6 +29,7 @@ pub mod demand3;
 pub mod desks;
 pub mod history;
 pub mod images;
+pub mod inputs;
 pub mod languages;
 pub mod lapses;
 pub mod lists;

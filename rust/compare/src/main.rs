@@ -3,16 +3,19 @@
 //! `compare seed S N` runs any seed again. Each prints the coverage table at
 //! its end, and fails at the first difference, and where a number or a kind of
 //! the table never came. `compare some S N` runs N cases, however few, and asks
-//! for no kind: for runs under tools that make it slow.
+//! for no kind: for runs under tools that make it slow. `compare inputs FOLDER
+//! N` writes the trials and N random inputs to the program, and what it has to
+//! print for each, into a folder.
 
+use std::path::Path;
 use std::process::ExitCode;
 use std::time::{Instant, SystemTime, UNIX_EPOCH};
 
 use compare::coverage::Run;
 use compare::run::Compared;
 use compare::{
-    answers, conversions, desks, history, images, languages, lapses, lists, logs, outputs, program,
-    proposals, queues, runs, streams, swaps, systems, texts, trials, upgrades,
+    answers, conversions, desks, history, images, inputs, languages, lapses, lists, logs, outputs,
+    program, proposals, queues, runs, streams, swaps, systems, texts, trials, upgrades,
 };
 use second::random::Random;
 use second::Format;
@@ -29,6 +32,9 @@ fn main() -> ExitCode {
     let words: Vec<String> = std::env::args().skip(1).collect();
     let words: Vec<&str> = words.iter().map(String::as_str).collect();
     let few = matches!(words[..], ["some", ..]);
+    if let ["inputs", folder, count] = words[..] {
+        return written(folder, count.parse().unwrap_or(0));
+    }
     let (seed, cases, inputs) = match words[..] {
         ["test"] => (Some(SEED), Some(CASES), INPUTS),
         ["some", seed, cases] => (seed.parse().ok(), cases.parse().ok(), 0),
@@ -38,7 +44,7 @@ fn main() -> ExitCode {
     };
     let least = if few { 0 } else { LEAST };
     let Some((seed, cases)) = seed.zip(cases.map(|cases| least.max(cases))) else {
-        eprintln!("usage: compare test | compare soak CASES | compare seed SEED CASES | compare some SEED CASES");
+        eprintln!("usage: compare test | compare soak CASES | compare seed SEED CASES | compare some SEED CASES | compare inputs FOLDER COUNT");
         return ExitCode::from(2);
     };
     println!("compare: seed {seed}, {cases} cases");
@@ -54,6 +60,17 @@ fn main() -> ExitCode {
                 "compare: seed {seed}, after {} cases: a difference\n{difference}",
                 run.cases
             );
+            ExitCode::FAILURE
+        }
+    }
+}
+
+/// Writes inputs and outputs.
+fn written(folder: &str, count: u64) -> ExitCode {
+    match inputs::write(Path::new(folder), count) {
+        Ok(()) => ExitCode::SUCCESS,
+        Err(why) => {
+            eprintln!("compare: {why}");
             ExitCode::FAILURE
         }
     }

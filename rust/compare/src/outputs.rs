@@ -15,7 +15,7 @@ use crate::proved;
 use crate::run::{bytes, same, Compared};
 
 /// As many bytes as the longest output can have.
-const LONGEST: usize = 238_518;
+pub const LONGEST: usize = 238_518;
 
 /// As many commands as an input takes, behind an image of 80 bytes.
 const MOST_COMMANDS: usize = (INPUT_LIMIT - 80) / 52;

@@ -338,9 +338,7 @@ impl<B: AsRef<[u8]>> Log<B> {
     /// ```
     #[must_use]
     pub fn due(&self) -> Vec<(usize, u32)> {
-        let due = due(self).into_iter();
-        due.map(|update| (update.record, update.transaction))
-            .collect()
+        due(self)
     }
 
     /// Kind, place and length of a line.

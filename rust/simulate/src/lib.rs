@@ -1,5 +1,5 @@
-//! A town of desks over the proved library: many desks, several cards, a lock
-//! queue for each card, one store, a redo log for each desk. One seed draws one
+//! A town of desks over the proved library: many desks, several cards, lock
+//! queues for each card, one store, a redo log for each desk. One seed draws one
 //! history with every fault; after every step it is checked by plain Rust
 //! written from `docs/RULES.md`.
 //!

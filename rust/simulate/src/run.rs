@@ -24,6 +24,18 @@ pub struct Broken {
     pub premise: u64,
     /// In how many a session was broken.
     pub isolation: u64,
+    /// In how many the store was not the one in which a commit is one step.
+    pub halved: u64,
+}
+
+impl Broken {
+    /// In how many towns broke what the rule is for.
+    pub fn broken(&self, rule: Rule) -> u64 {
+        match rule.of_transactions() {
+            true => self.halved,
+            false => self.premise,
+        }
+    }
 }
 
 /// The seed of a town of a run.
@@ -31,10 +43,12 @@ pub fn town_seed(seed: u64, town: u64) -> u64 {
     Random::new(seed ^ town.wrapping_mul(0x9e37_79b9_7f4a_7c15)).number()
 }
 
-/// The shape of a town of a run: the first has a card that is worn out.
+/// The shape of a town of a run: the first has a card that is worn out, and one
+/// in ten is large.
 fn shape(seed: u64, town: u64) -> Shape {
     match town {
         0 => Shape::worn(),
+        _ if town % 10 == 5 => Shape::large(&mut Random::new(seed)),
         _ => Shape::any(&mut Random::new(seed)),
     }
 }
@@ -161,26 +175,37 @@ fn in_town<L: Library>(
 fn broken_town(seed: u64, rule: Rule, number: u64) -> (u64, Shape) {
     let seed = town_seed(seed ^ 0xb0b0, number << 8 | rule as u64);
     let mut random = Random::new(seed);
+    let transacting = rule.of_transactions();
+    let any = Shape::any(&mut random);
     let shape = Shape {
-        steps: 400,
+        steps: if transacting { 1_000 } else { 400 },
         desks: random.pick(&[2, 3, 4]),
         cards: random.pick(&[1, 2]),
         polite: false,
-        ..Shape::any(&mut random)
+        transacting,
+        managers: if transacting { 1 } else { any.managers },
+        ..any
     };
     (seed, shape)
 }
 
 /// How many towns with a broken rule there are at least, and at most, until
-/// the premise broke in three of them.
+/// what the rule is for broke in three of them.
 const LEAST: u64 = 100;
 const MOST: u64 = 30_000;
+const MOST_OF_TRANSACTIONS: u64 = 3_000;
 
 /// Runs towns in which a rule is broken. Every check but the premise and
-/// isolation outright holds there too, and isolation while the premise holds.
+/// isolation outright holds there too, and isolation while the premise holds;
+/// of a rule on transactions, every check but those of the store in which a
+/// commit is one step.
 pub fn broken<L: Library>(library: &mut L, seed: u64, rule: Rule) -> Result<Broken, Breach> {
+    let most = match rule.of_transactions() {
+        true => MOST_OF_TRANSACTIONS,
+        false => MOST,
+    };
     let mut broken = Broken::default();
-    while broken.towns < LEAST || broken.premise < 3 && broken.towns < MOST {
+    while broken.towns < LEAST || broken.broken(rule) < 3 && broken.towns < most {
         let (seed, shape) = broken_town(seed, rule, broken.towns);
         let mut tally = Tally::default();
         let mut town = Town::new(library, &mut tally, seed, shape, Some(rule))?;
@@ -189,6 +214,7 @@ pub fn broken<L: Library>(library: &mut L, seed: u64, rule: Rule) -> Result<Brok
         broken.towns += 1;
         broken.premise += u64::from(premise);
         broken.isolation += u64::from(isolation);
+        broken.halved += u64::from(town.halved().is_some());
     }
     Ok(broken)
 }

@@ -1,6 +1,7 @@
 //! What happens in a town as scenes of the crate `story`, for words and for pictures.
 
 use lupaniele::{Answer, DeskId, Image, Lease, Mode, Number, Pair, Stamp, Version};
+use second::Format;
 use story::{Judged, Scene, Waiting};
 
 use crate::checks::queue::Turn;
@@ -22,8 +23,9 @@ pub fn pair(pair: second::Pair) -> Pair {
     Pair::new(s, x)
 }
 
-/// The store judged a command on an image, which is then the other.
+/// The store judged a command of a version on an image, which is then the other.
 pub fn judged(
+    format: Format,
     command: &[u8],
     answer: &library::Answer,
     shown: &[u8],
@@ -36,7 +38,11 @@ pub fn judged(
     };
     let [before, after] = [before, after].map(|image| Image::check(image).ok());
     let (before, after) = (before.as_ref(), after.as_ref());
-    let judged = Judged::new(Version::One, command, told, shown, before, after);
+    let version = match format {
+        Format::V1 => Version::One,
+        Format::V2 => Version::Two,
+    };
+    let judged = Judged::new(version, command, told, shown, before, after);
     Scene::Judged(judged)
 }
 

@@ -2,10 +2,13 @@
 
 use second::random::Random;
 use second::{CommandFields, Pair};
+use simulate::checks::atomic::Atomic;
 use simulate::checks::isolation::Lists;
 use simulate::checks::log::{appended, due, read, BEGIN, COMMIT, SYNCED, UPDATE};
+use simulate::checks::queue::{Listed, Turn};
+use simulate::checks::steps::{self, Seen};
 use simulate::checks::{formed, Check, Made};
-use simulate::library::{Answer, Library, Proved};
+use simulate::library::{Answer, Library, Proved, Queue};
 use story::{Event, Story};
 
 /// The stamp T.desk.0.
@@ -207,4 +210,146 @@ fn one_look_at_each_command_says_what_the_rules_say_of_the_list() {
         seen[usize::from(kept) * 2 + usize::from(alone)] += 1;
     }
     assert!(seen.iter().all(|count| *count > 100), "{seen:?}");
+}
+
+/// A log of records: kind and body.
+fn log_of(records: &[(u8, &[u8])]) -> Vec<u8> {
+    let mut log = vec![0; 2_600];
+    for (kind, body) in records {
+        assert_eq!(Proved.append(&mut log, *kind, body, 99), 0);
+    }
+    log
+}
+
+/// Begin 7; the original and the translation of card 0.
+const OPEN: [(u8, &[u8]); 3] = [
+    (BEGIN, &[7, 0, 0, 0]),
+    (UPDATE, b"\0\0\x01205"),
+    (UPDATE, b"\0\0\x02401"),
+];
+
+/// The check that a read of card 0 breaks: its act, its number, what it shows.
+fn read_breaks(beside: &mut Atomic, act: u8, number: u8, text: &[u8]) -> Option<Check> {
+    let fields = CommandFields {
+        act,
+        mode: 1,
+        pair: Pair::new(stamp(1, 1), 0),
+        ..CommandFields::default()
+    };
+    let bytes = fields.to_bytes();
+    let answer = Answer {
+        number,
+        fields: [0, 0, 0, 0, 1, 1, text.len() as u64],
+    };
+    let sent = formed::formed(&bytes).unwrap();
+    let judged = beside.judged(&mut Made::default(), &sent, &answer, text);
+    judged.err().map(|breach| breach.check)
+}
+
+#[test]
+fn a_commit_is_one_step_in_the_store_beside() {
+    let mut beside = Atomic::new(1, 16, true);
+    let mut log = log_of(&OPEN);
+    beside.logged(5, &log);
+    for stores in [0, 4, 15] {
+        assert_eq!(Proved.append(&mut log, COMMIT, &[7, 0, 0, 0], stores), 26);
+        beside.logged(5, &log);
+        assert_eq!(read_breaks(&mut beside, 1, 0, b""), None);
+        assert_eq!(read_breaks(&mut beside, 2, 6, b""), None);
+        assert_eq!(
+            read_breaks(&mut beside, 1, 0, b"205"),
+            Some(Check::ReadsMeant)
+        );
+    }
+    assert_eq!(Proved.append(&mut log, COMMIT, &[7, 0, 0, 0], 16), 0);
+    beside.logged(5, &log);
+    assert_eq!(read_breaks(&mut beside, 1, 0, b"205"), None);
+    assert_eq!(read_breaks(&mut beside, 2, 0, b"401"), None);
+    assert_eq!(read_breaks(&mut beside, 1, 0, b""), Some(Check::ReadsMeant));
+    assert_eq!(
+        read_breaks(&mut beside, 2, 6, b""),
+        Some(Check::ReadsCurrent)
+    );
+}
+
+#[test]
+fn a_card_stands_as_it_is_meant_once_what_is_due_is_applied() {
+    let mut image = vec![0; 80];
+    assert_eq!(Proved.make(&mut image, 1, 16), 0);
+    let mut beside = Atomic::new(1, 16, true);
+    beside.logged(5, &log_of(&OPEN));
+    let mut stands = |beside: &mut Atomic, mark: u8| {
+        image[16 + 16] = mark;
+        let stands = beside.stands(&mut Made::default(), &image, 0);
+        stands.err().map(|breach| breach.check)
+    };
+    assert_eq!(stands(&mut beside, 0), None);
+    let committed = [&OPEN[..], &[(COMMIT, &[7, 0, 0, 0])]].concat();
+    beside.logged(5, &log_of(&committed));
+    assert_eq!(stands(&mut beside, 5), None);
+    assert_eq!(stands(&mut beside, 0), Some(Check::Meant));
+    assert_eq!(stands(&mut beside, 6), Some(Check::Meant));
+    let synced = [&committed[..], &[(SYNCED, &[0, 0, 7, 0, 0, 0])]].concat();
+    beside.logged(5, &log_of(&synced));
+    assert_eq!(stands(&mut beside, 5), Some(Check::Meant));
+}
+
+#[test]
+fn each_row_of_the_next_step() {
+    let open = log_of(&OPEN);
+    let committed = [&OPEN[..], &[(COMMIT, &[7, 0, 0, 0])]].concat();
+    let committed = log_of(&committed);
+    let seen = |mark, prepared, reach| {
+        Some(Seen {
+            mark,
+            prepared,
+            reach,
+        })
+    };
+    let rows = [
+        (&open, 0, true, None, (steps::BAD, 0, 0)),
+        (&open, 5, true, None, (steps::LOOK, 0, 0)),
+        (&committed, 5, false, seen(0, false, 0), (steps::NOTE, 0, 7)),
+        (&committed, 5, false, seen(6, false, 0), (steps::NOTE, 0, 7)),
+        (&committed, 5, true, seen(5, true, 0), (steps::WRITE, 1, 0)),
+        (&committed, 5, true, seen(5, false, 2), (steps::WRITE, 2, 0)),
+        (
+            &committed,
+            5,
+            true,
+            seen(5, false, 3),
+            (steps::RELEASE, 0, 0),
+        ),
+        (&open, 5, true, seen(0, false, 0), (steps::PREPARE, 0, 0)),
+        (&open, 5, true, seen(6, false, 0), (steps::WAIT, 0, 0)),
+        (&open, 5, true, seen(5, true, 0), (steps::READY, 0, 0)),
+        (&open, 5, true, seen(5, false, 0), (steps::RELEASE, 0, 0)),
+        (&open, 5, false, seen(5, true, 0), (steps::RELEASE, 0, 0)),
+        (&open, 5, false, seen(0, false, 0), (steps::NOTHING, 0, 0)),
+    ];
+    for (log, desk, going, seen, step) in rows {
+        assert_eq!(steps::next(log, (desk, 0), going, seen), step);
+        let numbers = Seen::numbers(seen);
+        assert_eq!(Proved.next_step(log, (desk, 0), going, &numbers), step);
+    }
+}
+
+#[test]
+fn a_queue_is_by_its_own_requests_alone() {
+    let mut queue = Queue {
+        modes: [0; 32],
+        s: [0; 32],
+        x: [0; 32],
+        kept: [0; 3],
+        places: 4,
+    };
+    let (mut listed, mut made) = (Listed::default(), Made::default());
+    let pair = Pair::new(stamp(1, 1), 0);
+    assert_eq!(Proved.ask(&mut queue, 1, pair).number, 0);
+    let asked = Turn::Ask(1, pair);
+    assert_eq!(listed.turned(&mut made, asked, 0, &queue), Ok(()));
+    // Another manager's largest pair comes in.
+    queue.kept[2] = stamp(9, 2);
+    let told = listed.turned(&mut made, asked, 12, &queue);
+    assert_eq!(told.err().map(|breach| breach.check), Some(Check::OwnQueue));
 }

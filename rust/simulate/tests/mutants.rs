@@ -4,8 +4,9 @@
 
 use second::Pair;
 use simulate::checks::Check;
-use simulate::library::{Answer, Held, Lease, Library, Proved, Queue, QueueAnswer};
-use simulate::run::{run, Plan};
+use simulate::library::{Answer, Held, Lease, Library, Next, Proved, Queue, QueueAnswer};
+use simulate::rule::Rule;
+use simulate::run::{run, told, Plan};
 use simulate::tally::Tally;
 
 /// A wrong answer, by what is wrong.
@@ -48,6 +49,12 @@ enum Mutant {
     RecoveryWrongLine,
     RecoveryForgetsMark,
     BehindShown,
+    UnmarkedWritten,
+    UnpreparedReady,
+    RefusedPrepares,
+    ReachShort,
+    AgainWithDue,
+    AgainKeepsCount,
 }
 
 use Mutant::*;
@@ -218,6 +225,36 @@ const ALL: &[(Mutant, &str, Check)] = &[
         BehindShown,
         "a desk shows a translation that is behind",
         Check::ShownPart,
+    ),
+    (
+        UnmarkedWritten,
+        "what is due on a card without the mark is written",
+        Check::NextStep,
+    ),
+    (
+        UnpreparedReady,
+        "a card is ready that no accepted prepare marked",
+        Check::NextStep,
+    ),
+    (
+        RefusedPrepares,
+        "a refused prepare counts as accepted",
+        Check::Heard,
+    ),
+    (
+        ReachShort,
+        "a line that is written counts as not reached",
+        Check::Heard,
+    ),
+    (
+        AgainWithDue,
+        "a log begins again while something is due",
+        Check::BeginAgain,
+    ),
+    (
+        AgainKeepsCount,
+        "a log that begins again keeps its count",
+        Check::BeginAgain,
     ),
 ];
 
@@ -493,7 +530,10 @@ impl Library for Wrong {
             _ => log.to_vec(),
         };
         let told = Proved.recover(&wrong, image, s, x);
-        if wrong != log && told.0 != 0 {
+        let mut right = before.clone();
+        Proved.recover(log, &mut right, s, x);
+        let other_text = self.is(SyncedIgnored) && bodies(image) != bodies(&right);
+        if wrong != log && (told.0 != 0 || other_text) {
             image.copy_from_slice(&before);
             return Proved.recover(log, image, s, x);
         }
@@ -508,6 +548,48 @@ impl Library for Wrong {
             _ => told,
         }
     }
+
+    fn next_step(&mut self, log: &[u8], place: (u16, u16), going: bool, seen: &[u16; 4]) -> Next {
+        let told = Proved.next_step(log, place, going, seen);
+        self.wrong_step(log, going, seen, told)
+    }
+
+    fn heard(&mut self, step: (u8, u8), number: u8, mark: u16) -> [u16; 4] {
+        let told = Proved.heard(step, number, mark);
+        let [known, held, mark, reach] = told;
+        match self.0 {
+            RefusedPrepares if step.0 == 2 && number == 3 => [known, 1, mark, reach],
+            ReachShort if reach > 0 => [known, held, mark, reach - 1],
+            _ => told,
+        }
+    }
+
+    fn begin_again(&mut self, log: &mut [u8]) -> bool {
+        let (count, begun) = (log[0], Proved.begin_again(log));
+        match self.0 {
+            AgainWithDue if Proved.check_log(log) == 0 => log[0] = 0,
+            AgainKeepsCount => log[0] = count,
+            _ => return begun,
+        }
+        true
+    }
+}
+
+/// What a step or its answer is made of by a wrong library.
+impl Wrong {
+    fn wrong_step(&self, log: &[u8], going: bool, seen: &[u16; 4], told: Next) -> Next {
+        let due = simulate::checks::steps::all_due(log);
+        match (self.0, told.0) {
+            (UnmarkedWritten, 6) => (4, due.last().map_or(0, |due| due.line), 0),
+            (UnpreparedReady, 5) if going && due.is_empty() && seen[1] == 0 => (3, 0, 0),
+            _ => told,
+        }
+    }
+}
+
+/// The bytes behind the entries of an image.
+fn bodies(image: &[u8]) -> &[u8] {
+    &image[16 + 32 * usize::from(image[6])..]
 }
 
 /// A log whose last transaction is committed, begun or not.
@@ -572,6 +654,31 @@ fn each_wrong_answer_stops_the_simulation() {
         }
     }
     assert!(told.is_empty(), "stopped by another check: {told:#?}");
+}
+
+/// Rules of transactions that a town breaks, and the check of the store beside
+/// that notices it.
+const BROKEN: &[(Rule, &[Check])] = &[
+    (Rule::MarkTakenOff, &[Check::Meant, Check::MeantCurrent]),
+    (Rule::WrittenEarly, &[Check::Meant, Check::MeantCurrent]),
+    (Rule::LineSkipped, &[Check::Meant, Check::MeantCurrent]),
+    (
+        Rule::ReleasedUnwritten,
+        &[Check::Meant, Check::MeantCurrent],
+    ),
+    (Rule::CommitsUnheld, &[Check::Meant, Check::MeantCurrent]),
+    (Rule::NotedMarked, &[Check::Meant, Check::MeantCurrent]),
+    (Rule::BegunAgainDue, &[Check::Meant, Check::MeantCurrent]),
+    (Rule::Unwritable, &[Check::StepsEnd]),
+];
+
+#[test]
+fn each_broken_rule_is_seen_in_the_store_beside() {
+    for (rule, checks) in BROKEN {
+        let stop = told(&mut Proved, 9, *rule).unwrap();
+        let check = stop.breach.check;
+        assert!(checks.contains(&check), "{rule:?}: {check:?}");
+    }
 }
 
 #[test]

@@ -1,4 +1,4 @@
-// A run: the commands of a stream judged one after another on one image.
+// A run, line by line: the commands of a stream judged one after another on one image.
 ghost use mathlib.Core.Path.{_≡_};
 ghost use mathlib.Core.Bool.{true};
 ghost use Prim.Native.Nat.{_+_, _≤_};
@@ -9,9 +9,9 @@ ghost use Rattle.program.specs.inner.Put.{Put};
 ghost use Rattle.program.specs.Program.{printed, mostPrinted};
 use crate::inner::lines;
 use store::inner::run::PER_LINE;
-use store::inner::run::one;
+use store::inner::run::many;
 
-// Judges the stream's commands in one walk on a sound image, and writes a line for each and the last line into `out` from `at` on. Hands back the place
+// Runs the stream on a sound image with room for one line at a time, and writes each line and the last one into `out` from `at` on. Hands back the place
 // behind them.
 pub fn put_printed(
     image: &mut [u8],
@@ -28,21 +28,13 @@ pub fn put_printed(
     let mut place = 1;
     let mut to = at;
     let cut = loop {
-        let end = stream::next_from(formats::V1, stream, from);
-        if end == from {
+        let ran = many(formats::V1, image, &stream[from..], reply, true, &mut line);
+        if ran.count == 0 {
             break from;
         }
-        one(
-            formats::V1,
-            image,
-            &stream[from..end],
-            reply,
-            true,
-            &mut line,
-        );
         to = lines::put_line(out, to, place, &line);
         place += 1;
-        from = end;
+        from += ran.end;
     };
     lines::put_last(out, to, (stream.len() - cut) as u64)
 }

@@ -1,4 +1,4 @@
-use crate::{Answer, raw};
+use crate::{Answer, Number, raw};
 
 /// What a desk has seen of a card (rule 16.24): the answer to the command that it last sent for it.
 ///
@@ -37,10 +37,18 @@ impl Seen {
     /// ```
     #[must_use]
     pub fn heard(step: NextStep, answer: &Answer) -> Seen {
+        Seen::by(step, answer.number, answer.mark.desk)
+    }
+
+    /// What is seen of a card that bears this desk's mark, once a step was accepted.
+    pub(crate) fn accepted(step: NextStep, mark: u16) -> Seen {
+        Seen::by(step, Number::Accepted, mark)
+    }
+
+    fn by(step: NextStep, number: Number, mark: u16) -> Seen {
         let (step, line) = step.in_numbers();
         let mut seen = Seen::NOTHING;
-        let (number, mark) = (answer.number as u8, answer.mark.desk);
-        raw::heard(step, line, number, mark, &mut seen.numbers);
+        raw::heard(step, line, number as u8, mark, &mut seen.numbers);
         seen
     }
 }

@@ -24,7 +24,7 @@ usage: simulate test               a fixed seed, 1,000,000 steps
        simulate soak STEPS         a new seed, which is printed; 1,000,000 steps at the least
        simulate seed SEED STEPS    any seed again
        simulate some SEED STEPS    as few steps as one likes, and nothing asked but that there is no breach
-       simulate broken RULE SEED   a town in which a rule is broken, up to where the premise breaks
+       simulate broken RULE SEED   a town in which a rule is broken, up to where what it is for breaks
        simulate --picture SEED     a small town as a picture, SVG
 
 Each of the first three then runs towns in which one rule is broken and towns with desks of the
@@ -210,20 +210,21 @@ fn visited(seed: u64) -> bool {
     }
 }
 
-/// Towns with a broken rule: whether in each the premise broke somewhere, and
-/// nothing else did.
+/// Towns with a broken rule: whether in each broke somewhere what the rule is
+/// for, and nothing else did.
 fn rules(seed: u64) -> bool {
-    say("one rule broken: towns, premise broken, session broken");
-    Rule::ALL
+    say("one rule broken: towns, premise broken, session broken, commit in halves");
+    let broke: Vec<bool> = Rule::ALL
         .iter()
-        .all(|rule| match broken(&mut Proved, seed, *rule) {
+        .map(|rule| match broken(&mut Proved, seed, *rule) {
             Ok(told) => {
                 let (towns, premise, isolation) = (told.towns, told.premise, told.isolation);
+                let halved = told.halved;
                 say(format!(
-                    "{towns:>8} {premise:>6} {isolation:>6}  {}",
+                    "{towns:>8} {premise:>6} {isolation:>6} {halved:>6}  {}",
                     rule.words()
                 ));
-                premise > 0
+                told.broken(*rule) > 0
             }
             Err(breach) => {
                 say(format!(
@@ -234,6 +235,8 @@ fn rules(seed: u64) -> bool {
                 false
             }
         })
+        .collect();
+    broke.iter().all(|broke| *broke)
 }
 
 /// Where a run stopped, and the last steps.

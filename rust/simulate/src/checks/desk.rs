@@ -43,13 +43,8 @@ pub fn proposed(
     before: Proposal,
     after: Proposal,
 ) -> Checked {
-    let [s, x] = before.known;
     let own = u32::from(desk) << 16 | u32::from(start);
-    let pair = match mode {
-        SHARED => own_above(own, s).map(|s| [s, x]),
-        EXCLUSIVE => own_above(own, x).map(|x| [s, x]),
-        _ => None,
-    };
+    let pair = proposal(own, before.known, mode).map(|pair| [pair.s, pair.x]);
     let expected = match pair {
         _ if desk == 0 || mode != SHARED && mode != EXCLUSIVE => Proposal {
             number: 1,
@@ -66,6 +61,16 @@ pub fn proposed(
         },
     };
     made.same(Check::Proposed, after, expected)
+}
+
+/// The pair that a desk and start proposes in a mode from what it knows (rules
+/// 10.4 and 10.5).
+pub fn proposal(own: u32, [s, x]: [u64; 2], mode: u8) -> Option<Pair> {
+    match mode {
+        SHARED => own_above(own, s).map(|s| Pair::new(s, x)),
+        EXCLUSIVE => own_above(own, x).map(|x| Pair::new(s, x)),
+        _ => None,
+    }
 }
 
 /// The exclusive stamps that were proposed for a card.

@@ -1,4 +1,5 @@
-//! A command as the rules read it (rules 1.2 to 1.7, 3.1 to 3.4).
+//! A command as the rules read it (rules 1.2 to 1.7, 3.1 to 3.4; of version 2
+//! rules 15.6 and 15.7).
 
 use second::{CommandFields, Format, Mark, Pair};
 
@@ -59,6 +60,8 @@ pub struct Sent<'a> {
     pub expected: Mark,
     /// The mark that it leaves.
     pub next: Mark,
+    /// The language, 0 to 3; 0 but for acts 2 and 4 of version 2 (rule 15.7).
+    pub language: usize,
     /// The edition that a translation is made from.
     pub edition: u16,
     /// The text.
@@ -66,24 +69,52 @@ pub struct Sent<'a> {
 }
 
 impl Sent<'_> {
-    /// The language that it reads: 0 the original, 1 the translation.
-    pub fn reads(&self) -> Option<usize> {
-        (self.act <= 2).then(|| usize::from(self.act) - 1)
+    /// The text that it is about: 0 the original, then the translations.
+    fn text(&self) -> usize {
+        match self.act {
+            2 | 4 => 1 + self.language,
+            _ => 0,
+        }
     }
 
-    /// The language that it writes.
+    /// The text that it reads.
+    pub fn reads(&self) -> Option<usize> {
+        (self.act <= 2).then(|| self.text())
+    }
+
+    /// The text that it writes.
     pub fn writes(&self) -> Option<usize> {
-        (self.act == 3 || self.act == 4).then(|| usize::from(self.act) - 3)
+        (self.act == 3 || self.act == 4).then(|| self.text())
     }
 }
 
-/// The command in these bytes, or none if they are malformed.
+/// The bytes of a command before its payload (rules 3.1 and 15.6).
+pub fn head(format: Format) -> usize {
+    match format {
+        Format::V1 => 52,
+        Format::V2 => 68,
+    }
+}
+
+/// The update pair that is meant: the verifier where none is sent (rule 3.4).
+pub fn meant(fields: &CommandFields) -> Pair {
+    match fields.update == Pair::default() {
+        true => fields.pair,
+        false => fields.update,
+    }
+}
+
+/// The command of version 1 in these bytes, or none if they are malformed.
 pub fn formed(bytes: &[u8]) -> Option<Sent<'_>> {
-    let fields = CommandFields::from_bytes(Format::V1, bytes)?;
-    let payload = &bytes[52..];
+    formed_as(Format::V1, bytes)
+}
+
+/// The command of a version in these bytes, or none if they are malformed.
+pub fn formed_as(format: Format, bytes: &[u8]) -> Option<Sent<'_>> {
+    let fields = CommandFields::from_bytes(format, bytes)?;
+    let payload = &bytes[head(format)..];
     let (act, mode, verifier) = (fields.act, fields.mode, fields.pair);
-    let same = fields.update == Pair::default();
-    let update = if same { verifier } else { fields.update };
+    let update = meant(&fields);
     let write = act == 3 || act == 4;
     let mark = |mark: Mark| (mark.desk == 0) == (mark.transaction == 0);
     let right = payload.len() == usize::from(fields.length)
@@ -91,6 +122,8 @@ pub fn formed(bytes: &[u8]) -> Option<Sent<'_>> {
         && (!write || mode == EXCLUSIVE)
         && (fields.edition != 0) == (act == 4)
         && (write || payload.is_empty())
+        && fields.language <= if act == 2 || act == 4 { 3 } else { 0 }
+        && fields.reserved == [0; 15]
         && valid(verifier.s)
         && valid(verifier.x)
         && sendable(mode, update)
@@ -107,6 +140,7 @@ pub fn formed(bytes: &[u8]) -> Option<Sent<'_>> {
         desk: desk_of(own(mode, update)),
         expected: fields.expected,
         next: fields.next,
+        language: fields.language.into(),
         edition: fields.edition,
         payload,
     })

@@ -10,6 +10,10 @@ use super::formed::{desk_of, Sent, EXCLUSIVE, SHARED};
 /// A session: desk, mode and pair.
 type Session = (u32, u8, Pair);
 
+fn session(sent: &Sent) -> Session {
+    (sent.desk, sent.mode, sent.update)
+}
+
 /// The last place at which some desk was accepted, and the last one of any
 /// other desk.
 #[derive(Clone, Copy, Debug, Default)]
@@ -73,11 +77,15 @@ impl Lists {
         (!self.broken, speaks.is_some())
     }
 
+    /// The place of the last accepted command of a command's session.
+    pub fn last_of(&self, sent: &Sent) -> Option<u64> {
+        self.last.get(&session(sent)).copied()
+    }
+
     /// A command was accepted at a place of the list. If it is not the first
     /// of its session: whether nobody was let in since the one before.
     pub fn accepted(&mut self, at: u64, sent: &Sent) -> Option<bool> {
-        let session = (sent.desk, sent.mode, sent.update);
-        let before = self.last.insert(session, at);
+        let before = self.last.insert(session(sent), at);
         let intruder = match sent.mode {
             EXCLUSIVE => self.any.not_of(sent.desk),
             _ => self.exclusive.not_of(sent.desk),

@@ -1,6 +1,8 @@
 //! A desk's redo log: reading it back, and what an append stores (rules 11.1
 //! to 11.15).
 
+use std::collections::{HashMap, HashSet};
+
 use second::{CommandFields, Mark, Pair};
 
 use super::{Check, Checked, Made};
@@ -116,6 +118,17 @@ pub struct Update {
 }
 
 impl Update {
+    /// The update of a transaction in a record of a line (rule 11.4).
+    pub fn of(line: usize, transaction: u32, body: &[u8]) -> Update {
+        Update {
+            line: line as u64,
+            transaction,
+            card: little(&body[..2]) as u16,
+            side: body[2],
+            text: body[3..].to_vec(),
+        }
+    }
+
     /// The write of this update under a pair, where this mark and this edition
     /// are stored (rule 11.17).
     pub fn command(&self, mark: Mark, edition: u16, pair: Pair) -> Vec<u8> {
@@ -135,29 +148,27 @@ impl Update {
 
 /// The updates that are due, in order (rule 11.15).
 pub fn due(records: &[(u8, &[u8])]) -> Vec<Update> {
+    let of = |wanted: u8| records.iter().filter(move |(kind, _)| *kind == wanted);
+    let committed: HashSet<u32> = of(COMMIT).map(|(_, body)| little(body)).collect();
+    let mut synced: HashMap<u16, u32> = HashMap::new();
+    for (_, body) in of(SYNCED) {
+        let highest = synced.entry(little(&body[..2]) as u16).or_default();
+        *highest = little(&body[2..]).max(*highest);
+    }
     let mut transaction = 0;
     let mut updates = Vec::new();
     for (line, (kind, body)) in records.iter().enumerate() {
         match *kind {
             BEGIN => transaction = little(body),
-            UPDATE => updates.push(Update {
-                line: line as u64,
-                transaction,
-                card: little(&body[..2]) as u16,
-                side: body[2],
-                text: body[3..].to_vec(),
-            }),
+            UPDATE if committed.contains(&transaction) => {
+                let card = little(&body[..2]) as u16;
+                if synced.get(&card).is_none_or(|noted| *noted < transaction) {
+                    updates.push(Update::of(line, transaction, body));
+                }
+            }
             _ => {}
         }
     }
-    let of = |wanted: u8| records.iter().filter(move |(kind, _)| *kind == wanted);
-    updates.retain(|update| {
-        let committed = of(COMMIT).any(|(_, body)| little(body) == update.transaction);
-        let synced = of(SYNCED).any(|(_, body)| {
-            little(&body[..2]) as u16 == update.card && little(&body[2..]) >= update.transaction
-        });
-        committed && !synced
-    });
     updates
 }
 

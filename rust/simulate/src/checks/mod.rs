@@ -2,13 +2,19 @@
 //! `docs/RULES.md`. Nothing here calls the library, and nothing looks at an
 //! image but to compare it with the bytes that the rules give.
 
+pub mod atomic;
 pub mod desk;
 pub mod formed;
+pub mod history;
 pub mod isolation;
 pub mod log;
 pub mod queue;
 pub mod recovery;
+pub mod runs;
+pub mod steps;
 pub mod store;
+pub mod texts;
+pub mod versions;
 
 crate::named! {
     /// A thing that is checked.
@@ -27,6 +33,26 @@ crate::named! {
         Image "4.4, 4.5: the image, to its last byte",
         Sound "2.6: the image is sound",
         Made "2.7: making an image",
+        OtherVersion "15.13: what is of the other version gets 9, and changes nothing",
+        Number2 "15.7, 15.8: the number in version 2",
+        Fields2 "15.8: the seven reply fields, of the language named",
+        Image2 "15.3, 15.4: the image of version 2, to its last byte",
+        Behind2 "15.8: a language's read gets 6 exactly when that language is behind",
+        Shows2 "15.8: an accepted read shows the text accepted last in its language",
+        Converted "15.9, 15.10: a conversion's number, and every byte that it makes",
+        AcrossLate "15.12: what is late by a command before the conversion gets 3",
+        AcrossShows "15.12: language 0 shows the translation of before the conversion",
+        Walk "8.1, 8.2: where the whole commands of a stream end",
+        RunLines "8.7: the lines of a run",
+        RunEnd "8.2, 8.7: how many commands a run judges, and where it stops",
+        RunBuffers "8.5: the image and the reply buffer that a run leaves",
+        History "14.10: the history engine answers as the store does",
+        HistoryFull "14.2, 14.11: 22 exactly at a limit, where the store accepts",
+        HistoryBytes "14.3, 14.8, 14.9: every byte that the history engine keeps",
+        AnyHistory "14.4 to 14.9: any bytes and any number mean some history",
+        Agree "12.9, 12.10: the number and the place of two texts",
+        EitherWay "12.8: two texts agree either way round",
+        SameDrops "4.6, 12.8: a careful translation that is current has the original's drops",
         RefusedQueue "7.11: what is refused changes no byte of a queue",
         QueueNumber "7.6, 7.12, 13.5: the queue's number",
         QueueHolds "7.5: who holds the lock, and never two against each other",
@@ -45,6 +71,16 @@ crate::named! {
         Recovered "11.21: the texts of the committed transactions, after recovery",
         RecoveryNumber "11.19: recovery's number and line",
         Twice "11.21: a second recovery leaves the same texts",
+        OwnQueue "7.16, 10.23: a queue is by its own accepted requests alone",
+        InItsMode "10.8: an ask and a command carry a pair in the mode in which it was proposed",
+        Heard "16.24: what a desk has seen of a card",
+        NextStep "16.25: the next step for a card",
+        BeginAgain "16.27: a log begins again where nothing is due",
+        Meant "16.11: a card has the texts that are meant",
+        MeantCurrent "16.19: a translation is current where it is meant to be",
+        ReadsMeant "16.12: an accepted read shows the text that is meant",
+        ReadsCurrent "16.20: a translation is read where it is meant to be current, and else gets 6",
+        StepsEnd "16.28: the steps end, with no mark left and nothing due",
     }
 }
 

@@ -136,6 +136,45 @@ fn after(queue: &Queue, turn: Turn) -> Queue {
     after
 }
 
+/// The entries that hold the lock: mode and desk (rule 7.5).
+pub fn holders(queue: &Queue) -> impl Iterator<Item = (u8, u32)> + '_ {
+    let entries = (0..count(queue)).map(|at| entry(queue, at));
+    let desks = entries.map(|(mode, pair)| (mode, desk_of(own(mode, pair))));
+    desks.filter(|(_, desk)| holds(queue, *desk))
+}
+
+/// What the accepted requests of one queue leave, from when it was empty on:
+/// the entries that stand, in the order of asking, and the largest pair (rule
+/// 7.16). Nothing of any other queue comes into it (rule 10.23).
+#[derive(Clone, Debug, Default)]
+pub struct Listed {
+    stands: Vec<(u8, Pair)>,
+    /// The largest s and the largest x of the accepted asks.
+    pub largest: Pair,
+}
+
+impl Listed {
+    /// A request to this queue got a number, and the queue is now so.
+    pub fn turned(&mut self, made: &mut Made, turn: Turn, number: u8, queue: &Queue) -> Checked {
+        if number == 0 {
+            let gone = desk_of_turn(turn);
+            self.stands
+                .retain(|(mode, pair)| desk_of(own(*mode, *pair)) != gone);
+            if let Turn::Ask(mode, pair) = turn {
+                self.stands.push((mode, pair));
+                let Pair { s, x } = self.largest;
+                self.largest = Pair::new(s.max(pair.s), x.max(pair.x));
+            }
+        }
+        let stands = (0..count(queue)).map(|at| entry(queue, at));
+        let Pair { s, x } = self.largest;
+        let same = stands.eq(self.stands.iter().copied()) && queue.kept[1..] == [s, x];
+        made.hold(Check::OwnQueue, same, || {
+            format!("the queue: {queue:x?}; its own accepted requests leave {self:x?}")
+        })
+    }
+}
+
 /// One request to a queue was answered: the queue before, the turn, the
 /// answer, the queue after.
 pub fn turned(

@@ -1,7 +1,8 @@
 //! Recovery (rules 11.15 to 11.21): the updates that are due go through the
-//! guard in order, up to the first that is refused.
+//! guard in order, up to the first that is refused. It is for version 1 (rule
+//! 15.13).
 
-use second::Pair;
+use second::{Format, Pair};
 
 use super::log::{due, read, Update};
 use super::store::Store;
@@ -14,7 +15,7 @@ fn pair_of(card: u16, s: &[u64], x: &[u64]) -> Pair {
 }
 
 /// The text of a card and side as the image holds it (rules 2.4 and 2.5).
-fn text_in(image: &[u8], cards: usize, room: usize, card: usize, side: usize) -> &[u8] {
+pub fn text_in(image: &[u8], cards: usize, room: usize, card: usize, side: usize) -> &[u8] {
     let at = 16 + 32 * card + 28 + 2 * side;
     let length = usize::from(image[at]) + 256 * usize::from(image[at + 1]);
     let body = 16 + 32 * cards + (2 * card + side) * room;
@@ -41,7 +42,7 @@ pub fn checked(made: &mut Made, store: &mut Store, recovery: Recovery) -> Checke
         return made.same(Check::RecoveryNumber, recovery.answer, (23, 0));
     };
     let due = due(&read.records);
-    let before: Vec<[Vec<u8>; 2]> = store.cards.iter().map(|card| card.texts.clone()).collect();
+    let before: Vec<[Vec<u8>; 5]> = store.cards.iter().map(|card| card.texts.clone()).collect();
     let mut expected = (0, 0);
     let mut sent: &[Update] = &due;
     for (place, update) in due.iter().enumerate() {
@@ -53,7 +54,9 @@ pub fn checked(made: &mut Made, store: &mut Store, recovery: Recovery) -> Checke
             break;
         }
     }
-    texts(made, store, (&before, sent), recovery.image)?;
+    if store.format == Format::V1 {
+        texts(made, store, (&before, sent), recovery.image)?;
+    }
     made.same(Check::RecoveryNumber, recovery.answer, expected)?;
     store.same_image(made, recovery.image)
 }
@@ -63,11 +66,11 @@ pub fn checked(made: &mut Made, store: &mut Store, recovery: Recovery) -> Checke
 fn texts(
     made: &mut Made,
     store: &Store,
-    (before, sent): (&[[Vec<u8>; 2]], &[Update]),
+    (before, sent): (&[[Vec<u8>; 5]], &[Update]),
     image: &[u8],
 ) -> Checked {
     for (card, texts) in before.iter().enumerate() {
-        for (side, text) in texts.iter().enumerate() {
+        for (side, text) in texts.iter().enumerate().take(2) {
             let of = |update: &&Update| {
                 usize::from(update.card) == card && usize::from(update.side) == side + 1
             };

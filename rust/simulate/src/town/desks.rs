@@ -2,10 +2,11 @@
 //! and come back.
 
 use lupaniele::DeskId;
-use second::{CommandFields, Mark, Pair};
+use second::{CommandFields, Format, Mark, Pair};
 use story::Scene;
 
 use super::post::Body;
+use super::voters::Vote;
 use super::{Shape, Town};
 use crate::checks::desk::shown;
 use crate::checks::log::Update;
@@ -32,15 +33,30 @@ pub struct AtCard {
     pub open: [Option<Pair>; 2],
     /// The mark that it heard of last.
     pub mark: Mark,
+    /// The edition of the original that it holds.
+    pub read: u16,
     /// Whether it stands in the queue, and whether it holds the lock, as far as
     /// it knows.
     pub stands: bool,
     /// See [`AtCard::stands`].
     pub holds: bool,
+    /// What it has at each lock manager.
+    pub votes: Vec<Vote>,
     /// What it holds of the card's texts.
     pub held: Held,
-    /// How many entries the queue had accepted when it was last denied.
-    pub denied: Option<u64>,
+}
+
+impl AtCard {
+    /// The edition that a translation names: that of the original which the desk
+    /// has read, where it read one. One that is careless names the edition that
+    /// it heard of last.
+    fn named(&self, careless: bool) -> u16 {
+        match self.read {
+            0 => self.held.edition,
+            _ if careless => self.held.edition,
+            read => read,
+        }
+    }
 }
 
 /// A desk.
@@ -66,6 +82,10 @@ pub struct Desk {
     pub written: Vec<(u16, u32)>,
     /// Whether it was cut off in an append or a recovery.
     pub cut: bool,
+    /// The version that it takes the store to be of.
+    pub version: Format,
+    /// The language that it works in, where there are several.
+    pub language: u8,
 }
 
 impl Desk {
@@ -76,6 +96,7 @@ impl Desk {
         };
         let at = AtCard {
             held,
+            votes: vec![Vote::default(); shape.managers],
             ..AtCard::default()
         };
         Desk {
@@ -89,6 +110,8 @@ impl Desk {
             due: Vec::new(),
             written: Vec::new(),
             cut: false,
+            version: shape.versions.opening(),
+            language: (who.desk % 4) as u8,
         }
     }
 
@@ -126,11 +149,18 @@ impl<L: Library> Town<'_, L> {
                 self.far_clock(at);
                 Ok(())
             }
+            State::Up if self.shape.versions.converts() && self.one_in(100) => {
+                self.hears_of_conversion(at);
+                Ok(())
+            }
             State::Up => self.work(at, card),
         }
     }
 
     fn work(&mut self, at: usize, card: usize) -> Checked {
+        if self.shape.transacting && (!self.one_in(4) || self.busy(at, card)) {
+            return self.tend(at);
+        }
         let waits = self.waits(at, card);
         match self.random.below(20) {
             0..=1 => self.ask(at, card),
@@ -139,6 +169,7 @@ impl<L: Library> Town<'_, L> {
             4..=12 => self.command(at, card),
             13 => self.leave(at, card),
             14..=18 => self.log_work(at, card),
+            _ if self.one_in(2) => self.compare(at, card),
             _ => self.show(at, card),
         }
     }
@@ -177,6 +208,7 @@ impl<L: Library> Town<'_, L> {
             log: std::mem::take(&mut self.desks[at].log),
             transaction: self.desks[at].transaction,
             cut: self.desks[at].cut,
+            version: self.store.format,
             ..Desk::new(who, self.shape)
         };
         self.desks[at] = desk;
@@ -191,7 +223,7 @@ impl<L: Library> Town<'_, L> {
     fn leave(&mut self, at: usize, card: usize) -> Checked {
         let have = &mut self.desks[at].at[card];
         (have.stands, have.holds, have.open) = (false, false, [None; 2]);
-        self.send(at, card, Body::Leave);
+        self.leave_voters(at, card);
         Ok(())
     }
 
@@ -202,19 +234,14 @@ impl<L: Library> Town<'_, L> {
         let have = &self.desks[at].at[card];
         let standing = have.open[usize::from(mode) - 1].filter(|_| have.stands && !have.holds);
         if let Some(pair) = standing {
-            self.send(at, card, Body::Ask(mode, pair, None));
+            self.ask_again(at, card, mode, pair);
             return Ok(());
         }
         let Some(pair) = self.propose(at, card, mode)? else {
             return Ok(());
         };
-        let denied = self.desks[at].at[card].denied.take();
         let mode = if self.one_in(40) { 3 } else { mode };
-        self.send(
-            at,
-            card,
-            Body::Ask(mode, pair, denied.filter(|_| mode != 3)),
-        );
+        self.ask_voters(at, card, mode, pair);
         Ok(())
     }
 
@@ -267,17 +294,19 @@ impl<L: Library> Town<'_, L> {
             fields.update = Pair::default();
         }
         self.wrong_command(&mut fields, update);
+        self.in_version(at, &mut fields, write.is_some());
+        self.plain_marks(at, card, &mut fields);
         let payload = match write {
             Some(write) => write.text.clone(),
-            None if fields.act == 3 || fields.act == 4 => self.some_text(),
-            None => Vec::new(),
+            None => self.text_of(at, card, &fields),
         };
         let lent = if self.one_in(8) { 2 } else { self.shape.room };
         let mut bytes = fields.with_payload(&payload);
-        self.malform(&mut bytes);
+        self.malform(fields.format, &mut bytes);
         let line = write.map(|write| write.line);
         let card = usize::from(fields.card).min(self.shape.cards - 1);
-        self.send(at, card, Body::Command(bytes, lent, line));
+        let line = line.or_else(|| self.look_sent(at, card));
+        self.send(at, card, Body::command(fields.format, bytes, lent, line));
         Ok(())
     }
 
@@ -303,7 +332,11 @@ impl<L: Library> Town<'_, L> {
             card: card as u16,
             expected: have.mark,
             next: write.map_or(have.mark, next),
-            edition: if act == 4 { have.held.edition } else { 0 },
+            edition: if act == 4 {
+                have.named(self.shape.careless)
+            } else {
+                0
+            },
             ..CommandFields::default()
         }
     }
@@ -333,12 +366,16 @@ impl<L: Library> Town<'_, L> {
 
     /// Now and then a command is no command: bytes that are too few, an act, a
     /// mode or a mark that is none, an update pair below the verifier.
-    fn malform(&mut self, bytes: &mut Vec<u8>) {
+    fn malform(&mut self, format: Format, bytes: &mut Vec<u8>) {
         if !self.one_in(40) {
             return;
         }
+        if format == Format::V2 && self.one_in(2) {
+            return self.malform_language(bytes);
+        }
+        let (s, x) = (format.update_at(), format.update_at() + 8);
         match self.random.below(5) {
-            4 if bytes[4..12] != [0; 8] => bytes[20..28].fill(0),
+            4 if bytes[4..12] != [0; 8] && bytes[x..x + 8] != [0; 8] => bytes[s..x].fill(0),
             0 => bytes.truncate(self.random.index(52)),
             1 => bytes[0] = self.random.pick(&[0, 6, 255]),
             2 => bytes[1] = self.random.pick(&[0, 3]),
@@ -346,13 +383,20 @@ impl<L: Library> Town<'_, L> {
         }
     }
 
-    /// A text: a drop in degrees, now and then none or one that is too long.
+    /// A text: a drop in degrees, or a structured text; now and then none, one
+    /// that just fits, or one that is too long.
     pub(super) fn some_text(&mut self) -> Vec<u8> {
         if self.one_in(40) {
             return vec![b'!'; self.shape.room + 1];
         }
         if self.one_in(40) {
             return Vec::new();
+        }
+        if self.one_in(40) {
+            return vec![b'='; self.shape.room];
+        }
+        if self.one_in(2) {
+            return self.structured();
         }
         let degrees = 180 + self.random.below(60);
         format!("{degrees} C").into_bytes()
@@ -362,10 +406,9 @@ impl<L: Library> Town<'_, L> {
     /// there, now and then another one.
     pub(super) fn hears(&mut self, desk: usize, who: DeskId, card: usize, told: Body) -> Checked {
         let elsewhere = self.one_in(12);
-        let at = if elsewhere {
-            self.random.index(self.desks.len())
-        } else {
-            desk
+        let at = match elsewhere {
+            true => self.random.index(self.desks.len()),
+            false => desk,
         };
         let meant = at == desk && self.desks[at].who == who;
         if !self.desks[at].is_up() || !meant && !elsewhere {
@@ -373,26 +416,32 @@ impl<L: Library> Town<'_, L> {
         }
         self.tally.fault_if(!meant, Fault::Elsewhere);
         let pair = match &told {
-            Body::Stands(_, _, _, pair, _) => *pair,
+            Body::Stands(_, _, _, _, pair, _) => *pair,
             Body::Told(_, _, answer, _) => Pair::new(answer.fields[0], answer.fields[1]),
             _ => Pair::default(),
         };
         self.learn(at, card, pair)?;
+        if let (true, Body::Told(_, id, answer, _)) = (meant, &told) {
+            self.followed(at, card, *id, answer)?;
+        }
         match told {
             _ if !meant => {}
-            Body::Stands(mode, number, holds, _, accepted) => {
-                let have = &mut self.desks[at].at[card];
-                have.denied = (number == 11).then_some(accepted);
-                (have.stands, have.holds) = (matches!(number, 0 | 12) && mode != 0, holds);
-                if let (11, 1 | 2) = (number, mode) {
-                    have.open[usize::from(mode) - 1] = None;
-                }
+            Body::Stands(manager, mode, number, holds, _, accepted) => {
+                let vote = Vote {
+                    asked: true,
+                    stands: matches!(number, 0 | 12) && mode != 0,
+                    holds,
+                    denied: (number == 11).then_some(accepted),
+                };
+                self.voted(at, card, (manager, mode), vote);
             }
             Body::Told(_, _, answer, _) if answer.number == 17 && self.one_in(2) => {
                 // Someone sets the clock right, and starts the desk again.
                 return self.crash(at);
             }
-            Body::Told(act, line, answer, text) => self.note(at, card, (act, line), answer, &text),
+            Body::Told(asked, line, answer, text) => {
+                self.note(at, card, (asked, line), answer, &text);
+            }
             _ => {}
         }
         Ok(())
@@ -403,24 +452,35 @@ impl<L: Library> Town<'_, L> {
         &mut self,
         at: usize,
         card: usize,
-        (act, line): (u8, Option<u64>),
+        ((act, language), line): ((u8, u8), Option<u64>),
         answer: Answer,
         text: &[u8],
     ) {
-        if matches!(answer.number, 1 | 2) {
+        if answer.number == 9 {
+            self.looks_at_version(at);
+        }
+        if matches!(answer.number, 1 | 2 | 9) {
             return;
         }
         let [_, _, mark, transaction, edition, from, length] = answer.fields;
+        let own = self.desks[at].version == Format::V1 || self.desks[at].language == language;
         let have = &mut self.desks[at].at[card];
         have.mark = Mark::new(mark as u16, transaction as u32);
-        (have.held.edition, have.held.from) = (edition as u16, from as u16);
+        have.held.edition = edition as u16;
+        if own {
+            have.held.from = from as u16;
+        }
         if answer.number == 3 {
             (have.open, have.holds) = ([None; 2], false);
+            have.votes.iter_mut().for_each(|vote| vote.holds = false);
         }
-        if answer.number == 0 && (act == 1 || act == 2) {
-            let language = usize::from(act) - 1;
-            have.held.lengths[language] = length;
-            have.held.buffers[language][..text.len()].copy_from_slice(text);
+        if answer.number == 0 && (act == 1 || act == 2 && own) {
+            let held = usize::from(act) - 1;
+            have.held.lengths[held] = length;
+            have.held.buffers[held][..text.len()].copy_from_slice(text);
+            if act == 1 {
+                have.read = edition as u16;
+            }
         }
         if answer.number == 0 {
             self.wrote(at, line);

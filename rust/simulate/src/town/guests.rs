@@ -7,8 +7,11 @@ use second::Pair;
 use story::Scene;
 
 use super::post::{Body, Message};
+use super::transactions::Beside;
 use super::Town;
+use crate::checks::desk::proposal;
 use crate::checks::queue::Turn;
+use crate::checks::steps;
 use crate::checks::{Breach, Check, Checked};
 use crate::library::Library;
 
@@ -36,6 +39,8 @@ crate::named! {
 pub struct Guest {
     desk: desk::Desk,
     log: Log,
+    /// What it knows of each card, by what it sent and what it was told.
+    known: Vec<[u64; 2]>,
 }
 
 /// The line of a guest to the store and to the queues, and the first breach
@@ -44,6 +49,9 @@ struct Line<'t, 'a, L: Library> {
     town: &'t mut Town<'a, L>,
     who: DeskId,
     left: u64,
+    known: Vec<[u64; 2]>,
+    /// Whether nothing is lost or late, and nobody comes in between.
+    calm: bool,
     breach: Option<Breach>,
 }
 
@@ -60,22 +68,42 @@ impl<L: Library> Line<'_, '_, L> {
         })
     }
 
-    /// What a guest sends has its own stamp, in the mode in which it is sent
-    /// (rules 10.4, 10.5 and 10.8).
-    fn own(&mut self, mode: Mode, pair: lupaniele::Pair) -> Result<(), Nothing> {
-        let stamp = match mode {
-            Mode::Shared => pair.s,
-            Mode::Exclusive => pair.x,
+    /// A pair that a guest carries for the first time is what it proposes in
+    /// one of the modes, by what it knew (rules 10.4 to 10.7); the town then
+    /// knows in which (rule 10.8).
+    fn own(&mut self, card: usize, pair: lupaniele::Pair) -> Result<(), Nothing> {
+        let pair = Pair::new(pair.s.number(), pair.x.number());
+        let Some(known) = self.known.get_mut(card) else {
+            return Ok(());
         };
-        let own = stamp.desk_id().number() == self.who.number();
+        let proposed = &mut self.town.proposed;
+        if [1, 2]
+            .iter()
+            .any(|mode| proposed.contains(&(card, *mode, pair)))
+        {
+            return Ok(());
+        }
+        let own = self.who.number();
+        let new = |mode: &u8| proposal(own, *known, *mode) == Some(pair);
+        let mode = [1, 2].into_iter().find(new);
+        mode.map(|mode| proposed.insert((card, mode, pair)));
+        let told = || format!("{pair:x?}, and {known:x?} is known");
         let made = &mut self.town.tally.made;
-        let held = made.hold(Check::Proposed, own, || format!("{mode} under {pair}"));
+        let held = made.hold(Check::Proposed, mode.is_some(), told);
+        self.learns(card, pair);
         self.checked(held)
+    }
+
+    /// A guest learns a pair of a card.
+    fn learns(&mut self, card: usize, pair: Pair) {
+        if let Some([s, x]) = self.known.get_mut(card) {
+            (*s, *x) = (pair.s.max(*s), pair.x.max(*x));
+        }
     }
 
     /// Others come in between.
     fn others(&mut self) -> Result<(), Nothing> {
-        while self.town.one_in(3) {
+        while !self.calm && self.town.one_in(3) {
             let checked = match self.town.post.is_empty() || self.town.one_in(2) {
                 true => self.town.act(),
                 false => self.town.deliver(),
@@ -109,13 +137,16 @@ impl<L: Library> desk::Store for Line<'_, '_, L> {
     }
 
     fn send(&mut self, command: &[u8], reply: &mut [u8]) -> Result<lupaniele::Answer, Nothing> {
+        let parsed = lupaniele::Command::parse(Version::One, command).map_err(|_| Nothing)?;
+        let card = usize::from(parsed.card);
+        self.own(card, parsed.update_pair())?;
         self.left = self.left.checked_sub(1).ok_or(Nothing)?;
         self.others()?;
         let lent = self.town.shape.room.min(reply.len());
-        let parsed = lupaniele::Command::parse(Version::One, command).map_err(|_| Nothing)?;
-        let card = usize::from(parsed.card);
-        self.own(parsed.mode, parsed.update_pair())?;
-        let luck = self.town.random.below(20);
+        let luck = match self.calm {
+            true => 20,
+            false => self.town.random.below(20),
+        };
         if luck < 2 {
             if luck == 0 {
                 self.post(command, card, lent);
@@ -132,6 +163,7 @@ impl<L: Library> desk::Store for Line<'_, '_, L> {
             return Err(Nothing);
         }
         let [s, x, desk, transaction, edition, from, length] = answer.fields;
+        self.learns(card, Pair::new(s, x));
         let number = answer.number.into();
         let line = [number, s, x, desk, transaction, edition, from, length];
         lupaniele::Answer::from_line(line).ok_or(Nothing)
@@ -141,11 +173,17 @@ impl<L: Library> desk::Store for Line<'_, '_, L> {
 impl<L: Library> Line<'_, '_, L> {
     fn turn(&mut self, card: u16, turn: Turn) -> Result<lupaniele::QueueAnswer, Nothing> {
         let card = usize::from(card);
-        let turned = self.town.turn(card, turn);
+        let manager = usize::from(self.who.desk) % self.town.shape.managers;
+        if self.town.apart(self.who.desk, manager) {
+            return Err(Nothing);
+        }
+        let at = self.town.queue_of(card, manager);
+        let turned = self.town.turn(at, turn);
         let answer = self.checked(turned)?;
         let accepted = answer.number == 0 && matches!(turn, Turn::Ask(..));
-        self.town.keepers[card].accepted += u64::from(accepted);
+        self.town.keepers[at].accepted += u64::from(accepted);
         let [holds, s, x, looked_at] = answer.fields;
+        self.learns(card, Pair::new(s, x));
         let stamp = lupaniele::Stamp::from_number;
         Ok(lupaniele::QueueAnswer {
             number: Number::try_from(answer.number).map_err(|_| Nothing)?,
@@ -165,7 +203,7 @@ impl<L: Library> Locks for Line<'_, '_, L> {
         mode: Mode,
         pair: lupaniele::Pair,
     ) -> Result<lupaniele::QueueAnswer, Nothing> {
-        self.own(mode, pair)?;
+        self.own(card.into(), pair)?;
         let pair = Pair::new(pair.s.number(), pair.x.number());
         self.turn(card, Turn::Ask(mode.number(), pair))
     }
@@ -179,6 +217,17 @@ impl<L: Library> Locks for Line<'_, '_, L> {
 struct Disk<'l> {
     log: &'l mut Log,
     left: u64,
+    desk: u16,
+    beside: Option<Beside>,
+}
+
+impl Disk<'_> {
+    /// The store in which a commit is one step hears of the log.
+    fn logged(&self) {
+        if let Some(beside) = &self.beside {
+            beside.borrow_mut().logged(self.desk, self.log.bytes());
+        }
+    }
 }
 
 impl Journal for Disk<'_> {
@@ -190,6 +239,7 @@ impl Journal for Disk<'_> {
 
     fn append(&mut self, record: &Record) -> Result<(), AppendError<Nothing>> {
         let number = self.log.append_cut(record, self.left);
+        self.logged();
         if number == Number::AppendCut {
             self.left = 0;
             return Err(AppendError::Unknown(Nothing));
@@ -207,10 +257,12 @@ fn started(id: DeskId) -> desk::Desk {
 
 impl Guest {
     /// A guest that has just come.
-    pub(super) fn new(number: u16) -> Option<Guest> {
-        let desk = started(DeskId::new(number, 0));
-        let log = Log::empty(8_192).ok()?;
-        Some(Guest { desk, log })
+    pub(super) fn new(number: u16, cards: usize) -> Option<Guest> {
+        Some(Guest {
+            desk: started(DeskId::new(number, 0)),
+            log: Log::empty(8_192).ok()?,
+            known: vec![[0; 2]; cards],
+        })
     }
 
     /// It does something with one card.
@@ -262,6 +314,8 @@ impl Guest {
         let mut disk = Disk {
             log: &mut self.log,
             left: stores,
+            desk: self.desk.id().desk,
+            beside: line.town.steps.beside.clone(),
         };
         let mut transaction = self.desk.transaction(line, &mut disk).ok()?;
         for card in cards {
@@ -282,13 +336,17 @@ impl Guest {
         let id = DeskId::new(desk, start.wrapping_add(1));
         self.desk = started(id);
         line.who.start = id.start;
+        line.known.fill([0; 2]);
         let mut disk = Disk {
             log: &mut self.log,
             left: stores,
+            desk,
+            beside: line.town.steps.beside.clone(),
         };
         let recovered = self.desk.recover(line, &mut disk).ok()?;
-        if self.log.count() > 120 {
-            self.log = self.log.begun_again()?;
+        if disk.log.count() > 120 {
+            *disk.log = disk.log.begun_again()?;
+            disk.logged();
         }
         match (recovered.written, recovered.synced) {
             (0, 0) => None,
@@ -323,6 +381,8 @@ impl<L: Library> Town<'_, L> {
             town: self,
             who,
             left,
+            known: std::mem::take(&mut guest.known),
+            calm: false,
             breach: None,
         };
         let outcome = match what {
@@ -334,11 +394,38 @@ impl<L: Library> Town<'_, L> {
             _ => guest.restart(&mut line, stores),
         };
         let (who, breach) = (line.who, line.breach);
+        guest.known = line.known;
         self.guests.push(guest);
         if let Some(outcome) = outcome {
             self.outcomes[outcome as usize] += 1;
             self.tell(|| Scene::Said(format!("desk {who}, a guest: {}", outcome.words())));
         }
         breach.map_or(Ok(()), Err)
+    }
+
+    /// The end of a town of transactions: each guest starts again and recovers,
+    /// with nobody in between. No card then bears its mark, and nothing of its
+    /// log is due (rule 16.28).
+    pub(super) fn guests_finish(&mut self) -> Checked {
+        for mut guest in std::mem::take(&mut self.guests) {
+            let mut line = Line {
+                who: guest.desk.id(),
+                left: u64::MAX,
+                known: std::mem::take(&mut guest.known),
+                calm: true,
+                breach: None,
+                town: self,
+            };
+            guest.restart(&mut line, u64::MAX);
+            line.breach.map_or(Ok(()), Err)?;
+            let desk = guest.desk.id().desk;
+            let due = !steps::all_due(guest.log.bytes()).is_empty();
+            let marked = self.store.cards.iter().any(|card| card.mark.desk == desk);
+            let made = &mut self.tally.made;
+            made.hold(Check::StepsEnd, !due && !marked, || {
+                format!("desk {desk}, a guest: due: {due}, marked: {marked}")
+            })?;
+        }
+        Ok(())
     }
 }

@@ -20,7 +20,7 @@ const ALL: u64 = 1 << 20;
 impl<L: Library> Town<'_, L> {
     /// A desk appends a record, and the power may be cut at any store of it.
     /// Whether the record stands.
-    fn append(&mut self, at: usize, kind: u8, body: &[u8]) -> Checked<bool> {
+    pub(super) fn append(&mut self, at: usize, kind: u8, body: &[u8]) -> Checked<bool> {
         self.tally.step(Step::Log);
         let whole = body.len() as u64 + 12;
         let cut = self.one_in(25).then(|| self.random.below(whole));
@@ -75,6 +75,9 @@ impl<L: Library> Town<'_, L> {
     /// A desk that came back reads its log, and now and then recovers at once,
     /// whether something is due or not.
     pub(super) fn after_start(&mut self, at: usize) -> Checked {
+        if self.shape.transacting {
+            return Ok(());
+        }
         self.read_log(at)?;
         match self.one_in(3) {
             true => self.recover(at),
@@ -85,6 +88,9 @@ impl<L: Library> Town<'_, L> {
     /// A desk goes on with its log: it logs what is synced, writes out or
     /// recovers what is due, and else works on a transaction.
     pub(super) fn log_work(&mut self, at: usize, card: usize) -> Checked {
+        if self.shape.transacting {
+            return self.tend(at);
+        }
         if let Some((card, transaction)) = self.desks[at].written.first().copied() {
             return self.synced(at, card, transaction);
         }
@@ -257,7 +263,7 @@ impl<L: Library> Town<'_, L> {
     }
 
     /// The library's recovery, checked.
-    fn recover_whole(&mut self, at: usize, pairs: &[Vec<u64>; 2]) -> Checked<(u8, u64)> {
+    pub(super) fn recover_whole(&mut self, at: usize, pairs: &[Vec<u64>; 2]) -> Checked<(u8, u64)> {
         let [s, x] = pairs;
         let log = &self.desks[at].log;
         let before = self.scenes.is_some().then(|| self.image.clone());
@@ -325,6 +331,10 @@ impl<L: Library> Town<'_, L> {
         let desk = &mut self.desks[at];
         match number {
             1 | 2 | 5 | 7 => desk.written.push((card, transaction)),
+            9 => {
+                self.tally.fault(Fault::OldImage);
+                self.looks_at_version(at);
+            }
             17 => return self.crash(at),
             _ => self.catch_up(at, card.into())?,
         }
@@ -333,7 +343,7 @@ impl<L: Library> Town<'_, L> {
 
     /// A desk verifies a card, whatever the guard says to it, and learns the
     /// pair of the reply.
-    fn catch_up(&mut self, at: usize, card: usize) -> Checked {
+    pub(super) fn catch_up(&mut self, at: usize, card: usize) -> Checked {
         let Some(pair) = self.propose(at, card, 1)? else {
             return Ok(());
         };
@@ -350,7 +360,7 @@ impl<L: Library> Town<'_, L> {
 
     /// The power is cut inside a recovery: the first of its writes are sent, as
     /// rule 11.17 has them, and the desk goes down.
-    fn cut_recovery(&mut self, at: usize, [s, x]: &[Vec<u64>; 2]) -> Checked {
+    pub(super) fn cut_recovery(&mut self, at: usize, [s, x]: &[Vec<u64>; 2]) -> Checked {
         let due = self.desks[at].due.clone();
         let first = self.random.index(due.len() + 1);
         for update in &due[..first] {

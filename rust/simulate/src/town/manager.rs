@@ -1,4 +1,4 @@
-//! The lock managers: a queue for each card, leases, and queues that are lost.
+//! The lock managers: a queue for each card and manager, leases, and queues that are lost.
 
 use lupaniele::DeskId;
 use second::Pair;
@@ -7,17 +7,19 @@ use story::Scene;
 use super::post::Body;
 use super::{empty_queue, Town};
 use crate::checks::formed::{desk_of, own};
-use crate::checks::queue::{place, turned, Turn};
+use crate::checks::queue::{place, turned, Listed, Turn};
 use crate::checks::{Check, Checked};
 use crate::library::{Lease, Library, Queue, QueueAnswer};
 use crate::scenes;
 use crate::tally::{Fault, Operation, Step};
 
-/// The manager of one card's queue.
+/// The queue of one card at one manager.
 #[derive(Clone, Debug)]
 pub struct Keeper {
     /// The queue.
     pub queue: Queue,
+    /// What its own accepted requests leave.
+    pub listed: Listed,
     /// How many asks it accepted.
     pub accepted: u64,
     /// The desk and start that it holds failed, and since when.
@@ -30,6 +32,7 @@ impl Keeper {
     pub(super) fn new(places: u64) -> Keeper {
         Keeper {
             queue: empty_queue(places),
+            listed: Listed::default(),
             accepted: 0,
             failed: None,
             lapsed: Vec::new(),
@@ -39,18 +42,27 @@ impl Keeper {
 
 impl<L: Library> Town<'_, L> {
     /// A request reaches a queue.
-    pub(super) fn turn(&mut self, card: usize, turn: Turn) -> Checked<QueueAnswer> {
-        let before = self.keepers[card].queue;
-        let queue = &mut self.keepers[card].queue;
+    pub(super) fn turn(&mut self, at: usize, turn: Turn) -> Checked<QueueAnswer> {
+        let card = self.card_of(at);
+        self.in_its_mode_asked(card, turn)?;
+        let before = self.keepers[at].queue;
+        let against = self.against(card);
+        let queue = &mut self.keepers[at].queue;
         let (operation, answer) = match turn {
             Turn::Ask(mode, pair) => (Operation::Ask, self.library.ask(queue, mode, pair)),
             Turn::Leave(desk) => (Operation::Leave, self.library.leave(queue, desk)),
             Turn::Lapse(desk, lease) => (Operation::Lapse, self.library.lapse(queue, desk, lease)),
         };
         self.tally.number(operation, answer.number);
-        let queue = self.keepers[card].queue;
+        let queue = self.keepers[at].queue;
+        self.tell_manager(at);
         self.tell(|| scenes::turned(card as u16, turn, &answer, &queue));
-        turned(&mut self.tally.made, &before, turn, &answer, &queue)?;
+        let made = &mut self.tally.made;
+        turned(made, &before, turn, &answer, &queue)?;
+        let listed = &mut self.keepers[at].listed;
+        listed.turned(made, turn, answer.number, &queue)?;
+        let begins = against.is_empty() && !self.against(card).is_empty();
+        self.tally.fault_if(begins, Fault::TwoHold);
         Ok(answer)
     }
 
@@ -59,14 +71,15 @@ impl<L: Library> Town<'_, L> {
         &mut self,
         desk: usize,
         who: DeskId,
-        card: usize,
+        (card, manager): (usize, usize),
         (mode, pair): (u8, Pair),
         denied: Option<u64>,
     ) -> Checked {
-        let stood = place(&self.keepers[card].queue, who.number());
-        let answer = self.turn(card, Turn::Ask(mode, pair))?;
+        let at = self.queue_of(card, manager);
+        let stood = place(&self.keepers[at].queue, who.number());
+        let answer = self.turn(at, Turn::Ask(mode, pair))?;
         let (number, [holds, s, x, _]) = (answer.number, answer.fields);
-        let keeper = &mut self.keepers[card];
+        let keeper = &mut self.keepers[at];
         if denied == Some(keeper.accepted) && self.rule.is_none() {
             let made = &mut self.tally.made;
             made.hold(Check::NotDenied, number != 11, || "denied again".into())?;
@@ -78,17 +91,24 @@ impl<L: Library> Town<'_, L> {
             self.tally.fault_if(number == 0, Fault::Upgrade);
             self.tally.fault_if(number == 11, Fault::UpgradeDenied);
         }
-        let told = Body::Stands(mode, number, holds == 1, Pair::new(s, x), accepted);
+        let pair = Pair::new(s, x);
+        let told = Body::Stands(manager, mode, number, holds == 1, pair, accepted);
         self.answer_to(desk, who, card, told);
         Ok(())
     }
 
     /// A desk leaves.
-    pub(super) fn leaves(&mut self, desk: usize, who: DeskId, card: usize) -> Checked {
-        let answer = self.turn(card, Turn::Leave(who.number()))?;
+    pub(super) fn leaves(
+        &mut self,
+        desk: usize,
+        who: DeskId,
+        (card, manager): (usize, usize),
+    ) -> Checked {
+        let at = self.queue_of(card, manager);
+        let answer = self.turn(at, Turn::Leave(who.number()))?;
         let (number, [_, s, x, _]) = (answer.number, answer.fields);
-        let accepted = self.keepers[card].accepted;
-        let told = Body::Stands(0, number, false, Pair::new(s, x), accepted);
+        let accepted = self.keepers[at].accepted;
+        let told = Body::Stands(manager, 0, number, false, Pair::new(s, x), accepted);
         self.answer_to(desk, who, card, told);
         Ok(())
     }
@@ -97,26 +117,33 @@ impl<L: Library> Town<'_, L> {
     /// take out a desk whose lease is over.
     pub(super) fn manage(&mut self) -> Checked {
         self.tally.step(Step::Manage);
-        let card = self.card();
-        if self.one_in(60) {
-            return self.lose_queue(card);
+        let at = self.random.index(self.keepers.len());
+        if self.shape.managers > 1 && self.one_in(12) {
+            self.cut_begins();
+            return Ok(());
         }
-        match self.keepers[card].failed {
+        if self.one_in(60) {
+            return self.lose_queue(at);
+        }
+        match self.keepers[at].failed {
             None => {
-                self.suspect(card);
+                self.suspect(at);
                 Ok(())
             }
-            Some((desk, begin)) => self.lapse(card, desk, begin),
+            Some((desk, begin)) => self.lapse(at, desk, begin),
         }
     }
 
     /// The queue is lost, and begins again empty over what its places hold.
-    fn lose_queue(&mut self, card: usize) -> Checked {
-        let keeper = &mut self.keepers[card];
+    fn lose_queue(&mut self, at: usize) -> Checked {
+        let keeper = &mut self.keepers[at];
         keeper.queue.kept = [0; 3];
+        keeper.listed = Listed::default();
         keeper.failed = None;
         let places = keeper.queue.places;
+        let card = self.card_of(at);
         self.tally.fault(Fault::QueueLost);
+        self.tell_manager(at);
         self.tell(|| Scene::QueueBegan {
             card: card as u16,
             places,
@@ -126,23 +153,24 @@ impl<L: Library> Town<'_, L> {
 
     /// A manager holds a desk failed that stands: mostly one that is silent or
     /// gone, now and then any.
-    fn suspect(&mut self, card: usize) {
-        let queue = &self.keepers[card].queue;
+    fn suspect(&mut self, at: usize) {
+        let queue = &self.keepers[at].queue;
         let count = queue.kept[0] as usize;
         if count == 0 {
             return;
         }
-        let at = self.random.index(count);
-        let desk = desk_of(own(queue.modes[at], Pair::new(queue.s[at], queue.x[at])));
+        let place = self.random.index(count);
+        let pair = Pair::new(queue.s[place], queue.x[place]);
+        let desk = desk_of(own(queue.modes[place], pair));
         let there = |other: &super::Desk| other.who.number() == desk && other.is_up();
         let well = self.desks.iter().any(there);
         if !well || self.one_in(40) {
-            self.keepers[card].failed = Some((desk, self.clock));
+            self.keepers[at].failed = Some((desk, self.clock));
         }
     }
 
     /// A desk that is held failed is taken out, once its lease is over.
-    fn lapse(&mut self, card: usize, desk: u32, begin: f64) -> Checked {
+    fn lapse(&mut self, at: usize, desk: u32, begin: f64) -> Checked {
         let odd = [f64::NAN, -1.0, f64::INFINITY, 86_401.0];
         let period = if self.one_in(12) {
             self.random.pick(&odd)
@@ -158,9 +186,9 @@ impl<L: Library> Town<'_, L> {
             begin,
             now,
         };
-        let answer = self.turn(card, Turn::Lapse(desk, lease))?;
+        let answer = self.turn(at, Turn::Lapse(desk, lease))?;
         let number = answer.number;
-        let keeper = &mut self.keepers[card];
+        let keeper = &mut self.keepers[at];
         if number == 0 {
             keeper.lapsed.push(desk);
             let extra = keeper.lapsed.len().saturating_sub(8);
@@ -168,7 +196,7 @@ impl<L: Library> Town<'_, L> {
             self.tally.fault(Fault::Lapsed);
         }
         if number == 0 || number == 15 {
-            self.keepers[card].failed = None;
+            self.keepers[at].failed = None;
         }
         Ok(())
     }

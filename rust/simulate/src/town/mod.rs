@@ -1,21 +1,30 @@
-//! A town: desks, cards, a lock queue for each card, one store, a log for each
+//! A town: desks, cards, lock queues for each card, one store, a log for each
 //! desk, and the post between them. A seed draws every step of it.
 
 mod desks;
 mod guests;
+mod history;
 mod logs;
 mod manager;
 mod odd;
 mod post;
+mod runs;
+mod texts;
+mod transactions;
+mod versions;
+mod voters;
+
+use std::collections::HashSet;
 
 use lupaniele::{DeskId, Image};
 use second::random::Random;
-use second::Pair;
+use second::{Format, Pair};
 use story::{Scene, Standing};
 
 use crate::checks::desk::{learnt, proposed, Proposal, Stamps};
+use crate::checks::formed::formed_as;
 use crate::checks::store::{Store, AHEAD};
-use crate::checks::{Check, Checked};
+use crate::checks::{versions::MOST, Check, Checked};
 use crate::library::{Library, Queue};
 use crate::rule::Rule;
 use crate::scenes;
@@ -24,8 +33,12 @@ use crate::tally::{Fault, Operation, Step, Tally};
 use desks::Desk;
 use guests::Guest;
 pub use guests::Outcome;
+use history::Engine;
 use manager::Keeper;
 use post::Message;
+use transactions::Steps;
+pub use versions::Versions;
+use voters::Cut;
 
 /// How large a town is.
 #[derive(Clone, Copy, Debug, PartialEq, Eq)]
@@ -34,6 +47,8 @@ pub struct Shape {
     pub cards: usize,
     /// The room of a text.
     pub room: usize,
+    /// The versions of the store.
+    pub versions: Versions,
     /// The desks.
     pub desks: usize,
     /// The places of each queue.
@@ -50,25 +65,73 @@ pub struct Shape {
     pub polite: bool,
     /// Whether card 0 is first written until it has no edition left.
     pub worn: bool,
+    /// Whether a desk that translates names the edition that it heard of last,
+    /// and not the one that it read.
+    pub careless: bool,
     /// How many desks of the crate `lupaniele` there are beside.
     pub guests: usize,
+    /// How many lock managers there are, each with a queue for every card.
+    pub managers: usize,
+    /// Whether a desk holds the lock where most managers granted it, or where
+    /// all did that it asked.
+    pub majority: bool,
+    /// Whether desks keep section 16, and change several cards at once by its
+    /// steps.
+    pub transacting: bool,
+    /// With how many messages the post is so full that one arrives next, or is
+    /// lost.
+    pub crowd: usize,
 }
 
 impl Shape {
     /// Any shape.
     pub fn any(random: &mut Random) -> Shape {
+        let steps = random.pick(&[300, 1_000, 3_000, 10_000]);
         Shape {
             cards: random.pick(&[1, 2, 2, 3, 4]),
             room: random.pick(&[16, 16, 32, 48]),
+            versions: Versions::any(random, steps),
             desks: random.pick(&[2, 3, 4, 5, 8, 12]),
             places: random.pick(&[1, 2, 3, 4, 8, 32]),
             log: random.pick(&[2_201, 2_240, 2_300, 2_600, 2_600, 4_000, 6_000]),
-            steps: random.pick(&[300, 1_000, 3_000, 10_000]),
+            steps,
             storm: random.pick(&[1, 3, 10, 60]),
             polite: !random.one_in(3),
             worn: false,
+            careless: false,
             guests: 0,
+            managers: random.pick(&[1, 1, 2, 3, 4, 5]),
+            majority: random.one_in(2),
+            transacting: random.one_in(3),
+            crowd: random.pick(&[10, 20, 60]),
         }
+    }
+
+    /// A large shape: an image of version 2 that has 65,536 bytes, from the
+    /// opening on or by a conversion, or one that would have more.
+    pub fn large(random: &mut Random) -> Shape {
+        let (cards, room) = [(15, 864), (65, 192), (13, 1_024)][random.index(3)];
+        let versions = match random.one_in(2) && room < 1_000 {
+            true => Versions::Two,
+            false => Versions::Converts(random.between(100, 400)),
+        };
+        Shape {
+            cards,
+            room,
+            versions,
+            steps: 1_000,
+            ..Shape::any(random)
+        }
+    }
+
+    /// Guests, and desks that work by the steps of section 16, have logs, and
+    /// recovery is of version 1 (rule 15.13).
+    fn in_its_versions(self) -> Shape {
+        let versions = match self.guests > 0 || self.transacting {
+            true => Versions::One,
+            false => self.versions,
+        };
+        Shape { versions, ..self }
     }
 
     /// A shape whose card 0 is worn out.
@@ -76,6 +139,7 @@ impl Shape {
         Shape {
             cards: 2,
             room: 16,
+            versions: Versions::Converts(70_000),
             desks: 3,
             places: 3,
             log: 2_600,
@@ -83,7 +147,12 @@ impl Shape {
             storm: 10,
             polite: false,
             worn: true,
+            careless: false,
             guests: 0,
+            managers: 1,
+            majority: false,
+            transacting: false,
+            crowd: 60,
         }
     }
 
@@ -92,6 +161,7 @@ impl Shape {
         Shape {
             cards: 2,
             room: 16,
+            versions: Versions::One,
             desks: 3,
             places: 3,
             log: 2_600,
@@ -99,7 +169,12 @@ impl Shape {
             storm: 3,
             polite: true,
             worn: false,
+            careless: false,
             guests: 0,
+            managers: 1,
+            majority: false,
+            transacting: false,
+            crowd: 60,
         }
     }
 }
@@ -118,10 +193,15 @@ pub struct Town<'a, L: Library> {
     desks: Vec<Desk>,
     guests: Vec<Guest>,
     post: Vec<Message>,
+    history: Option<Engine>,
+    careful: HashSet<(u16, u16, Vec<u8>)>,
     clock: f64,
     now: u64,
     reply: Vec<u8>,
     lent: Vec<u8>,
+    proposed: HashSet<(usize, u8, Pair)>,
+    cut: Option<Cut>,
+    steps: Steps,
     /// How often each thing became of what guests did.
     pub outcomes: [u64; Outcome::ALL.len()],
     /// What happened, where it is wanted.
@@ -137,33 +217,32 @@ impl<'a, L: Library> Town<'a, L> {
         shape: Shape,
         rule: Option<Rule>,
     ) -> Checked<Town<'a, L>> {
-        let random = Random::new(seed);
-        let store = Store::new(shape.cards, shape.room, rule.is_none());
-        let mut image = vec![0xee; store.image.len()];
-        let number = library.make(&mut image, shape.cards as u64, shape.room as u64);
-        tally.number(Operation::Make, number);
-        tally
-            .made
-            .same(Check::Made, (number, &image), (0, &store.image))?;
+        let shape = shape.in_its_versions();
+        let by_rules = rule.is_none_or(Rule::of_transactions);
+        let (store, image) = opened(library, tally, shape, by_rules)?;
+        let history = store.unheard.as_ref().map(|_| Engine::nothing());
         let mut town = Town {
             library,
             tally,
-            random,
+            random: Random::new(seed),
             shape,
             rule,
             image,
             store,
-            keepers: (0..shape.cards)
-                .map(|_| Keeper::new(shape.places))
-                .collect(),
+            keepers: vec![Keeper::new(shape.places); shape.cards * shape.managers],
             stamps: vec![Stamps::default(); shape.cards + 1],
             desks: Vec::new(),
             guests: Vec::new(),
             post: Vec::new(),
+            history,
+            careful: HashSet::new(),
             clock: 0.0,
             now: 0,
             reply: Vec::new(),
-            lent: (0..64).map(|at| at ^ 0xa5).collect(),
+            lent: (0..shape.room.max(64)).map(|at| at as u8 ^ 0xa5).collect(),
+            proposed: HashSet::new(),
+            cut: None,
+            steps: Steps::new(shape, rule),
             outcomes: [0; Outcome::ALL.len()],
             scenes: None,
         };
@@ -180,11 +259,12 @@ impl<'a, L: Library> Town<'a, L> {
             };
             self.desks.push(Desk::new(who, self.shape));
             self.knew_something(number - 1);
+            self.steps.starts(number - 1, who, self.shape);
         }
         let first = self.shape.desks + 1;
         let numbers = first..first + self.shape.guests;
         self.guests = numbers
-            .filter_map(|number| Guest::new(number as u16))
+            .filter_map(|number| Guest::new(number as u16, self.shape.cards))
             .collect();
         if self.rule == Some(Rule::UsedQueue) {
             for keeper in &mut self.keepers {
@@ -192,7 +272,9 @@ impl<'a, L: Library> Town<'a, L> {
                     let desk = 1 + random.below(self.shape.desks as u64);
                     random.below(2) << 32 | desk << 16
                 };
-                keeper.queue.kept = [0, 0, stamp(&mut self.random)];
+                let x = stamp(&mut self.random);
+                keeper.queue.kept = [0, 0, x];
+                keeper.listed.largest = Pair::new(0, x);
             }
         }
     }
@@ -204,13 +286,25 @@ impl<'a, L: Library> Town<'a, L> {
             self.now += 1;
             self.tally.steps += 1;
             self.step()?;
+            if self.halved().is_some() {
+                return Ok(());
+            }
         }
-        Ok(())
+        let crossed = self.store.crossed > 0;
+        self.tally.fault_if(crossed, Fault::SessionAcross);
+        self.finish()
+    }
+
+    /// The first check of the store in which a commit is one step that did not
+    /// hold, where a rule is broken.
+    pub fn halved(&self) -> Option<Check> {
+        self.steps.halved()
     }
 
     /// The premise and isolation are to hold, though a rule is broken.
     pub fn strict(&mut self) {
         self.store.by_rules = true;
+        self.steps.strict();
     }
 
     /// How many steps were made.
@@ -226,17 +320,24 @@ impl<'a, L: Library> Town<'a, L> {
     /// One step, as the seed draws it.
     fn step(&mut self) -> Checked {
         self.clock += self.random.below(4) as f64;
+        if self.shape.versions == Versions::Converts(self.now) {
+            return self.convert();
+        }
         if self.shape.worn && self.store.cards[0].edition < u16::MAX {
             return self.wear();
         }
-        if self.post.len() > 60 {
-            return self.lose();
+        if self.post.len() > self.shape.crowd {
+            return match self.one_in(4) {
+                true => self.lose(),
+                false => self.deliver(),
+            };
         }
         if !self.guests.is_empty() && self.random.one_in(4) {
             return self.guest();
         }
         match self.random.below(100) {
-            0..=57 if !self.post.is_empty() => self.deliver(),
+            0..=2 if !self.post.is_empty() => self.stream(),
+            3..=57 if !self.post.is_empty() => self.deliver(),
             58..=59 => self.lose(),
             60..=61 => self.repeat(),
             62..=67 => self.manage(),
@@ -273,28 +374,65 @@ impl<'a, L: Library> Town<'a, L> {
         }
     }
 
-    /// A command reaches the store, with a reply buffer of some length.
+    /// A command of version 1 reaches the store, with a reply buffer of some
+    /// length.
     fn judge(&mut self, command: &[u8], lent: usize) -> Checked<crate::library::Answer> {
+        self.judge_as(Format::V1, command, lent)
+    }
+
+    /// A command of a version reaches the store, with a reply buffer of some
+    /// length.
+    fn judge_as(
+        &mut self,
+        format: Format,
+        command: &[u8],
+        lent: usize,
+    ) -> Checked<crate::library::Answer> {
+        let sent =
+            formed_as(format, command).filter(|sent| usize::from(sent.card) < self.shape.cards);
+        if let Some(sent) = &sent {
+            self.in_its_mode(sent.card.into(), sent.mode, sent.update)?;
+        }
         self.reply.clear();
         self.reply.extend_from_slice(&self.lent[..lent]);
         let before = self.scenes.is_some().then(|| self.image.clone());
         let (image, reply) = (&mut self.image, &mut self.reply);
-        let answer = self.library.answer(image, command, reply);
-        self.tally.number(Operation::Store, answer.number);
+        let (operation, answer) = match format {
+            Format::V1 => (Operation::Store, self.library.answer(image, command, reply)),
+            Format::V2 => (
+                Operation::Store2,
+                self.library.answer_v2(image, command, reply),
+            ),
+        };
+        self.tally.number(operation, answer.number);
         if let Some((scenes, before)) = self.scenes.as_mut().zip(before) {
             let shown = &self.reply[..(answer.fields[6] as usize).min(lent)];
             let images = [&before[..], &self.image];
-            scenes.push(scenes::judged(command, &answer, shown, images));
+            scenes.push(scenes::judged(format, command, &answer, shown, images));
         }
         let made = &mut self.tally.made;
         let buffers = (&self.lent[..lent], &self.reply[..]);
         self.store
-            .judged(made, command, buffers, &answer, &self.image)?;
-        if self.now.is_multiple_of(64) {
-            let sound = self.library.sound(&self.image);
-            self.tally.made.same(Check::Sound, sound, true)?;
+            .judged_as(made, format, command, buffers, &answer, &self.image)?;
+        if let Some(sent) = &sent {
+            self.beside_judged(sent, &answer)?;
         }
+        self.hear()?;
+        self.current_drops(format, command, &answer)?;
+        self.still_sound()?;
         Ok(answer)
+    }
+
+    /// Once in a while: the image is sound.
+    fn still_sound(&mut self) -> Checked {
+        if !self.now.is_multiple_of(64) {
+            return Ok(());
+        }
+        let sound = match self.store.format {
+            Format::V1 => self.library.sound(&self.image),
+            Format::V2 => self.library.sound_v2(&self.image),
+        };
+        self.tally.made.same(Check::Sound, sound, true)
     }
 
     /// A desk learns a pair of a card.
@@ -356,7 +494,7 @@ impl<'a, L: Library> Town<'a, L> {
         Ok(Some(pair))
     }
 
-    /// A proposal as a desk makes it that breaks a rule.
+    /// A proposal is made; a desk that breaks a rule makes another one of it.
     fn proposed_wrong(
         &mut self,
         at: usize,
@@ -364,6 +502,7 @@ impl<'a, L: Library> Town<'a, L> {
         known: [u64; 2],
         pair: Pair,
     ) -> Pair {
+        self.proposed.insert((card, mode, pair));
         let who = u64::from(self.desks[at].who.number());
         let earlier = |random: &mut Random, below: u64| random.below((below >> 32) + 1) << 32;
         match mode {
@@ -421,6 +560,30 @@ impl<'a, L: Library> Town<'a, L> {
         let who = self.desks[at].who;
         self.tell(|| Scene::Said(format!("the clock of desk {who} jumps by {ahead}")));
     }
+}
+
+/// A fresh store and its image; one of version 1 is to be heard by the history
+/// engine.
+fn opened<L: Library>(
+    library: &mut L,
+    tally: &mut Tally,
+    shape: Shape,
+    by_rules: bool,
+) -> Checked<(Store, Vec<u8>)> {
+    let format = shape.versions.opening();
+    let mut store = Store::fresh(format, shape.cards, shape.room, by_rules);
+    let mut image = vec![0xee; store.image.len()];
+    let (cards, room) = (shape.cards as u64, shape.room as u64);
+    let (operation, number) = match format {
+        Format::V1 => (Operation::Make, library.make(&mut image, cards, room)),
+        Format::V2 => (Operation::Make2, library.make_v2(&mut image, cards, room)),
+    };
+    tally.number(operation, number);
+    let made = &mut tally.made;
+    made.same(Check::Made, (number, &image), (0, &store.image))?;
+    tally.fault_if(image.len() == MOST, Fault::Largest);
+    store.unheard = (format == Format::V1).then(Vec::new);
+    Ok((store, image))
 }
 
 /// An empty queue of so many places, over places that hold anything (rule 7.3).

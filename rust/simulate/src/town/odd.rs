@@ -2,14 +2,15 @@
 //! desk should make. Each gets its number and changes nothing. And a card that
 //! is written until it has no edition left.
 
-use second::{CommandFields, Pair};
+use second::{CommandFields, Format, Pair};
 
 use super::Town;
 use crate::checks::desk::{proposed, shown, Proposal};
 use crate::checks::log::{checked, read, COMMIT};
 use crate::checks::queue::{turned, Turn};
+use crate::checks::store::NOT_SOUND;
 use crate::checks::{Check, Checked};
-use crate::library::{Answer, Held, Lease, Library};
+use crate::library::{Held, Lease, Library};
 use crate::tally::{Fault, Operation, Step};
 
 /// A lease that is over.
@@ -23,12 +24,18 @@ const OVER: Lease = Lease {
 impl<L: Library> Town<'_, L> {
     pub(super) fn odd(&mut self) -> Checked {
         self.tally.step(Step::Odd);
-        match self.random.below(6) {
+        match self.random.below(9) {
+            _ if self.one_in(60) => self.long_history(),
+            _ if self.one_in(6) => self.any_history(),
+            0 if self.store.format == Format::V2 => self.damaged_image2(),
             0 => self.damaged_image(),
             1 => self.damaged_queue(),
             2 => self.damaged_log(),
             3 => self.odd_proposal(),
             4 => self.odd_shown(),
+            5 => self.odd_conversion(),
+            6 => self.odd_image2(),
+            7 => self.odd_step(),
             _ => self.odd_image(),
         }
     }
@@ -55,12 +62,12 @@ impl<L: Library> Town<'_, L> {
         self.tally.fault(Fault::DamagedImage);
         let made = &mut self.tally.made;
         made.same(Check::Sound, self.library.sound(&image), false)?;
-        let (number, fields) = (9, [0; 7]);
-        made.same(Check::Number, answer, Answer { number, fields })?;
+        made.same(Check::Number, answer, NOT_SOUND)?;
         let same = image == damaged && reply == [0xa5; 16];
         made.hold(Check::RefusedStore, same, || {
             "9, and bytes are changed".into()
         })?;
+        self.damaged_run(Format::V1, &command.to_bytes(), &damaged)?;
         let desk = self.random.index(self.desks.len());
         let desk = &self.desks[desk];
         let line = read(&desk.log).and_then(|read| {
@@ -77,8 +84,8 @@ impl<L: Library> Town<'_, L> {
 
     /// A copy of a queue that is bad: every request gets 10.
     fn damaged_queue(&mut self) -> Checked {
-        let card = self.card();
-        let mut queue = self.keepers[card].queue;
+        let at = self.random.index(self.keepers.len());
+        let mut queue = self.keepers[at].queue;
         match self.random.below(4) {
             0 => queue.places = self.random.pick(&[0, 33]),
             1 => queue.kept[0] = queue.places + 1,

@@ -188,7 +188,7 @@ fn framed(title: &str, (width, height): (i32, i32), drawn: &Svg) -> String {
     let mut out = Svg::default();
     out.line(&format!(
         "<svg xmlns=\"http://www.w3.org/2000/svg\" width=\"{width}\" height=\"{height}\" viewBox=\"0 0 {width} {height}\" \
-         role=\"img\" font-family=\"Helvetica, Arial, 'Liberation Sans', 'DejaVu Sans', sans-serif\">"
+         role=\"img\" style=\"max-width:100%;height:auto\" font-family=\"Helvetica, Arial, 'Liberation Sans', 'DejaVu Sans', sans-serif\">"
     ));
     out.line(&format!("<title>{}</title>", safe(title)));
     out.line(PATTERNS);

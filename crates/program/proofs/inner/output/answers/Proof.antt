@@ -2,7 +2,8 @@
 use mathlib.Core.Path.{sym}
 use native.Mathlib.Omega.{arith}
 use lib.Seq.{length-take-le}
-use Rattle.program.proofs.Answered.{back-of, answered-by, copied-sound}
+use Rattle.store.proofs.Running.{back-of}
+use Rattle.program.proofs.Answered.{answered-by, copied-sound}
 use borrow.Author.Needs.{needs}
 use Rattle.program.proofs.inner.output.answers.Statement.{statement}
 use Rattle.program.proofs.inner.output.answers.Tie as tie

@@ -9,9 +9,8 @@ use lib.ListN.{length}
 use Rattle.formats.specs.Format.{V1}
 use Rattle.image.specs.Image.{sound}
 use Rattle.store.specs.Runs.{perLine}
-use Rattle.stream.proofs.Place.{went, stayed}
 use Rattle.store.proofs.Running.{per-line}
-use Rattle.program.proofs.Running.{Running, running-none, running-within, running-more, running-less, running-fits, running-done, line-put}
+use Rattle.program.proofs.Running.{Running, running-none, running-stops, running-judged, running-within, running-more, running-less, running-fits, running-done, line-put}
 use Rattle.program.proofs.inner.run.put_printed.Statement.{statement}
 use Rattle.program.proofs.inner.run.put_printed.Tie as tie
 
@@ -25,78 +24,81 @@ abbrev μ-loop : tie.MeasureT-loop
 loop-holds : tie.Need-loop-holds Inv-loop μ-loop
 loop-holds c = let p = c .before .before .before .before .pre in (running-none _ _ _ _ _ (p .1), p .0, refl)
 
-next-from-requires : tie.Need-next-from-requires Inv-loop μ-loop
-next-from-requires c κs = search needs
+sub-many : tie.Need-sub-many Inv-loop μ-loop
+sub-many c = omega (arith, c .before .loop .inv .0 .walked .within)
 
-sub-one : tie.Need-sub-one Inv-loop μ-loop
-sub-one c =
-    let w = running-within (c .before .before .before .loop .inv .0) _ (went V1 _ _ (c .before .before .next-from .ensures) (c .before .if1 .left)) in
-    omega (arith, w .0, w .1, w .2, w .3)
+part-many-start : tie.Need-part-many-start Inv-loop μ-loop
+part-many-start c = omega (arith, c .before .loop .inv .0 .walked .within)
 
-part-one-start : tie.Need-part-one-start Inv-loop μ-loop
-part-one-start c =
-    let w = running-within (c .before .before .before .loop .inv .0) _ (went V1 _ _ (c .before .before .next-from .ensures) (c .before .if1 .left)) in
-    omega (arith, w .0, w .1, w .2, w .3)
+part-many-end : tie.Need-part-many-end Inv-loop μ-loop
+part-many-end c = omega (arith, c .before .loop .inv .0 .walked .within)
 
-part-one-end : tie.Need-part-one-end Inv-loop μ-loop
-part-one-end c =
-    let w = running-within (c .before .before .before .loop .inv .0) _ (went V1 _ _ (c .before .before .next-from .ensures) (c .before .if1 .left)) in
-    omega (arith, w .0, w .1, w .2, w .3)
+slice-aggregate-many : tie.Need-slice-aggregate-many Inv-loop μ-loop
+slice-aggregate-many c = search needs
 
-slice-aggregate-one : tie.Need-slice-aggregate-one Inv-loop μ-loop
-slice-aggregate-one c = search needs
-
-one-requires : tie.Need-one-requires Inv-loop μ-loop
-one-requires c κs =
-    let at6 = c .before .before .before .before .before .before in
-    (sym (at6 .loop .inv .1), at6 .loop .inv .2)
+many-requires : tie.Need-many-requires Inv-loop μ-loop
+many-requires c κs = sym (c .before .before .before .before .loop .inv .1)
 
 slice-aggregate-put-line : tie.Need-slice-aggregate-put-line Inv-loop μ-loop
 slice-aggregate-put-line c = search needs
 
 put-line-requires : tie.Need-put-line-requires Inv-loop μ-loop
 put-line-requires c κs =
-    let w = running-within
-    (c .before .before .before .before .before .before .before .before .before .before .before .before .before .before .loop .inv .0) _
-    (went V1 _ _ (c .before .before .before .before .before .before .before .before .before .before .before .before .before .next-from .ensures)
-    (c .before .before .before .before .before .before .before .before .before .before .before .before .if1 .left)) in
-    (omega (arith, w .0, w .1, w .2, w .3), ap length (c .before .before .before .before .before .before .before .one .ensures .0 .0) ∙ per-line _)
+    let at2 = c .before .before in
+    let at9 = at2 .before .before .before .before .before .before .before in
+    let at14 = at9 .before .before .before .before .before in
+    let one = running-judged (at14 .loop .inv .0) (at14 .loop .line) (at14 .loop .inv .2) (at9 .many .ensures .0) (at2 .if1 .left) in
+    let w = running-within (at14 .loop .inv .0) _ (one .0) in
+    (omega (arith, w .0, w .1, w .2, w .3), ap length (one .1 .0) ∙ per-line _)
 
 add-place : tie.Need-add-place Inv-loop μ-loop
 add-place c =
-    let w = running-within
-    (c .before .before .before .before .before .before .before .before .before .before .before .before .before .before .before .before .before .loop .inv .0) _
-    (went V1 _ _
-    (c .before .before .before .before .before .before .before .before .before .before .before .before .before .before .before .before .next-from .ensures)
-    (c .before .before .before .before .before .before .before .before .before .before .before .before .before .before .before .if1 .left)) in
-    omega (arith, w .0, w .1, w .2, w .3)
+    let at5 = c .before .before .before .before .before in
+    let at12 = at5 .before .before .before .before .before .before .before in
+    let at17 = at12 .before .before .before .before .before in
+    let one = running-judged (at17 .loop .inv .0) (at17 .loop .line) (at17 .loop .inv .2) (at12 .many .ensures .0) (at5 .if1 .left) in
+    let w = running-within (at17 .loop .inv .0) _ (one .0) in
+    omega (arith, w .0, w .1, w .2, w .3, at17 .before .before .before .before .before .good)
+
+add-from : tie.Need-add-from Inv-loop μ-loop
+add-from c =
+    let at6 = c .before .before .before .before .before .before in
+    let at13 = at6 .before .before .before .before .before .before .before in
+    let at18 = at13 .before .before .before .before .before in
+    let one = running-judged (at18 .loop .inv .0) (at18 .loop .line) (at18 .loop .inv .2) (at13 .many .ensures .0) (at6 .if1 .left) in
+    let w = running-within (at18 .loop .inv .0) _ (one .0) in
+    omega (arith, w .0, w .1, w .2, w .3, at18 .before .before .before .before .before .good)
 
 loop-less : tie.Need-loop-less Inv-loop μ-loop
 loop-less c =
-    let at15 = c .before .before .before .before .before .before .before .before .before .before .before .before .before .before .before in
-    let at16 = at15 .before in
-    let at17 = at16 .before in
-    running-less (at17 .loop .inv .0) _ (went V1 _ _ (at16 .next-from .ensures) (at15 .if1 .left))
+    let at6 = c .before .before .before .before .before .before in
+    let at13 = at6 .before .before .before .before .before .before .before in
+    let at18 = at13 .before .before .before .before .before in
+    let one = running-judged (at18 .loop .inv .0) (at18 .loop .line) (at18 .loop .inv .2) (at13 .many .ensures .0) (at6 .if1 .left) in
+    running-less (at18 .loop .inv .0) _ (one .0)
 
 loop-again : tie.Need-loop-again Inv-loop μ-loop
 loop-again c =
-    let e = c .before .before .before .before .before .before .before .before .before .before .one .ensures in (
-      running-more
-          (c .before .before .before .before .before .before .before .before .before .before .before .before .before .before .before .before .before .loop .inv .0) _ _ _ _ _ _
-          (went V1 _ _
-          (c .before .before .before .before .before .before .before .before .before .before .before .before .before .before .before .before .next-from .ensures)
-          (c .before .before .before .before .before .before .before .before .before .before .before .before .before .before .before .if1 .left)) refl
-          (e .0 .1 .0) (e .0 .1 .1) (line-put _ _ (e .0 .0) (c .before .before .put-line .ensures)) (search needs)
-          (search needs),
-      sym (e .1),
-      ap length (e .0 .0) ∙ per-line _,
+    let at6 = c .before .before .before .before .before .before in
+    let at13 = at6 .before .before .before .before .before .before .before in
+    let at18 = at13 .before .before .before .before .before in
+    let one = running-judged (at18 .loop .inv .0) (at18 .loop .line) (at18 .loop .inv .2) (at13 .many .ensures .0) (at6 .if1 .left) in (
+      running-more (at18 .loop .inv .0) _ _ _ _ _ _ (one .0) refl (one .1 .1 .0) (one .1 .1 .1)
+          (line-put _ _ (one .1 .0) (c .before .before .before .put-line .ensures)) (search needs) (search needs),
+      sym (at13 .many .ensures .1),
+      ap length (one .1 .0) ∙ per-line _,
     )
 
 sub-put-last : tie.Need-sub-put-last Inv-loop μ-loop
-sub-put-last c = omega (arith, c .before .before .before .loop .inv .0 .walked .within)
+sub-put-last c =
+    omega (arith, c .before .before .before .before .before .before .before .before .before .before .before .before .before .loop .inv .0 .walked .within)
 
 put-last-requires : tie.Need-put-last-requires Inv-loop μ-loop
-put-last-requires c κs = running-fits (c .before .before .before .loop .inv .0) (stayed V1 _ _ (c .before .before .next-from .ensures) (c .before .if1 .taken))
+put-last-requires c κs =
+    let at1 = c .before in
+    let at8 = at1 .before .before .before .before .before .before .before in
+    let at13 = at8 .before .before .before .before .before in
+    running-fits (at13 .loop .inv .0) (running-stops (at13 .loop .inv .0) (at13 .loop .line) (at13 .loop .inv .2) (at8 .many .ensures .0) (at1 .if1 .taken))
 
 same-length : tie.Need-same-length Inv-loop μ-loop
 same-length c = search needs
@@ -109,10 +111,10 @@ same-length-3 c = search needs
 
 returns : tie.Need-returns Inv-loop μ-loop
 returns c =
-    let at6 = c .before .before .before .before .before .before in
-    running-done (at6 .loop .inv .0)
-    (stayed V1 _ _ (c .before .before .before .before .before .next-from .ensures) (c .before .before .before .before .if1 .taken)) (search needs)
-    (c .before .before .put-last .ensures)
+    let at4 = c .before .before .before .before in
+    let at11 = at4 .before .before .before .before .before .before .before in
+    let at16 = at11 .before .before .before .before .before in
+    running-done (at16 .loop .inv .0) (running-stops (at16 .loop .inv .0) (at16 .loop .line) (at16 .loop .inv .2) (at11 .many .ensures .0) (at4 .if1 .taken)) (search needs) (c .before .before .put-last .ensures)
 
 pub put-printed-spec : {M : Type 1} → statement M
 put-printed-spec =
@@ -121,15 +123,15 @@ put-printed-spec =
     Inv-loop
     μ-loop
     loop-holds
-    next-from-requires
-    sub-one
-    part-one-start
-    part-one-end
-    slice-aggregate-one
-    one-requires
+    sub-many
+    part-many-start
+    part-many-end
+    slice-aggregate-many
+    many-requires
     slice-aggregate-put-line
     put-line-requires
     add-place
+    add-from
     loop-less
     loop-again
     sub-put-last

@@ -1,0 +1,4 @@
+pub mod Trials
+pub mod ProgressCases
+pub mod HistoryCases
+pub mod Uses

@@ -1,0 +1,3 @@
+pub mod Trials
+pub mod ProgressCases
+pub mod HistoryCases

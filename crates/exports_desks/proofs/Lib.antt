@@ -1,0 +1,4 @@
+pub mod Proposed
+pub mod Exits
+pub mod Languages
+pub mod Cases

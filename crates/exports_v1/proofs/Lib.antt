@@ -1,4 +1,0 @@
-pub mod Proposed
-pub mod Exits
-pub mod Neither
-pub mod Cases
