@@ -1,7 +1,6 @@
 //! Desks that fall silent: leases and times by their bits, near every limit, on
 //! queues of any sort.
 
-use lupaniele::raw;
 use second::generate;
 use second::random::Random;
 use second::short::Kept;
@@ -9,27 +8,8 @@ use second::stamp::desk_and_start;
 use second::{Lease, Silence};
 
 use crate::coverage::{Kind, Run};
-use crate::proved::{self, QueueAnswer, UNWRITTEN};
+use crate::proved::{self, QueueAnswer};
 use crate::run::{same, Compared};
-
-/// A silent desk leaves a queue of the proved library.
-fn proved_lapse(queue: &mut proved::Queue, silence: Silence) -> QueueAnswer {
-    let mut fields = [UNWRITTEN; 4];
-    let number = raw::lapse(
-        &mut queue.modes,
-        &mut queue.s,
-        &mut queue.x,
-        &mut queue.kept,
-        queue.places,
-        silence.desk,
-        silence.lease.period,
-        silence.lease.drift,
-        silence.begin,
-        silence.now,
-        &mut fields,
-    );
-    (number, fields)
-}
 
 /// The four numbers of a silence: period, drift, begin, now.
 fn terms(silence: Silence) -> [f64; 4] {
@@ -47,17 +27,12 @@ pub fn lapse(run: &mut Run, queue: &mut Kept, silence: Silence) -> Compared<Queu
             silence.desk
         )
     };
-    let mut lent = proved::Queue::new(queue);
-    let proved = proved_lapse(&mut lent, silence);
+    let mut lent = proved::lent(queue);
+    let proved = proved::lapse(&mut lent, silence);
     let second = queue.lend(|queue| queue.lapse(silence));
     let told = (second.number, second.numbers());
     same("lapse's answer", proved, told, input)?;
-    same(
-        "queue after a lapse",
-        lent,
-        proved::Queue::new(queue),
-        input,
-    )?;
+    same("queue after a lapse", lent, proved::lent(queue), input)?;
     run.number(proved.0);
     note(run, silence, proved.0);
     Ok(proved)

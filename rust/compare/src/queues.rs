@@ -14,12 +14,12 @@ use crate::run::{same, Compared};
 pub fn turn(run: &mut Run, queue: &mut Kept, turn: Turn) -> Compared<QueueAnswer> {
     let entry = queue.clone();
     let input = || format!("  queue: {entry:x?}\n  turn: {turn:x?}\n");
-    let mut lent = proved::Queue::new(queue);
-    let proved = lent.turn(turn);
+    let mut lent = proved::lent(queue);
+    let proved = proved::turn(&mut lent, turn);
     let second = queue.lend(|queue| queue.turn(turn));
     let told = (second.number, second.numbers());
     same("queue's answer", proved, told, input)?;
-    same("queue after", lent, proved::Queue::new(queue), input)?;
+    same("queue after", lent, proved::lent(queue), input)?;
     run.number(proved.0);
     if proved.0 == 0 && second.holds {
         run.seen(Kind::Holding);
