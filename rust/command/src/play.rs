@@ -2,7 +2,7 @@
 
 use std::path::Path;
 
-use lupaniele::{Broken, Image};
+use lupaniele::{Broken, Image, Log};
 use story::Story;
 
 use crate::args::Args;
@@ -38,6 +38,9 @@ fn read(path: &Path) -> Result<Story, Failed> {
     }
     if Image::check(&bytes[..]).err() != Some(Broken::Header) {
         return Story::from_input(&bytes).map_err(|broken| told(input::unsound(&bytes, &broken)));
+    }
+    if Log::check(&bytes[..]).is_ok() {
+        return Err(told("this is a log, and a story is due".into()));
     }
     let text = forms::decoded(&bytes).map_err(input::wrong(path))?;
     Story::read(text).map_err(input::wrong(path))

@@ -17,7 +17,7 @@ pub fn run(args: &Args) -> Outcome {
             "--text is the text of the whole image, without --json and --card",
         ));
     }
-    let number: Option<u16> = args.number("--card").map_err(Failed::unusable)?;
+    let number: Option<u16> = args.number("--card", CARDS).map_err(Failed::unusable)?;
     let image = image(path)?;
     if args.has("--text") {
         return Done::well(forms::image(&image));
@@ -33,6 +33,9 @@ pub fn run(args: &Args) -> Outcome {
         (false, Some(card)) => Done::well(whole(&name, image.version(), &card)),
     }
 }
+
+/// What card may be named.
+pub const CARDS: &str = "the cards of an image are 0 to 127 at the most (rule 2.2)";
 
 /// A card of an image.
 pub fn card(image: &Image, number: u16) -> Result<Card<'_>, Failed> {
