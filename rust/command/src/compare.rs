@@ -76,7 +76,8 @@ fn on_card(args: &Args, number: u16) -> Outcome {
 
 /// The bytes of a structured text in a file: as they are, or as steps in words.
 fn text(path: &Path) -> Result<Vec<u8>, Failed> {
-    let bytes = input::bytes(path, LARGEST_IMAGE, "a structured text")?;
+    let bytes = input::bytes(path, LARGEST_IMAGE, "a structured text");
+    let bytes = bytes.map_err(Failed::wrong_use)?;
     let told = |told: &str| Failed::unusable(format!("{}: {told}", path.display()));
     if bytes.is_empty() {
         return Err(told("the file is empty, and a structured text is due"));

@@ -13,7 +13,7 @@ use lupaniele::{
 use crate::args::Args;
 use crate::input;
 use crate::make::exists;
-use crate::outcome::{Done, Failed, Outcome, verdict};
+use crate::outcome::{Done, Failed, Outcome, some, verdict};
 use crate::send::{numbered, shortened, under};
 
 /// The columns in front of a record, for its number and whether it is due.
@@ -51,11 +51,8 @@ pub fn make(args: &Args) -> Outcome {
 }
 
 fn described(log: &Log) -> String {
-    let (count, plural) = (log.count(), if log.count() == 1 { "" } else { "s" });
-    format!(
-        "a log of {} bytes with {count} record{plural}",
-        log.bytes().len()
-    )
+    let (length, records) = (log.bytes().len(), some(log.count(), "record"));
+    format!("a log of {length} bytes with {records}")
 }
 
 pub fn check(args: &Args) -> Outcome {
@@ -357,13 +354,6 @@ where
 {
     let done = Desk::start(desk).recover(image, log);
     let done = done.map_err(|why| Failed::refused(format!("{}: {why}", path.display())))?;
-    let counted = |count: u32, what: &str| match count {
-        1 => format!("1 {what}"),
-        _ => format!("{count} {what}s"),
-    };
-    Ok(format!(
-        "{} written, {} noted as synced\n",
-        counted(done.written, "update"),
-        counted(done.synced, "card")
-    ))
+    let (updates, cards) = (some(done.written, "update"), some(done.synced, "card"));
+    Ok(format!("{updates} written, {cards} noted as synced\n"))
 }

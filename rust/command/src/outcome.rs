@@ -58,7 +58,22 @@ pub fn verdict<T>(asked: Result<T, Failed>) -> Result<Result<T, Done>, Failed> {
     }
 }
 
+/// So many of something: `1 card`, `2 cards`.
+pub fn some(count: impl Into<u64>, what: &str) -> String {
+    match count.into() {
+        1 => format!("1 {what}"),
+        count => format!("{count} {what}s"),
+    }
+}
+
 impl Failed {
+    /// The same as a wrong use: a list or a text that is refused is none.
+    pub fn wrong_use(self) -> Failed {
+        match self {
+            Failed::Refused(told) | Failed::Unusable(told) => Failed::Unusable(told),
+        }
+    }
+
     /// The same, with the rule by which it is refused.
     pub fn by_rule(self, rule: &str) -> Failed {
         match self {

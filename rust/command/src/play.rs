@@ -31,7 +31,7 @@ pub fn run(args: &Args) -> Outcome {
 
 /// The story in a text, or in an input of the program: an image and a stream.
 fn read(path: &Path) -> Result<Story, Failed> {
-    let bytes = input::bytes(path, LARGEST_TEXT, "a story")?;
+    let bytes = input::bytes(path, LARGEST_TEXT, "a story").map_err(Failed::wrong_use)?;
     let told = |told: String| Failed::unusable(format!("{}: {told}", path.display()));
     if bytes.is_empty() {
         return Err(told("the file is empty, and a story is due".into()));

@@ -8,7 +8,7 @@ use lupaniele::{Card, Contents, Image, Language, Mark, Text, Version};
 use crate::args::Args;
 use crate::input::{described, image};
 use crate::json;
-use crate::outcome::{Done, Failed, Outcome};
+use crate::outcome::{Done, Failed, Outcome, some};
 
 pub fn run(args: &Args) -> Outcome {
     let path = args.path(0);
@@ -221,7 +221,8 @@ fn whole(name: &str, version: Version, card: &Card) -> String {
         0 => out += "  original: not written yet\n",
         edition => {
             let bytes = card.original();
-            let _ = writeln!(out, "  original: edition {edition}, {} bytes", bytes.len());
+            let length = some(bytes.len() as u64, "byte");
+            let _ = writeln!(out, "  original: edition {edition}, {length}");
             out += &indented(bytes);
         }
     }
@@ -242,8 +243,8 @@ fn whole_translation(version: Version, card: &Card, language: Language) -> Strin
         Some(editions) => format!("BEHIND by {editions}, not to be shown"),
     };
     let bytes = card.translation(language).unwrap_or(&[]);
-    let length = bytes.len();
-    let line = format!("  {name}: made from edition {from}, {state}, {length} bytes\n");
+    let length = some(bytes.len() as u64, "byte");
+    let line = format!("  {name}: made from edition {from}, {state}, {length}\n");
     line + &indented(bytes)
 }
 

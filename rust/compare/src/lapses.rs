@@ -1,6 +1,7 @@
 //! Desks that fall silent: leases and times by their bits, near every limit, on
 //! queues of any sort.
 
+use lupaniele::raw::Places;
 use second::generate;
 use second::random::Random;
 use second::short::Kept;
@@ -9,7 +10,8 @@ use second::{Lease, Silence};
 
 use crate::coverage::{Kind, Run};
 use crate::proved::{self, QueueAnswer};
-use crate::run::{same, Compared};
+use crate::queues::by_both;
+use crate::run::Compared;
 
 /// The four numbers of a silence: period, drift, begin, now.
 fn terms(silence: Silence) -> [f64; 4] {
@@ -17,23 +19,12 @@ fn terms(silence: Silence) -> [f64; 4] {
     [period, drift, silence.begin, silence.now]
 }
 
-/// A lapse by both: compares the answer and the whole queue after it.
+/// A lapse by both.
 pub fn lapse(run: &mut Run, queue: &mut Kept, silence: Silence) -> Compared<QueueAnswer> {
-    let entry = queue.clone();
     let bits = terms(silence).map(f64::to_bits);
-    let input = || {
-        format!(
-            "  queue: {entry:x?}\n  desk: {:x?}, {bits:x?}\n",
-            silence.desk
-        )
-    };
-    let mut lent = proved::lent(queue);
-    let proved = proved::lapse(&mut lent, silence);
-    let second = queue.lend(|queue| queue.lapse(silence));
-    let told = (second.number, second.numbers());
-    same("lapse's answer", proved, told, input)?;
-    same("queue after a lapse", lent, proved::lent(queue), input)?;
-    run.number(proved.0);
+    let request = || format!("desk: {:x?}, {bits:x?}", silence.desk);
+    let proved = |queue: &mut Places| proved::lapse(queue, silence);
+    let proved = by_both(run, queue, request, proved, |queue| queue.lapse(silence))?;
     note(run, silence, proved.0);
     Ok(proved)
 }

@@ -179,6 +179,7 @@ fn files_that_are_none() {
     fs::create_dir(place.folder.join("folder")).expect("a folder");
     place.write("empty", "");
     place.write("text", "cards 1 room 16\n");
+    place.write("list", "shared verify of card 0 by (1.1.0, none)\n");
     let large = File::create(place.folder.join("large")).expect("a file");
     large.set_len(1 << 30).expect("a gigabyte of nothing");
     place.well("make cards --cards 1 --room 16");
@@ -190,6 +191,26 @@ fn files_that_are_none() {
             "folder: this is a folder; name an image in it",
         ),
         (2, "play log", "log: this is a log, and a story is due"),
+        (
+            2,
+            "send cards large",
+            "large: it has more than 16777216 bytes, the most that a list of commands has",
+        ),
+        (
+            2,
+            "play large",
+            "large: it has more than 16777216 bytes, the most that a story has",
+        ),
+        (
+            2,
+            "compare large text",
+            "large: it has more than 65536 bytes, the most that a structured text has",
+        ),
+        (
+            2,
+            "make new --from list",
+            "list: line 1, column 1: the shape of an image is due, as in `cards 2 room 64`, not `shared`",
+        ),
         (
             2,
             "show folder",
@@ -234,11 +255,6 @@ fn files_that_are_none() {
             1,
             "send large text",
             "large: it has more than 65536 bytes, the most that an image has (rule 2.2)",
-        ),
-        (
-            1,
-            "send cards large",
-            "large: it has more than 16777216 bytes, the most that a list of commands has",
         ),
         (
             2,

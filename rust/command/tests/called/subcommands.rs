@@ -479,6 +479,17 @@ fn what_is_not_written_cannot_be_compared() {
 }
 
 #[test]
+fn one_byte_is_no_bytes() {
+    let place = Place::new();
+    place.well("make cards --cards 1 --room 16");
+    let list = "exclusive write original of card 0 by (1.1.0, 1.1.0) text \"a\"\n";
+    place.write("list", list);
+    place.well("send cards list");
+    let out = place.well("show cards --card 0");
+    assert!(out.contains("  original: edition 1, 1 byte\n"), "{out}");
+}
+
+#[test]
 fn a_translation_of_nothing_is_told_so() {
     let place = Place::new();
     place.well("make cards --cards 1 --room 64");
