@@ -263,9 +263,10 @@ between =
 between-rules : ByRules V1 1 16 twoPlaces blankLogs between
 unfolding byRules stepTo proposed pairFor nextT learnt commandBytes formed payload fieldsOf wellFormed all allFrom le toLe part zeros
 between-rules =
+    let original = sent-bytes (writeOriginal 0 (stamp 0 1 0) text205) tt tt in
     record {
       shape = shape;
-      fits = (tt, (tt, (tt, (tt, (sent-bytes (writeOriginal 0 (stamp 0 1 0) text205) tt tt, (sent-bytes (readUnder (stamp 0 3 0) 0) tt tt, (sent-bytes (writeOriginal 0 (stamp 0 1 0) text205) tt tt, tt)))))));
+      fits = (tt, (tt, (tt, (tt, (original, (sent-bytes (readUnder (stamp 0 3 0) 0) tt tt, (original, tt)))))));
       rules = refl;
     }
 

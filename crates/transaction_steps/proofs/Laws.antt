@@ -93,7 +93,8 @@ module _ (rs : List LogRecord) (k reach t i : ℕ) where
 
   -- An update of the card.
   pub surveyed-more : (updates && here) ≡ true → {is : Bool} {last : ℕ} → is ≡ due rs i → last ≡ transactionIn rs i
-      → survey (surveyed rs k reach t i .due || is) (firstOf (surveyed rs k reach t i .line) (leb reach i && is) i) (cond is last (surveyed rs k reach t i .transaction)) (surveyed rs k reach t i .changed || eqb last t)
+      → survey (surveyed rs k reach t i .due || is) (firstOf (surveyed rs k reach t i .line) (leb reach i && is) i)
+      (cond is last (surveyed rs k reach t i .transaction)) (surveyed rs k reach t i .changed || eqb last t)
       ≡ surveyed rs k reach t (i + 1)
   unfolding surveyed
   surveyed-more e {is} {last} d l =

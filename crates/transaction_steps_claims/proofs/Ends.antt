@@ -114,7 +114,9 @@ module _ (rs : List LogRecord) (o : Ordered rs) (k : ℕ) (r : LogRecord) where
       unfolding due
       ended-old i h e =
           rw (in-old rs r i h, transaction-old rs r i (omega arith), any-more (commitsTo (transactionIn rs i)) rs r, any-more (syncsFrom (recordCard (recordIn rs i)) (transactionIn rs i)) rs r)
-          (never (eqb (recordIn rs i .kind) updateKind) (any (commitsTo (transactionIn rs i)) rs || commitsTo (transactionIn rs i) r) (any (syncsFrom (recordCard (recordIn rs i)) (transactionIn rs i)) rs)
+          (never (eqb (recordIn rs i .kind) updateKind)
+          (any (commitsTo (transactionIn rs i)) rs || commitsTo (transactionIn rs i) r)
+          (any (syncsFrom (recordCard (recordIn rs i)) (transactionIn rs i)) rs)
           (eqb (recordCard (recordIn rs i)) k) (syncsFrom (recordCard (recordIn rs i)) (transactionIn rs i) r) noted)
         where
           noted : syncsFrom (recordCard (recordIn rs i)) (transactionIn rs i) r ≡ true
@@ -220,7 +222,8 @@ module _ (note : ℕ → ℕ → LogRecord) (w : Notes note) (d k : ℕ) (some :
   -- First a look.
   all-steps : (mark : ℕ) → Ends (length rs + 3) (from mark (noMind .seen))
   unfolding nextStep
-  all-steps mark = wider (suc (length rs + 2)) (length rs + 3) (from mark (noMind .seen)) (omega arith) (ends-more (length rs + 2) (from mark (noMind .seen)) (from mark (saw mark 0)) refl (go (cases (eqb mark d))))
+  all-steps mark = wider (suc (length rs + 2)) (length rs + 3) (from mark (noMind .seen)) (omega arith)
+      (ends-more (length rs + 2) (from mark (noMind .seen)) (from mark (saw mark 0)) refl (go (cases (eqb mark d))))
     where
       go : (eqb mark d ≡ true) ⊎ (eqb mark d ≡ false) → Ends (length rs + 2) (from mark (saw mark 0))
       go (inl e) = subst (λ (m : ℕ). Ends (length rs + 2) (from m (saw m 0))) (sym (eqb-true mark d e)) (marked (length rs) 0 (omega arith))

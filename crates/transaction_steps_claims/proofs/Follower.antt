@@ -177,7 +177,8 @@ module _ (d : ℕ) (z : Follower) (g : Going d z) where
         let three = and-left (eqb (nextFor k going .step) writeStep && eqb (nextFor k going .line) line && writesOut d (commandIn s)) (writesLine s (recordIn rs line)) e in
         let two = and-left (eqb (nextFor k going .step) writeStep && eqb (nextFor k going .line) line) (writesOut d (commandIn s)) three in
         let same : nextFor k going .line ≡ line = eqb-true (nextFor k going .line) line (and-right (eqb (nextFor k going .step) writeStep) (eqb (nextFor k going .line) line) two) in
-        let told = when-write d rs k going (z .minds k .seen) short (eqb-true (nextFor k going .step) writeStep (and-left (eqb (nextFor k going .step) writeStep) (eqb (nextFor k going .line) line) two)) in
+        let told = when-write d rs k going (z .minds k .seen) short
+        (eqb-true (nextFor k going .step) writeStep (and-left (eqb (nextFor k going .step) writeStep) (eqb (nextFor k going .line) line) two)) in
         or-right (may-prepare || may-release)
         (and-in (and-right (eqb (nextFor k going .step) writeStep && eqb (nextFor k going .line) line) (writesOut d (commandIn s)) three)
         (and-in
@@ -224,7 +225,8 @@ module _ (d : ℕ) (z : Follower) (g : Going d z) where
         go (inr a) = eqb-true (nextFor (recordCard (recordIn rs i)) true .step) readyStep a
 
     commit-held : eqb (r .kind) commitKind ≡ true → every (λ i. not (updateIn rs (recordTransaction r) i) || isHeld (z .desk .holds (recordCard (recordIn rs i)))) (length rs) ≡ true
-    commit-held c = every-in (λ i. not (updateIn rs (recordTransaction r) i) || isHeld (z .desk .holds (recordCard (recordIn rs i)))) (length rs) (λ i q. go i q (cases (updateIn rs (recordTransaction r) i)))
+    commit-held c = every-in (λ i. not (updateIn rs (recordTransaction r) i) || isHeld (z .desk .holds (recordCard (recordIn rs i))))
+        (length rs) (λ i q. go i q (cases (updateIn rs (recordTransaction r) i)))
       where
         go : (i : ℕ) → i < length rs → (updateIn rs (recordTransaction r) i ≡ true) ⊎ (updateIn rs (recordTransaction r) i ≡ false)
             → (not (updateIn rs (recordTransaction r) i) || isHeld (z .desk .holds (recordCard (recordIn rs i)))) ≡ true
@@ -240,7 +242,8 @@ module _ (d : ℕ) (z : Follower) (g : Going d z) where
     note-free : noted ≡ true → may-sync ≡ true
     note-free e =
         let j : ℕ = recordCard r in
-        let told = when-note d rs j true (z .minds j .seen) (eqb-true (nextFor j true .step) noteStep (and-left (eqb (nextFor j true .step) noteStep) (eqb (nextFor j true .transaction) (recordTransaction r)) e)) in
+        let told = when-note d rs j true (z .minds j .seen)
+        (eqb-true (nextFor j true .step) noteStep (and-left (eqb (nextFor j true .step) noteStep) (eqb (nextFor j true .transaction) (recordTransaction r)) e)) in
         let same : lastDue rs j (length rs) ≡ recordTransaction r =
         sym (told .3) ∙ eqb-true (nextFor j true .transaction) (recordTransaction r) (and-right (eqb (nextFor j true .step) noteStep) (eqb (nextFor j true .transaction) (recordTransaction r)) e) in
         and-in (or-left (writtenOut rs j 0 (length rs)) (go (told .1) (g .minded j (told .0) .freely (told .2))))

@@ -69,7 +69,8 @@ module _ (rs : List LogRecord) (k : ℕ) where
   last-committed zero e = absurd (never-both refl e)
   last-committed (suc i) e = go (last-committed i) (cases (dueFor rs k i)) (and-fails (writtenOut rs k 0 i) (ltb i 0 || not (dueFor rs k i)) e)
     where
-      go : (writtenOut rs k 0 i ≡ false → any (commitsTo (lastDue rs k i)) rs ≡ true) → (dueFor rs k i ≡ true) ⊎ (dueFor rs k i ≡ false) → (writtenOut rs k 0 i ≡ false) ⊎ ((writtenOut rs k 0 i ≡ true) × ((ltb i 0 || not (dueFor rs k i)) ≡ false))
+      go : (writtenOut rs k 0 i ≡ false → any (commitsTo (lastDue rs k i)) rs ≡ true) → (dueFor rs k i ≡ true) ⊎ (dueFor rs k i ≡ false)
+          → (writtenOut rs k 0 i ≡ false) ⊎ ((writtenOut rs k 0 i ≡ true) × ((ltb i 0 || not (dueFor rs k i)) ≡ false))
           → any (commitsTo (cond (dueFor rs k i) (transactionIn rs i) (lastDue rs k i))) rs ≡ true
       go earlier (inl a) f =
           let here : any (commitsTo (transactionIn rs i)) rs ≡ true =
@@ -82,7 +83,8 @@ module _ (rs : List LogRecord) (k : ℕ) where
 
   -- The first line that is due and not below the reach.
   pub data Found (reach n : ℕ) : Type 0 where
-    line-at : ltb (firstDue rs k reach n) mostRecords ≡ true → reach ≤ firstDue rs k reach n → dueFor rs k (firstDue rs k reach n) ≡ true → writtenOut rs k reach (firstDue rs k reach n) ≡ true → Found reach n
+    line-at : ltb (firstDue rs k reach n) mostRecords ≡ true → reach ≤ firstDue rs k reach n
+        → dueFor rs k (firstDue rs k reach n) ≡ true → writtenOut rs k reach (firstDue rs k reach n) ≡ true → Found reach n
     no-line : ltb (firstDue rs k reach n) mostRecords ≡ false → writtenOut rs k reach n ≡ true → Found reach n
 
   pub found : (reach n : ℕ) → n ≤ mostRecords → Found reach n
@@ -103,7 +105,8 @@ module _ (rs : List LogRecord) (k : ℕ) where
 
       go : Found reach i → ((leb reach i && dueFor rs k i) ≡ true) ⊎ ((leb reach i && dueFor rs k i) ≡ false) → Found reach (suc i)
       go (line-at a l b c) w = same before (pick true (leb reach i && dueFor rs k i) a refl) a l b c
-      go (no-line a b) (inl e) = same i (pick false true a e) (lt-ltb i mostRecords (omega arith)) (leb-true reach i (and-left (leb reach i) (dueFor rs k i) e)) (and-right (leb reach i) (dueFor rs k i) e) b
+      go (no-line a b) (inl e) = same i (pick false true a e) (lt-ltb i mostRecords (omega arith))
+          (leb-true reach i (and-left (leb reach i) (dueFor rs k i) e)) (and-right (leb reach i) (dueFor rs k i) e) b
       go (no-line a b) (inr e) =
           no-line (subst (λ (m : ℕ). ltb m mostRecords ≡ false) (pick false false a e) a) (and-in b (passed (and-fails (leb reach i) (dueFor rs k i) e)))
         where

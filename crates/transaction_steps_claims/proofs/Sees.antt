@@ -255,7 +255,8 @@ module _ (d : ℕ) (y : OneDesk) (w : Kept d y) (i : ℕ) (h : lawful d y (arriv
           pick (inr u) = u
           pick (inl b) = absurd (w .some (sym (eqb-true (at (w .cs) (cardFor o) .mark .desk) d b) ∙ sym (t .fits) ∙ none))
       go (releasing q f) =
-          absurd (w .some (sym (eqb-true (commandIn so .expected .desk) d (and-right (not (isWrite (commandIn so))) (expects d (commandIn so)) (and-left (not (isWrite (commandIn so)) && expects d (commandIn so)) (eqb (commandIn so .next .desk) 0) q))) ∙ none))
+          absurd (w .some (sym (eqb-true (commandIn so .expected .desk) d (and-right (not (isWrite (commandIn so))) (expects d (commandIn so))
+          (and-left (not (isWrite (commandIn so)) && expects d (commandIn so)) (eqb (commandIn so .next .desk) 0) q))) ∙ none))
       go (writing q f) =
           absurd
           (never-both (and-left (isWrite (commandIn so)) (expects d (commandIn so)) (and-left (isWrite (commandIn so) && expects d (commandIn so)) (leaves d (commandIn so)) q))

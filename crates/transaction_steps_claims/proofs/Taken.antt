@@ -28,7 +28,8 @@ use Rattle.transaction_steps_claims.specs.Ends.{nobodyBetween, OrdersTak
 -- A pair that is the stored one is not stale, in either mode.
 never-stale : (mode : ℕ) (stored new : Pair) → new .s ≡ stored .s → new .x ≡ stored .x → stale mode stored new ≡ false
 never-stale mode stored new s x =
-    or-none (le-ltb (new .x) (stored .x) (omega (arith, x))) (subst (λ (b : Bool). (eqb mode exclusive && b) ≡ false) (sym (le-ltb (new .s) (stored .s) (omega (arith, s)))) (and-false (eqb mode exclusive)))
+    or-none (le-ltb (new .x) (stored .x) (omega (arith, x)))
+    (subst (λ (b : Bool). (eqb mode exclusive && b) ≡ false) (sym (le-ltb (new .s) (stored .s) (omega (arith, s)))) (and-false (eqb mode exclusive)))
 
 same-mark : (stored expected : Mark) → expected .desk ≡ stored .desk → expected .transaction ≡ stored .transaction → markFits stored expected ≡ true
 same-mark stored expected d t = and-in (eq-eqb (expected .desk) (stored .desk) d) (le-leb (stored .transaction) (expected .transaction) (omega (arith, t)))

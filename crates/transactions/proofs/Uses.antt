@@ -107,7 +107,8 @@ commit-bytes : AllSteps (append 16 (commitOf 1) ∷ [])
 unfolding toLe
 commit-bytes = (bytes-by (commitOf 1 .body) tt, tt)
 
-whole : ShowsAll 5 begun (begun .meant) × ShowsAll 5 (afterSteps 5 begun (append 16 (commitOf 1) ∷ [])) (λ k l. withUpdates (records (begun .log)) 1 l k (length (records (begun .log))) (begun .meant k l))
+whole : ShowsAll 5 begun (begun .meant) × ShowsAll 5 (afterSteps 5 begun (append 16 (commitOf 1) ∷ []))
+    (λ k l. withUpdates (records (begun .log)) 1 l k (length (records (begun .log))) (begun .meant k l))
 unfolding lawfulAll afterSteps afterStep stored puts lineBytes stores appended shaped lastBegun opened follows total startAt recordAt recordOk goodLog records
     all allFrom le toLe part splice tabulate every zeros
 whole = never-half 5 begun 16 (commitOf 1) [] (moment-of (append 16 (beginOf 1) ∷ []) begun-bytes refl) refl refl refl commit-bytes refl

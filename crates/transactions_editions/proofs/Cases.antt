@@ -23,7 +23,8 @@ use Rattle.transactions_editions.specs.Desks.{desksCurrentAlong}
 use Rattle.transactions_editions.specs.Cases.{DropsChanged}
 
 pub drops-changed : DropsChanged
-unfolding desksCurrentAlong afterDeskSteps lawfulDeskSteps afterDeskStep currentWith currentBy currentAlong lawfulAll afterSteps afterStep withUpdates rewritten due stored puts lineBytes stores appended shaped
+unfolding desksCurrentAlong afterDeskSteps lawfulDeskSteps afterDeskStep currentWith currentBy currentAlong
+    lawfulAll afterSteps afterStep withUpdates rewritten due stored puts lineBytes stores appended shaped
     lastBegun opened follows total startAt recordAt recordOk goodLog records serve serveBy stepped sound headerSound cardSound translationSound
     tailZero decode cardAt entryAt readEntry encode bodies pad entryBytes header shapeOk fresh replied raise entrySound commandBytes formed payload
     fieldsOf wellFormed all allFrom le toLe part splice tabulate concatMap every zeros

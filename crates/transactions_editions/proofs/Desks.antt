@@ -212,7 +212,8 @@ module _ (ruled : ℕ → Bool) (y : Desks) (j : Joint ruled y) (c : ℕ → Boo
         cards = λ k.
             on-same (y .image) (new p (y .part)) v a (new-there p (y .part)) (hold .plain) (λ i x. by-log p (y .part) (y .image) a i (hold .marked i x)) k refl
             (λ x.
-            ap (λ (t : Bool). cond (eqb (appendNumber budget (y .part d .log) q) 0 && eqb (q .kind) commitKind) (currentWith (records (y .part d .log)) (recordTransaction q) k (length (records (y .part d .log))) t) t)
+            ap (λ (t : Bool). cond (eqb (appendNumber budget (y .part d .log) q) 0 && eqb (q .kind) commitKind)
+            (currentWith (records (y .part d .log)) (recordTransaction q) k (length (records (y .part d .log))) t) t)
             (borne-value k x))
             (λ x. unborne-current d (alone d y) mine c budget q b h k x);
         side = by-desk ruled y j d r (λ (n : ℕ) (x : Part). ruled n ≡ true → SideTurned n (y .image) x) p (y .part) (λ x. record { sent = hold .sent; told = hold .told }) (λ n x z. w .side n z);
@@ -261,7 +262,8 @@ module _ (ruled : ℕ → Bool) (y : Desks) (j : Joint ruled y) (c : ℕ → Boo
   abbrev got : Outcome
   got = serve V1 (y .image) (s .command) (s .lent)
 
-  side-met : (e : ℕ) → ruled e ≡ true → (formed V1 (s .command) ≡ true → (expects e (commandIn s) ≡ false) × (leaves e (commandIn s) ≡ false)) → SideTurned e (got .image) (partOf (afterStep e (seenBy e y) (other s)))
+  side-met : (e : ℕ) → ruled e ≡ true → (formed V1 (s .command) ≡ true → (expects e (commandIn s) ≡ false) × (leaves e (commandIn s) ≡ false))
+      → SideTurned e (got .image) (partOf (afterStep e (seenBy e y) (other s)))
   unfolding afterStep
   side-met e r f =
       let hold : Holds e (afterStep e (alone e y) (other s)) (currentAfter e (alone e y) (aloneCurrent e y c) (other s)) =
@@ -422,7 +424,8 @@ module _ (ruled : ℕ → Bool) (y : Desks) (j : Joint ruled y) (c : ℕ → Boo
 
 -- ---- a run
 
-turned-own : (ruled : ℕ → Bool) (y : Desks) (j : Joint ruled y) (c : ℕ → Bool) (w : JointTurned ruled y c) (d : ℕ) (m : Step) → StepBytes m → ruled d ≡ true → ownStep m ≡ true → lawful d (seenBy d y) m ≡ true
+turned-own : (ruled : ℕ → Bool) (y : Desks) (j : Joint ruled y) (c : ℕ → Bool) (w : JointTurned ruled y c) (d : ℕ) (m : Step)
+    → StepBytes m → ruled d ≡ true → ownStep m ≡ true → lawful d (seenBy d y) m ≡ true
     → JointTurned ruled (afterDeskStep y (own d m)) (desksCurrentAfter y c (own d m))
 turned-own ruled y j c w d (other s) b r o h = absurd (never-both refl (sym o))
 turned-own ruled y j c w d (order s line from) b r o h = turned-order ruled y j c w d r s line from b h

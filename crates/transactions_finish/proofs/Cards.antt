@@ -177,7 +177,8 @@ module _ (d : ℕ) (small : d < 65536) (start : Follower) (begun : Going d start
             end,
             moved-join d k start z end (m .moved) (order-moved d small z (m .moved .going) k within low stamps bears reach (m .facing) releasing [] Bytes-nil (lit< tt) refl 0 told tt),
             record {
-              unmarked = ap (λ (w : Mark). eqb (w .desk) d) (mark-order d small z (m .moved .going) k within low stamps bears reach (m .facing) releasing [] Bytes-nil (lit< tt) refl 0 told tt) ∙ apart;
+              unmarked = ap (λ (w : Mark). eqb (w .desk) d)
+                  (mark-order d small z (m .moved .going) k within low stamps bears reach (m .facing) releasing [] Bytes-nil (lit< tt) refl 0 told tt) ∙ apart;
               mark = 0;
               reach = 0;
               seen = f .seen;
@@ -214,7 +215,8 @@ module _ (d : ℕ) (small : d < 65536) (start : Follower) (begun : Going d start
         carrying b q = subst (λ (l : List ℕ). Carrying (writing b) (records l) line text) (sym (m .moved .log)) (q, refl)
 
         abbrev written : Follower
-        written = ordered d small z (m .moved .going) k within low stamps bears reach (m .facing) (writing side) text (Bytes-drop 3 (r .body) (fits-records line inner .0)) short (fit-of side refl) line (told side) (carrying side refl)
+        written = ordered d small z (m .moved .going) k within low stamps bears reach (m .facing) (writing side) text
+            (Bytes-drop 3 (r .body) (fits-records line inner .0)) short (fit-of side refl) line (told side) (carrying side refl)
 
         edition-after : (b : Bool) → side ≡ b → cond b (at (cardsOf z) k .edition + 1) (at (cardsOf z) k .edition) ≡ at (cardsOf start) k .edition + originalsDue rs k (suc line)
         edition-after true q = omega (arith, edition-now, originals-next rs k line true (is-rewritten rs k line is-due ∙ q))

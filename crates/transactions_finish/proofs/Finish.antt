@@ -336,7 +336,8 @@ module _ (d : ℕ) (small : d < 65536) (start : Follower) (begun : Going d start
                   ));
             }
           where
-            go : (j : ℕ) → k ≤ j → j < many → (ltb k j ≡ true) ⊎ (ltb k j ≡ false) → writtenOut (more-lines now (q .going .kept .ordered) j r) j 0 (length (more-lines now (q .going .kept .ordered) j r)) ≡ true
+            go : (j : ℕ) → k ≤ j → j < many → (ltb k j ≡ true) ⊎ (ltb k j ≡ false)
+                → writtenOut (more-lines now (q .going .kept .ordered) j r) j 0 (length (more-lines now (q .going .kept .ordered) j r)) ≡ true
             go j a b (inl p) = idle-all now (q .going .kept .ordered) j r refl (q .done j (ltb-true k j p) b)
             go j a b (inr p) =
                 subst (λ (i : ℕ). writtenOut (more-lines now (q .going .kept .ordered) i r) i 0 (length (more-lines now (q .going .kept .ordered) i r)) ≡ true) (omega (arith, a, ltb-false k j p))

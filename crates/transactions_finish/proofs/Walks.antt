@@ -155,7 +155,8 @@ module _ (d : ℕ) (small : d < 65536) (z : Follower) (g : Going d z) (k : ℕ) 
   apart = ne-eqb 0 d (λ e. some (sym e))
 
   look-told : asTold d z (incoming look true) ≡ true
-  look-told = or-right (not (formed V1 (look .command))) (subst (λ (c : Command). (not (eqb (c .expected .desk) d) && not (eqb (c .next .desk) d)) ≡ true) (sym (look-fields d k small some low)) (rw apart))
+  look-told = or-right (not (formed V1 (look .command)))
+      (subst (λ (c : Command). (not (eqb (c .expected .desk) d) && not (eqb (c .next .desk) d)) ≡ true) (sym (look-fields d k small some low)) (rw apart))
 
   look-own : ownDoing (incoming look true) ≡ true
   look-own = subst (λ (c : Command). not (isWrite c) ≡ true) (sym (look-fields d k small some low)) refl
@@ -270,12 +271,14 @@ carries d rs s k card (writing true) size line f m w =
     let out : writesOut d (commandIn s) ≡ true = subst (λ (c : Command). writesOut d c ≡ true) (sym f) (rw (eq-eqb (card .mark .desk) d m)) in
     let act : commandIn s .act ≡ 3 = ap (λ (c : Command). c .act) f in
     and-in (and-in (eq-eqb line line refl) out)
-    (and-in (eq-eqb (commandIn s .act) _ (act ∙ sym (ap (λ (b : Bool). cond b 3 4) (w .0)))) (subst (λ (l : List ℕ). sameBytes (payload V1 (s .command)) l ≡ true) (w .1) (same-refl (payload V1 (s .command)))))
+    (and-in (eq-eqb (commandIn s .act) _ (act ∙ sym (ap (λ (b : Bool). cond b 3 4) (w .0))))
+    (subst (λ (l : List ℕ). sameBytes (payload V1 (s .command)) l ≡ true) (w .1) (same-refl (payload V1 (s .command)))))
 carries d rs s k card (writing false) size line f m w =
     let out : writesOut d (commandIn s) ≡ true = subst (λ (c : Command). writesOut d c ≡ true) (sym f) (rw (eq-eqb (card .mark .desk) d m)) in
     let act : commandIn s .act ≡ 4 = ap (λ (c : Command). c .act) f in
     and-in (and-in (eq-eqb line line refl) out)
-    (and-in (eq-eqb (commandIn s .act) _ (act ∙ sym (ap (λ (b : Bool). cond b 3 4) (w .0)))) (subst (λ (l : List ℕ). sameBytes (payload V1 (s .command)) l ≡ true) (w .1) (same-refl (payload V1 (s .command)))))
+    (and-in (eq-eqb (commandIn s .act) _ (act ∙ sym (ap (λ (b : Bool). cond b 3 4) (w .0))))
+    (subst (λ (l : List ℕ). sameBytes (payload V1 (s .command)) l ≡ true) (w .1) (same-refl (payload V1 (s .command)))))
 
 -- What its answer tells.
 step-is : (d : ℕ) (s : Sent) (k : ℕ) (card : Card) (deed : Deed) (size line mark : ℕ) → (d ≡ 0 → ⊥) → commandIn s ≡ orderOf d k card deed size → card .mark .desk ≡ d
