@@ -12,6 +12,7 @@ use Rattle.lists.specs.Parts.{every}
 use Rattle.lists.specs.Search.{any}
 use Rattle.lists.proofs.Every.{every-in, every-out}
 use Rattle.lists.proofs.Tests.{cases, never-both, and-in, and-left, and-right, or-left, or-right, or-cases}
+use Rattle.lists.specs.Runs.{foldl, everyAlong}
 use Rattle.store_model.specs.Words.{Sent}
 use Rattle.redo_log.specs.Log.{LogRecord, mostRecords, commitKind, syncedKind, recordCard, recordTransaction, records}
 use Rattle.redo_log.proofs.Records.{good-out}
@@ -291,18 +292,18 @@ pub record Ran (d : ℕ) (y end : OneDesk) : Type 0 where
   pub led : afterSteps d y steps ≡ end
 
 none-lawful : (d : ℕ) (y : OneDesk) → lawfulAll d y [] ≡ true
-unfolding lawfulAll
+unfolding everyAlong
 none-lawful d y = refl
 
 none-led : (d : ℕ) (y : OneDesk) → afterSteps d y [] ≡ y
-unfolding afterSteps
+unfolding foldl
 none-led d y = refl
 
 ran-none : (d : ℕ) (y : OneDesk) → Ran d y y
 ran-none d y = record { steps = []; sent = tt; rules = none-lawful d y; led = none-led d y }
 
 ran-more : (d : ℕ) (y end : OneDesk) (m : Step) → StepBytes m → lawful d y m ≡ true → Ran d (afterStep d y m) end → Ran d y end
-unfolding lawfulAll afterSteps
+unfolding everyAlong foldl
 ran-more d y end m b h r = record { steps = m ∷ r .steps; sent = (b, r .sent); rules = and-in h (r .rules); led = r .led }
 
 -- One thing more: a step by the rules, or none; and what holds goes on holding.
@@ -354,7 +355,7 @@ module _ (d : ℕ) (z : Follower) (g : Going d z) where
   one falling b h = stepped falling crash tt refl refl (λ j. nothing-minded d (afterStep d (z .desk) crash) j)
 
 run : (d : ℕ) (z : Follower) (doings : List Doing) → Going d z → AllDoings doings → allAsTold d z doings ≡ true → Ran d (z .desk) (afterDoings d z doings .desk)
-unfolding afterDoings allAsTold
+unfolding foldl everyAlong
 run d z [] g b h = ran-none d (z .desk)
 run d z (a ∷ doings) g b h =
     let o = one d z g a (b .0) (and-left (asTold d z a) (allAsTold d (afterDoing d z a) doings) h) in

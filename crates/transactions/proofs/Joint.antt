@@ -12,6 +12,7 @@ use lib.Dec.{eqb}
 use Rattle.formats.specs.Format.{V1}
 use Rattle.lists.specs.Parts.{Bytes}
 use Rattle.lists.proofs.Tests.{cases, never-both, and-left, and-right, or-cases, or-right, from-T, to-T}
+use Rattle.lists.specs.Runs.{foldl, everyAlong}
 use Rattle.stamps.specs.declared.Mark.{Mark}
 use Rattle.commands.specs.declared.Command.{Command}
 use Rattle.commands.specs.Command.{Language, isWrite, writes}
@@ -710,7 +711,7 @@ joint-next ruled y (own d m) j b h =
     joint-own ruled y j d m b (and-left (ruled d) (ownStep m) two) (and-right (ruled d) (ownStep m) two) (and-right (ruled d && ownStep m) (lawful d (seenBy d y) m) h)
 
 joint-run : (ruled : ℕ → Bool) (y : Desks) (steps : List DeskStep) → Joint ruled y → AllDeskSteps steps → lawfulDeskSteps ruled y steps ≡ true → Joint ruled (afterDeskSteps y steps)
-unfolding afterDeskSteps lawfulDeskSteps
+unfolding foldl everyAlong
 joint-run ruled y [] j b h = j
 joint-run ruled y (m ∷ steps) j b h =
     joint-run ruled (afterDeskStep y m) steps

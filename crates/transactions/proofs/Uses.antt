@@ -13,6 +13,7 @@ use Rattle.formats.specs.Format.{V1}
 use Rattle.lists.specs.Parts.{part, splice, tabulate, concatMap, every, zeros}
 use Rattle.lists.specs.Le.{le, toLe}
 use Rattle.lists.specs.Table.{all, allFrom}
+use Rattle.lists.specs.Runs.{foldl, everyAlong}
 use Rattle.stamps.specs.Stamp.{stamp, exclusive, noMark}
 use Rattle.commands.specs.Command.{original, wellFormed}
 use Rattle.commands.specs.Bytes.{fieldsOf, payload, formed, commandBytes}
@@ -59,7 +60,7 @@ moment-of steps bytes rules =
     record { image = fresh V1 1 16; log = emptyLog 8; steps = steps; store = clean; blank = blank; sent = bytes; rules = rules; led = refl }
 
 beginning : Moment 5 first
-unfolding lawfulAll afterSteps
+unfolding everyAlong foldl
 beginning = moment-of [] tt refl
 
 -- ---- what a read shows (rule 16.12)
@@ -89,7 +90,7 @@ abbrev ordered : OneDesk
 ordered = afterSteps 5 first ordering
 
 not-twice : outcome (afterStep 5 ordered (arrive 0)) prepares0 .answer .number ≡ 0 → ⊥
-unfolding lawfulAll afterSteps afterStep records recordAt serve serveBy stepped sound headerSound cardSound translationSound tailZero decode cardAt entryAt readEntry
+unfolding everyAlong foldl afterStep records recordAt serve serveBy stepped sound headerSound cardSound translationSound tailZero decode cardAt entryAt readEntry
     encode bodies pad entryBytes header shapeOk fresh replied raise entrySound commandBytes formed payload fieldsOf wellFormed all allFrom le toLe
     part splice tabulate concatMap every zeros
 not-twice = orders-once 5 ordered 0 0 (moment-of ordering ordering-bytes refl) (omega arith) (omega arith) refl refl
@@ -109,7 +110,7 @@ commit-bytes = (bytes-by (commitOf 1 .body) tt, tt)
 
 whole : ShowsAll 5 begun (begun .meant) × ShowsAll 5 (afterSteps 5 begun (append 16 (commitOf 1) ∷ []))
     (λ k l. withUpdates (records (begun .log)) 1 l k (length (records (begun .log))) (begun .meant k l))
-unfolding lawfulAll afterSteps afterStep stored puts lineBytes stores appended shaped lastBegun opened follows total startAt recordAt recordOk goodLog records
+unfolding everyAlong foldl afterStep stored puts lineBytes stores appended shaped lastBegun opened follows total startAt recordAt recordOk goodLog records
     all allFrom le toLe part splice tabulate every zeros
 whole = never-half 5 begun 16 (commitOf 1) [] (moment-of (append 16 (beginOf 1) ∷ []) begun-bytes refl) refl refl refl commit-bytes refl
 
@@ -125,7 +126,7 @@ abbrev all-first : Desks
 all-first = desksOpening (fresh V1 1 16) logs
 
 all-begin : DesksMoment but0 all-first
-unfolding lawfulDeskSteps afterDeskSteps
+unfolding everyAlong foldl
 all-begin =
     record {
       image = fresh V1 1 16;

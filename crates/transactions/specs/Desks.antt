@@ -7,6 +7,7 @@ use mathlib.Core.List.{List, [], _∷_}
 use mathlib.Core.Bool.{Bool, true, false, cond, not, _&&_, _||_}
 use lib.ListN.{getD, take}
 use lib.Dec.{eqb}
+use Rattle.lists.specs.Runs.{foldl, everyAlong}
 use Rattle.formats.specs.Format.{V1}
 use Rattle.commands.specs.Command.{Language, isWrite, reads}
 use Rattle.commands.specs.Bytes.{formed}
@@ -105,13 +106,11 @@ afterDeskStep y (own d m) =
       part = λ e. cond (eqb e d) (partOf (afterStep d (seenBy d y) m)) (metBy e y d m);
     }
 
-unfoldable pub afterDeskSteps : Desks → List DeskStep → Desks
-afterDeskSteps y [] = y
-afterDeskSteps y (m ∷ steps) = afterDeskSteps (afterDeskStep y m) steps
+abbrev pub afterDeskSteps : Desks → List DeskStep → Desks
+afterDeskSteps y steps = foldl afterDeskStep y steps
 
-unfoldable pub lawfulDeskSteps : (ℕ → Bool) → Desks → List DeskStep → Bool
-lawfulDeskSteps ruled y [] = true
-lawfulDeskSteps ruled y (m ∷ steps) = lawfulDeskStep ruled y m && lawfulDeskSteps ruled (afterDeskStep y m) steps
+abbrev pub lawfulDeskSteps : (ℕ → Bool) → Desks → List DeskStep → Bool
+lawfulDeskSteps ruled y steps = everyAlong (lawfulDeskStep ruled) afterDeskStep y steps
 
 -- ---- what is claimed
 

@@ -14,6 +14,7 @@ use Rattle.formats.specs.Format.{V1}
 use Rattle.lists.specs.Parts.{every}
 use Rattle.lists.specs.Search.{any}
 use Rattle.lists.specs.Table.{settled}
+use Rattle.lists.specs.Runs.{foldl, everyAlong}
 use Rattle.stamps.specs.declared.Mark.{Mark}
 use Rattle.commands.specs.declared.Command.{Command}
 use Rattle.commands.specs.Command.{Language, isWrite, writes, verifier, update}
@@ -315,11 +316,9 @@ afterStep d y renew =
 
 -- ---- runs: steps in the order in which they happen
 
-unfoldable pub afterSteps : ℕ → OneDesk → List Step → OneDesk
-afterSteps d y [] = y
-afterSteps d y (m ∷ steps) = afterSteps d (afterStep d y m) steps
+abbrev pub afterSteps : ℕ → OneDesk → List Step → OneDesk
+afterSteps d y steps = foldl (afterStep d) y steps
 
 -- Each step is by the rules, in the system as the steps before it left it.
-unfoldable pub lawfulAll : ℕ → OneDesk → List Step → Bool
-lawfulAll d y [] = true
-lawfulAll d y (m ∷ steps) = lawful d y m && lawfulAll d (afterStep d y m) steps
+abbrev pub lawfulAll : ℕ → OneDesk → List Step → Bool
+lawfulAll d y steps = everyAlong (lawful d) (afterStep d) y steps

@@ -10,6 +10,7 @@ use lib.ListN.{length, getD}
 use lib.Dec.{eqb}
 use Rattle.formats.specs.Format.{V1}
 use Rattle.lists.proofs.Tests.{cases, never-both, and-left, and-right, or-left, or-right}
+use Rattle.lists.specs.Runs.{foldl, everyAlong}
 use Rattle.stamps.specs.declared.Mark.{Mark}
 use Rattle.commands.specs.declared.Command.{Command}
 use Rattle.commands.specs.Command.{isWrite, writesTranslation}
@@ -444,7 +445,7 @@ turned-next ruled y (own d m) c j w b h =
 
 turned-run : (ruled : ℕ → Bool) (y : Desks) (c : ℕ → Bool) (steps : List DeskStep) → Joint ruled y → JointTurned ruled y c → AllDeskSteps steps → lawfulDeskSteps ruled y steps ≡ true
     → JointTurned ruled (afterDeskSteps y steps) (desksCurrentAlong y c steps)
-unfolding afterDeskSteps lawfulDeskSteps desksCurrentAlong
+unfolding foldl everyAlong desksCurrentAlong
 turned-run ruled y c [] j w b h = w
 turned-run ruled y c (m ∷ steps) j w b h =
     let now = and-left (lawfulDeskStep ruled y m) (lawfulDeskSteps ruled (afterDeskStep y m) steps) h in

@@ -13,6 +13,7 @@ use Rattle.formats.specs.Format.{V1}
 use Rattle.lists.specs.Parts.{part, splice, tabulate, concatMap, every, zeros}
 use Rattle.lists.specs.Le.{le, toLe}
 use Rattle.lists.specs.Table.{all, allFrom}
+use Rattle.lists.specs.Runs.{foldl, everyAlong}
 use Rattle.commands.specs.Command.{wellFormed}
 use Rattle.commands.specs.Bytes.{fieldsOf, payload, formed, commandBytes}
 use Rattle.guard.specs.Entry.{entrySound}
@@ -49,7 +50,7 @@ unfolding shapeOk all allFrom
 shape-two = tt
 
 beginning : Moment 5 atFirst
-unfolding lawfulAll afterSteps
+unfolding everyAlong foldl
 beginning =
     record {
       image = fresh V1 2 16;
@@ -70,7 +71,7 @@ unfolding stepsTest stepTest sentTest belowTest commandBytes toLe
 committing-bytes = refl
 
 committed : Moment 5 (afterSteps 5 atFirst committing)
-unfolding lawfulAll afterSteps afterStep withUpdates rewritten due stored puts lineBytes stores appended shaped lastBegun opened follows total startAt
+unfolding everyAlong foldl afterStep withUpdates rewritten due stored puts lineBytes stores appended shaped lastBegun opened follows total startAt
     recordAt recordOk goodLog records serve serveBy stepped sound headerSound cardSound translationSound tailZero decode cardAt entryAt readEntry
     encode bodies pad entryBytes header shapeOk fresh replied raise entrySound commandBytes formed payload fieldsOf wellFormed all allFrom le toLe
     part splice tabulate concatMap every zeros
@@ -133,7 +134,7 @@ abbrev all-first : Desks
 all-first = desksOpening (fresh V1 2 16) (λ (d : ℕ). emptyLog 64)
 
 all-begin : DesksMoment but0 all-first
-unfolding lawfulDeskSteps afterDeskSteps
+unfolding everyAlong foldl
 all-begin =
     record {
       image = fresh V1 2 16;

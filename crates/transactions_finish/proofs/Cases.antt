@@ -7,6 +7,7 @@ use Rattle.formats.specs.Format.{V1}
 use Rattle.lists.specs.Parts.{part, splice, tabulate, concatMap, every, zeros}
 use Rattle.lists.specs.Le.{le, toLe}
 use Rattle.lists.specs.Table.{all, allFrom}
+use Rattle.lists.specs.Runs.{foldl, everyAlong}
 use Rattle.commands.specs.Command.{wellFormed}
 use Rattle.commands.specs.Bytes.{fieldsOf, payload, formed, commandBytes}
 use Rattle.guard.specs.Entry.{entrySound}
@@ -31,14 +32,14 @@ use Rattle.transactions_finish.specs.Finish.{linesDue, cardsDue, ownDoin
 use Rattle.transactions_finish.specs.Cases.{halfDone, halfDoneIn, outlookIn, outlook, FinishRuns}
 
 is-enough : outlookIn (halfDoneIn 32) ≡ outlook true
-unfolding linesDue cardsDue ownDoings originalsDue afterDoings allAsTold afterDoing firstDue lastDue nextStep afterSteps afterStep withUpdates rewritten due
+unfolding linesDue cardsDue ownDoings originalsDue foldl everyAlong afterDoing firstDue lastDue nextStep afterStep withUpdates rewritten due
     stored puts lineBytes stores appended shaped lastBegun opened follows total startAt recordAt recordOk goodLog records serve serveBy stepped sound
     headerSound cardSound translationSound tailZero decode cardAt entryAt readEntry encode bodies pad entryBytes header shapeOk fresh replied raise
     entrySound commandBytes formed payload fieldsOf wellFormed all allFrom le toLe part splice tabulate concatMap every zeros
 is-enough = refl
 
 is-short : outlookIn (halfDoneIn 31) ≡ outlook false
-unfolding linesDue cardsDue ownDoings originalsDue afterDoings allAsTold afterDoing firstDue lastDue nextStep afterSteps afterStep withUpdates rewritten due
+unfolding linesDue cardsDue ownDoings originalsDue foldl everyAlong afterDoing firstDue lastDue nextStep afterStep withUpdates rewritten due
     stored puts lineBytes stores appended shaped lastBegun opened follows total startAt recordAt recordOk goodLog records serve serveBy stepped sound
     headerSound cardSound translationSound tailZero decode cardAt entryAt readEntry encode bodies pad entryBytes header shapeOk fresh replied raise
     entrySound commandBytes formed payload fieldsOf wellFormed all allFrom le toLe part splice tabulate concatMap every zeros
@@ -49,7 +50,7 @@ unfolding stepsTest stepTest sentTest pairsTest belowTest commandBytes toLe
 are-bytes = refl
 
 are-lawful : lawfulAll 5 (oneDeskOpening (fresh V1 2 16) (emptyLog 32)) halfDone ≡ true
-unfolding lawfulAll afterSteps afterStep withUpdates rewritten due stored puts lineBytes stores appended shaped lastBegun opened follows total startAt
+unfolding everyAlong foldl afterStep withUpdates rewritten due stored puts lineBytes stores appended shaped lastBegun opened follows total startAt
     recordAt recordOk goodLog records serve serveBy stepped sound headerSound cardSound translationSound tailZero decode cardAt entryAt readEntry
     encode bodies pad entryBytes header shapeOk fresh replied raise entrySound commandBytes formed payload fieldsOf wellFormed all allFrom le toLe
     part splice tabulate concatMap every zeros

@@ -13,6 +13,7 @@ use Rattle.formats.specs.Format.{V1}
 use Rattle.lists.specs.Parts.{every}
 use Rattle.lists.proofs.Every.{every-in, every-out}
 use Rattle.lists.proofs.Tests.{cases, never-both, and-in, and-left, and-right, or-right, all-out, from-T}
+use Rattle.lists.specs.Runs.{foldl}
 use Rattle.stamps.specs.Stamp.{stampT}
 use Rattle.commands.specs.Command.{Language, isWrite}
 use Rattle.guard.specs.Judge.{lastEdition}
@@ -71,7 +72,7 @@ own-one d z (dropping k) o = absurd (never-both o refl)
 own-one d z falling o = absurd (never-both o refl)
 
 own-meant : (d : ℕ) (z : Follower) (doings : List Doing) → ownDoings doings ≡ true → afterDoings d z doings .desk .meant ≡ z .desk .meant
-unfolding ownDoings afterDoings
+unfolding ownDoings foldl
 own-meant d z [] o = refl
 own-meant d z (a ∷ doings) o =
     own-meant d (afterDoing d z a) doings (and-right (ownDoing a) (ownDoings doings) o) ∙ own-one d z a (and-left (ownDoing a) (ownDoings doings) o)

@@ -12,6 +12,7 @@ use lib.Dec.{eqb, ltb, leb}
 use Rattle.formats.specs.Format.{V1}
 use Rattle.lists.specs.Parts.{every}
 use Rattle.lists.proofs.Tests.{cases, and-left, and-right}
+use Rattle.lists.specs.Runs.{foldl, everyAlong}
 use Rattle.image.specs.Image.{Card, Cards, noCard, encode, decode}
 use Rattle.store_model.specs.Words.{Sent}
 use Rattle.store_model.specs.Claims.{SentBytes}
@@ -115,7 +116,7 @@ module _ (d : ℕ) (y : OneDesk) (w : Kept d y) (q : Bare y) where
   bare-next renew b h = bare-renew
 
 bare-run : (d : ℕ) (y : OneDesk) (steps : List Step) → Kept d y → Bare y → AllSteps steps → lawfulAll d y steps ≡ true → Bare (afterSteps d y steps)
-unfolding afterSteps lawfulAll
+unfolding foldl everyAlong
 bare-run d y [] w q b h = q
 bare-run d y (m ∷ steps) w q b h =
     let now = and-left (lawful d y m) (lawfulAll d (afterStep d y m) steps) h in

@@ -12,6 +12,7 @@ use Rattle.formats.specs.Format.{V1}
 use Rattle.lists.specs.Parts.{Bytes}
 use Rattle.lists.specs.Table.{settled}
 use Rattle.lists.proofs.Tests.{and-in, and-left, and-right, or-left, or-right, eqb-comm}
+use Rattle.lists.specs.Runs.{foldl, everyAlong}
 use Rattle.stamps.specs.Stamp.{stampT, largerOfEach}
 use Rattle.stamps.specs.declared.Pair.{Pair}
 use Rattle.stamps.specs.declared.Mark.{Mark}
@@ -70,16 +71,16 @@ pub record Path (d : ℕ) (z end : Follower) : Type 0 where
   pub led : afterDoings d z doings ≡ end
 
 pub path-none : (d : ℕ) (z : Follower) → Path d z z
-unfolding ownDoings allAsTold afterDoings
+unfolding ownDoings everyAlong foldl
 path-none d z = record { doings = []; bytes = tt; own = refl; told = refl; led = refl }
 
 pub path-more : (d : ℕ) (z end : Follower) (a : Doing) → DoingBytes a → ownDoing a ≡ true → asTold d z a ≡ true → Path d (afterDoing d z a) end → Path d z end
-unfolding ownDoings allAsTold afterDoings
+unfolding ownDoings everyAlong foldl
 path-more d z end a b o t p = record { doings = a ∷ p .doings; bytes = (b, p .bytes); own = and-in o (p .own); told = and-in t (p .told); led = p .led }
 
 path-onto : (d : ℕ) (z mid end : Follower) (doings : List Doing) → AllDoings doings → ownDoings doings ≡ true → allAsTold d z doings ≡ true → afterDoings d z doings ≡ mid
     → Path d mid end → Path d z end
-unfolding ownDoings allAsTold afterDoings
+unfolding ownDoings everyAlong foldl
 path-onto d z mid end [] b o t e p = subst (λ (w : Follower). Path d w end) (sym e) p
 path-onto d z mid end (a ∷ doings) b o t e p =
     path-more d z end a (b .0) (and-left (ownDoing a) (ownDoings doings) o) (and-left (asTold d z a) (allAsTold d (afterDoing d z a) doings) t)

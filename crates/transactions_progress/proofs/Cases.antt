@@ -3,6 +3,7 @@ use mathlib.Core.Path.{refl}
 use Rattle.lists.specs.Parts.{part, splice, tabulate, concatMap, every, zeros}
 use Rattle.lists.specs.Le.{le, toLe}
 use Rattle.lists.specs.Table.{all, allFrom}
+use Rattle.lists.specs.Runs.{foldl, everyAlong}
 use Rattle.commands.specs.Command.{wellFormed}
 use Rattle.commands.specs.Bytes.{fieldsOf, payload, formed, commandBytes}
 use Rattle.guard.specs.Entry.{entrySound}
@@ -30,7 +31,7 @@ unfolding originalsDue appendedAll recovered recovering recoveryStep recoverySen
 finish-cases = record { room = refl; cards = refl; sides = refl; editions = refl; pairs = refl }
 
 pub handover-cases : HandoverCases
-unfolding lawfulActings afterActings afterActing afterStep withUpdates rewritten due stored puts lineBytes stores appended shaped lastBegun opened
+unfolding everyAlong foldl afterActing afterStep withUpdates rewritten due stored puts lineBytes stores appended shaped lastBegun opened
     follows total startAt recordAt recordOk goodLog records serve serveBy stepped sound headerSound cardSound translationSound tailZero decode cardAt
     entryAt readEntry encode bodies pad entryBytes header shapeOk fresh replied raise entrySound commandBytes formed payload fieldsOf wellFormed all
     allFrom le toLe part splice tabulate concatMap every zeros

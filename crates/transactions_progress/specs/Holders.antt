@@ -7,6 +7,7 @@ use mathlib.Core.Path.{_≡_}
 use mathlib.Core.List.{List, [], _∷_}
 use mathlib.Core.Bool.{Bool, true, false, cond, not, _&&_}
 use lib.Dec.{eqb}
+use Rattle.lists.specs.Runs.{foldl, everyAlong}
 use Rattle.transactions.specs.System.{OneDesk, Holding, unknown, Step, other, order, arrive, append, crash, recover, renew, oneDeskOpening, lawful, afterStep}
 use Rattle.transactions.specs.Claims.{StepBytes, Clean, Blank, Moment}
 
@@ -77,13 +78,11 @@ afterActing d y (comes m) =
       minds = λ e. afterStep d (seenAs e y) m .holds;
     }
 
-unfoldable pub afterActings : ℕ → Holders → List Acting → Holders
-afterActings d y [] = y
-afterActings d y (a ∷ actings) = afterActings d (afterActing d y a) actings
+abbrev pub afterActings : ℕ → Holders → List Acting → Holders
+afterActings d y actings = foldl (afterActing d) y actings
 
-unfoldable pub lawfulActings : ℕ → Holders → List Acting → Bool
-lawfulActings d y [] = true
-lawfulActings d y (a ∷ actings) = lawfulActing d y a && lawfulActings d (afterActing d y a) actings
+abbrev pub lawfulActings : ℕ → Holders → List Acting → Bool
+lawfulActings d y actings = everyAlong (lawfulActing d) (afterActing d) y actings
 
 -- ---- what is claimed
 

@@ -9,6 +9,7 @@ use Rattle.lists.specs.Parts.{part, splice, tabulate, concatMap, every, zeros}
 use Rattle.lists.specs.Le.{le, toLe}
 use Rattle.lists.specs.Table.{all, allFrom}
 use Rattle.lists.proofs.Tests.{and-left, and-right}
+use Rattle.lists.specs.Runs.{foldl, everyAlong}
 use Rattle.commands.specs.Command.{wellFormed}
 use Rattle.commands.specs.Bytes.{fieldsOf, payload, formed, commandBytes}
 use Rattle.guard.specs.Entry.{entrySound}
@@ -51,7 +52,7 @@ unfolding shapeOk all allFrom
 shape-one = tt
 
 pub dealt-by-both : Dealt
-unfolding movesIn stepsIn sendsAlong byRules systemAfter stepTo learnt nextT pairFor proposed lawfulDeskSteps afterDeskSteps afterDeskStep afterStep
+unfolding movesIn stepsIn sendsAlong byRules systemAfter stepTo learnt nextT pairFor proposed everyAlong foldl afterDeskStep afterStep
     withUpdates shownBy rewritten due recovering recoveryStep recoverySent stored puts lineBytes stores appended shaped lastBegun opened follows total
     startAt recordAt recordOk goodLog records serve serveBy stepped sound headerSound cardSound translationSound tailZero decode cardAt entryAt
     readEntry encode bodies pad entryBytes header shapeOk fresh replied raise entrySound commandBytes formed payload fieldsOf wellFormed all allFrom

@@ -11,6 +11,7 @@ use Rattle.lists.specs.Parts.{every}
 use Rattle.formats.specs.Format.{Format, V1}
 use Rattle.lists.specs.Table.{settled}
 use Rattle.lists.proofs.Tests.{never-both, and-left, and-right, and-in, or-right}
+use Rattle.lists.specs.Runs.{foldl, everyAlong}
 use Rattle.stamps.specs.Stamp.{exclusive}
 use Rattle.stamps.specs.declared.Pair.{Pair}
 use Rattle.commands.specs.Command.{verifier, update}
@@ -216,7 +217,7 @@ record Runs (z : Desks) (deals : List Deal) (y : System) : Type 0 where
 
 runs : (ruled : ℕ → Bool) (z : Desks) (deals : List Deal) (y : System) → Joint ruled z → AllDeskSteps (stepsIn deals) → lawfulDeskSteps ruled z (stepsIn deals) ≡ true → sendsAlong deals ≡ true
     → Has (z .image) y → Runs z deals y
-unfolding movesIn stepsIn sendsAlong lawfulDeskSteps afterDeskSteps systemAfter
+unfolding movesIn stepsIn sendsAlong everyAlong foldl systemAfter
 runs ruled z [] y j b h e w = record { fits = tt; has = w }
 runs ruled z (beside m ∷ deals) y j b h e w =
     let now = and-left (sendsNone m) (sendsAlong deals) e in

@@ -12,6 +12,7 @@ use Rattle.formats.specs.Format.{V1}
 use Rattle.lists.specs.Parts.{part}
 use Rattle.lists.specs.Le.{le, toLe}
 use Rattle.lists.specs.Table.{all, allFrom}
+use Rattle.lists.specs.Runs.{everyAlong}
 use Rattle.stamps.specs.Stamp.{stamp, exclusive, noMark}
 use Rattle.commands.specs.Command.{original}
 use Rattle.commands.specs.Bytes.{fieldsOf, commandBytes}
@@ -71,7 +72,7 @@ unfolding shapeOk all allFrom
 shape-one = tt
 
 idle : ByBoth 1 16 twoPlaces nobody (λ d. emptyLog 0) []
-unfolding movesIn stepsIn sendsAlong byRules lawfulDeskSteps
+unfolding movesIn stepsIn sendsAlong byRules everyAlong
 idle = record { shape = shape-one; nobody = refl; blank = λ d. zeros-blank 2201 (omega arith) (omega arith); bytes = tt; sends = refl; moves = refl; steps = refl }
 
 idle-moment : DesksMoment nobody (afterDeskSteps (desksOpening (fresh V1 1 16) (λ d. emptyLog 0)) (stepsIn []))
