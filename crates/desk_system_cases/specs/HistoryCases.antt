@@ -8,6 +8,7 @@ use mathlib.Core.Bool.{true, false}
 use lib.ListN.{take}
 use Rattle.formats.specs.Format.{V1, V2}
 use Rattle.stamps.specs.Stamp.{stamp, shared, exclusive}
+use Rattle.lock_queue.specs.Queue.{waiting}
 use Rattle.lock_queue.specs.Requests.{asks}
 use Rattle.store_model.specs.Words.{Event}
 use Rattle.store_model.specs.Claims.{Intruded}
@@ -16,7 +17,7 @@ use Rattle.redo_log.specs.Log.{LogRecord, goodLog}
 use Rattle.redo_log_claims.specs.Claims.{appendedAll}
 use Rattle.redo_log_claims.specs.Cases.{beginOf, updateOf, commitOf, emptyLog}
 use Rattle.desk_system.specs.System.{Move, begin, propose, atQueue, send, recoverWith, convert, appendTo, renewLog, opening, systemAfter, byRules}
-use Rattle.desk_system_cases.specs.Trials.{deskOne, twoPlaces, singleCard, waits, readUnder, pairsFor, send2, heard}
+use Rattle.desk_system_cases.specs.Trials.{deskOne, twoPlaces, singleCard, readUnder, pairsFor, send2, heard}
 
 -- A transaction of both texts of card 0, and a log that holds it.
 abbrev pub bothUpdates : List LogRecord
@@ -30,8 +31,8 @@ lived =
     -- desk 1 asks two managers, under (0, 0.1.0)
     begin deskOne
     ∷ propose deskOne 0 exclusive
-    ∷ atQueue 0 0 2 (asks (waits exclusive 0 (stamp 0 1 0)))
-    ∷ atQueue 0 1 2 (asks (waits exclusive 0 (stamp 0 1 0)))
+    ∷ atQueue 0 0 2 (asks (waiting exclusive 0 (stamp 0 1 0)))
+    ∷ atQueue 0 1 2 (asks (waiting exclusive 0 (stamp 0 1 0)))
     -- it logs a transaction: an append is cut and made again, and the commit is cut before its last store
     ∷ appendTo 1 99 (beginOf 1)
     ∷ appendTo 1 10 (updateOf 0 1 text205)

@@ -10,7 +10,7 @@ use lib.Ieee.{binary64, ofBits}
 use Rattle.formats.specs.Format.{V1, V2}
 use Rattle.stamps.specs.Stamp.{stamp, shared, exclusive, noPair}
 use Rattle.stamps.specs.declared.Pair.{Pair}
-use Rattle.lock_queue.specs.Queue.{noWaiting, standing, holds}
+use Rattle.lock_queue.specs.Queue.{noWaiting, waiting, standing, holds}
 use Rattle.lock_queue.specs.Requests.{asks, leaves, lapses}
 use Rattle.lock_queue.specs.declared.LeaseExpiry.{LeaseExpiry}
 use Rattle.lock_queue.specs.declared.Waiting.{Waiting}
@@ -75,9 +75,6 @@ leave card desk = atQueue card 0 2 (leaves desk)
 abbrev pub singleCard : System
 singleCard = opening V1 1 16 twoPlaces blankLogs
 
-abbrev pub waits : ℕ → ℕ → ℕ → Waiting
-waits mode s x = record { mode = mode; pair = pair s x }
-
 -- A read of card 0's original under a pair; a write of it is `writeOriginal`.
 abbrev pub readUnder : ℕ → ℕ → Sent
 readUnder s x = request 1 shared (pair s x) 0 [] (long 3)
@@ -94,15 +91,15 @@ story =
     ∷ begin deskTwo
     -- desk 1 reads under (0.1.0, 0)
     ∷ propose deskOne 0 shared
-    ∷ ask 0 (waits shared (stamp 0 1 0) 0)
+    ∷ ask 0 (waiting shared (stamp 0 1 0) 0)
     ∷ send (readUnder (stamp 0 1 0) 0)
     -- desk 2 knows nothing, asks exclusive under (0, 0.2.0) and is denied; with the denial's pair it proposes (0.1.0,
     -- 1.2.0), and writes
     ∷ propose deskTwo 0 exclusive
-    ∷ ask 0 (waits exclusive 0 (stamp 0 2 0))
+    ∷ ask 0 (waiting exclusive 0 (stamp 0 2 0))
     ∷ learn deskTwo 0 (pair (stamp 0 1 0) 0)
     ∷ propose deskTwo 0 exclusive
-    ∷ ask 0 (waits exclusive (stamp 0 1 0) (stamp 1 2 0))
+    ∷ ask 0 (waiting exclusive (stamp 0 1 0) (stamp 1 2 0))
     ∷ leave 0 deskOne
     ∷ send (writeOriginal (stamp 0 1 0) (stamp 1 2 0) text205)
     -- desk 1's session is stale now; it learns, and reads under desk 2's exclusive stamp with a larger s
@@ -110,14 +107,14 @@ story =
     ∷ learn deskOne 0 (pair (stamp 0 1 0) (stamp 1 2 0))
     ∷ leave 0 deskTwo
     ∷ propose deskOne 0 shared
-    ∷ ask 0 (waits shared (stamp 1 1 0) (stamp 1 2 0))
+    ∷ ask 0 (waiting shared (stamp 1 1 0) (stamp 1 2 0))
     ∷ send (readUnder (stamp 1 1 0) (stamp 1 2 0))
     -- a malformed ask may carry anything; an old answer to desk 1 is learnt late, by desk 2
-    ∷ ask 0 (waits 3 0 0)
+    ∷ ask 0 (waiting 3 0 0)
     ∷ learn deskTwo 0 (pair (stamp 0 1 0) 0)
     -- desk 1 upgrades, and writes: the command relies on its shared session and opens the exclusive one
     ∷ propose deskOne 0 exclusive
-    ∷ ask 0 (waits exclusive (stamp 1 1 0) (stamp 2 1 0))
+    ∷ ask 0 (waiting exclusive (stamp 1 1 0) (stamp 2 1 0))
     ∷ send (writeOpening (pair (stamp 1 1 0) (stamp 1 2 0)) (pair (stamp 1 1 0) (stamp 2 1 0)) text401)
     -- malformed bytes are free too; desk 2's write comes again, late
     ∷ send (record { command = 1 ∷ 2 ∷ 0 ∷ []; lent = [] })
@@ -126,13 +123,13 @@ story =
     ∷ lose 0 0 (noWaiting ∷ noWaiting ∷ [])
     ∷ begin deskTwoAgain
     ∷ propose deskTwoAgain 0 exclusive
-    ∷ ask 0 (waits exclusive 0 (stamp 0 2 1))
+    ∷ ask 0 (waiting exclusive 0 (stamp 0 2 1))
     ∷ send (writeOriginal 0 (stamp 0 2 1) text205)
     -- it learns from the guard's reply, leaves, and reads what desk 1 wrote
     ∷ learn deskTwoAgain 0 (pair (stamp 1 1 0) (stamp 2 1 0))
     ∷ propose deskTwoAgain 0 shared
     ∷ leave 0 deskTwoAgain
-    ∷ ask 0 (waits shared (stamp 1 2 1) (stamp 2 1 0))
+    ∷ ask 0 (waiting shared (stamp 1 2 1) (stamp 2 1 0))
     ∷ send (readUnder (stamp 1 2 1) (stamp 2 1 0))
     ∷ []
 
@@ -221,7 +218,7 @@ longStory =
     ∷ begin deskTwo
     -- desk 1 asks exclusive under (0, 0.1.0) and recovers under it, twice
     ∷ propose deskOne 0 exclusive
-    ∷ atQueue 0 0 2 (asks (waits exclusive 0 (stamp 0 1 0)))
+    ∷ atQueue 0 0 2 (asks (waiting exclusive 0 (stamp 0 1 0)))
     ∷ recoverWith (pairsFor 0 (stamp 0 1 0)) committed 0
     ∷ recoverWith (pairsFor 0 (stamp 0 1 0)) committed 0
     -- no log at all, and no pair: nothing is sent, or what is malformed
@@ -234,9 +231,9 @@ longStory =
     ∷ atQueue 0 0 2 (lapses (expiry 1 0x3ff0_0000_0000_0000 0x3ff0_0000_0000_0000))
     -- the queue is lost and begins again with three places, then with 33, which are too many
     ∷ lose 0 0 (replicate 3 noWaiting)
-    ∷ atQueue 0 0 3 (asks (waits exclusive 0 (stamp 0 1 0)))
+    ∷ atQueue 0 0 3 (asks (waiting exclusive 0 (stamp 0 1 0)))
     ∷ lose 0 0 (replicate 33 noWaiting)
-    ∷ atQueue 0 0 33 (asks (waits exclusive 0 (stamp 0 1 0)))
+    ∷ atQueue 0 0 33 (asks (waiting exclusive 0 (stamp 0 1 0)))
     -- desk 2 learns from the guard's reply, the store is converted, into too few bytes and into enough, and once more
     ∷ learn deskTwo 0 (pair 0 (stamp 0 1 0))
     ∷ convert 143
@@ -295,8 +292,8 @@ manyManagers =
     ∷ propose deskOne 0 exclusive
     ∷ propose deskTwo 0 exclusive
     ∷ propose deskThree 0 exclusive
-    ∷ askOf 0 (waits exclusive 0 (stamp 0 1 0))
-    ∷ askOf 1 (waits exclusive 0 (stamp 0 2 0))
+    ∷ askOf 0 (waiting exclusive 0 (stamp 0 1 0))
+    ∷ askOf 1 (waiting exclusive 0 (stamp 0 2 0))
     ∷ send (writeOriginal 0 (stamp 0 1 0) text205)
     ∷ send (writeOriginal 0 (stamp 0 2 0) text401)
     -- desk 1 still holds at its manager, but its session is over
@@ -304,7 +301,7 @@ manyManagers =
     ∷ send (writeOriginal 0 (stamp 0 3 0) text205)
     ∷ send (writeOriginal 0 (stamp 0 2 0) text401)
     ∷ lose 0 1 (noWaiting ∷ noWaiting ∷ [])
-    ∷ askOf 1 (waits exclusive 0 (stamp 0 1 0))
+    ∷ askOf 1 (waiting exclusive 0 (stamp 0 1 0))
     -- what one manager tells is learnt as what another does
     ∷ learn deskOne 0 (pair 0 (stamp 0 2 0))
     ∷ []
@@ -343,7 +340,7 @@ pub record BrokenWith (lead : List Move) (wrong : System → System) (rest : Lis
 
 -- Desk 3 asks under (0.3.0, 0), so that a pair with an s and no x is told.
 abbrev pub threeAsks : List Move
-threeAsks = begin deskThree ∷ propose deskThree 0 shared ∷ ask 0 (waits shared (stamp 0 3 0) 0) ∷ []
+threeAsks = begin deskThree ∷ propose deskThree 0 shared ∷ ask 0 (waiting shared (stamp 0 3 0) 0) ∷ []
 
 -- Desk 1 writes under (0, 0.1.0).
 abbrev pub oneWrites : List Move
@@ -373,14 +370,14 @@ twoBelow = propose deskTwo 0 shared ∷ send (readUnder (stamp 0 2 0) (stamp 0 1
 
 -- Desk 1 proposes exclusive for card 1, which no command names, and asks there.
 abbrev pub oneElsewhere : List Move
-oneElsewhere = begin deskOne ∷ propose deskOne 1 exclusive ∷ ask 1 (waits exclusive 0 (stamp 0 1 0)) ∷ []
+oneElsewhere = begin deskOne ∷ propose deskOne 1 exclusive ∷ ask 1 (waiting exclusive 0 (stamp 0 1 0)) ∷ []
 
 -- Desk 3 asks for card 1, and desk 1 proposes (0.3.0, 0.1.0) for card 1.
 abbrev pub aboveElsewhere : List Move
 aboveElsewhere =
     begin deskThree
     ∷ propose deskThree 1 shared
-    ∷ ask 1 (waits shared (stamp 0 3 0) 0)
+    ∷ ask 1 (waiting shared (stamp 0 3 0) 0)
     ∷ learn deskOne 1 (pair (stamp 0 3 0) 0)
     ∷ propose deskOne 1 exclusive
     ∷ []
@@ -406,7 +403,7 @@ oneFarAbove =
     begin deskThree
     ∷ propose deskThree 0 shared
     ∷ propose deskThree 0 shared
-    ∷ ask 0 (waits shared (stamp 1 3 0) 0)
+    ∷ ask 0 (waiting shared (stamp 1 3 0) 0)
     ∷ begin deskOne
     ∷ learn deskOne 0 (pair (stamp 1 3 0) 0)
     ∷ propose deskOne 0 exclusive
@@ -428,7 +425,7 @@ pub record RulesNeeded : Type 0 where
   -- rule 10.8: an ask under a pair that nobody proposed, at a queue that was just lost: it is told, and learnt
   pub never-proposed-ask :
       BrokenBy (threeAsks ++ (begin deskOne ∷ begin deskTwo ∷ lose 0 0 (noWaiting ∷ noWaiting ∷ []) ∷ []))
-      (ask 0 (waits exclusive 0 (stamp 0 1 0)))
+      (ask 0 (waiting exclusive 0 (stamp 0 1 0)))
       (learn deskTwo 0 (pair 0 (stamp 0 1 0)) ∷ twoBelow ++ oneAbove)
   -- rule 10.1: desk 2 learns an x without the s beside it; a pair that was told for another card
   pub half-learnt :
@@ -459,4 +456,4 @@ pub record RulesNeeded : Type 0 where
   pub queued :
       BrokenWith []
       (withQueue 0 0 (record { places = noWaiting ∷ noWaiting ∷ []; count = 0; largest = pair 0 (stamp 0 1 0) }))
-      (twoLearnsAt (ask 0 (waits shared (stamp 0 2 0) 0)) ++ (lose 0 0 (noWaiting ∷ noWaiting ∷ []) ∷ oneFarAbove))
+      (twoLearnsAt (ask 0 (waiting shared (stamp 0 2 0) 0)) ++ (lose 0 0 (noWaiting ∷ noWaiting ∷ []) ∷ oneFarAbove))

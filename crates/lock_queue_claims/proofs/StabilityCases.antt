@@ -19,7 +19,7 @@ use Rattle.lock_queue_claims.specs.Traces.{queueAfter, granted}
 use Rattle.lock_queue_claims.specs.Trials.{guest, numbers}
 use Rattle.lock_queue_claims.specs.LeaseCases.{oneStands, silent}
 use Rattle.lock_queue_claims.specs.Stability.{inFront}
-use Rattle.lock_queue_claims.specs.StabilityCases.{threeStand, others, LockCases, LeaseTimes}
+use Rattle.lock_queue_claims.specs.StabilityCases.{threeStand, others, LockCases}
 use Rattle.lock_queue_claims.proofs.Clock.{over-for-good, waits-period}
 use Rattle.lock_queue_claims.proofs.Stability.{somebody-holds, lock-kept, no-overtaking}
 
@@ -40,10 +40,6 @@ lock-cases =
       lapsed = refl;
       next = refl;
     }
-
-pub lease-times : LeaseTimes
-unfolding ofBits ofInt wholeFloat half add sub mul div neg lt le
-lease-times = record { over = refl; sooner = refl; last = refl; waits-45 = refl; waits-30 = refl }
 
 -- ---- the theorems, used
 
