@@ -35,6 +35,7 @@ use Rattle.history.proofs.Raised.{entry-here}
 use Rattle.history_claims.specs.Claims.{keptAfter, engineEvent, engineEvents, engineTrace, gave22}
 use Rattle.history_claims.specs.Swaps.{swap, Apart, SameSequences}
 use Rattle.history_claims.specs.Cases.{KeptLimits, again, TwoHundred, wrote205, WorkedBytes, onCard, malformed, inLanguage3, gotLanguage3, ApartCases}
+use Rattle.history_claims.specs.Edges.{HistoryEdges, HistoryWorked}
 use Rattle.store_model.proofs.ByTest.{bytes-by, sent-bytes}
 use Rattle.history_claims.proofs.Claims.{equals-guard, first-full}
 use Rattle.history_claims.proofs.Lent.{engine-over-bytes, lent-equals-guard}
@@ -42,11 +43,11 @@ use Rattle.history_claims.proofs.Swaps.{swapping}
 use Rattle.history_claims.proofs.Sequences.{sequences}
 use Rattle.numbers.specs.Numbers.{HISTORY-FULL}
 
-pub kept-limits : KeptLimits
+kept-limits : KeptLimits
 unfolding concatMap payload
 kept-limits = record { many = refl; too-many = refl; heavy = refl; too-heavy = refl }
 
-pub worked-bytes : WorkedBytes
+worked-bytes : WorkedBytes
 unfolding historyServe keptIn bytesBy usedBy deduced deducedBy entryFrom textFrom highest timesWritten replied raise commands commandsWithin endOf
     endWithin whole extent commandBytes formed payload fieldsOf wellFormed all allFrom le toLe part splice concatMap zeros
 worked-bytes =
@@ -65,6 +66,23 @@ worked-bytes =
       told-second = refl;
       late-bytes = refl;
       late-reply = refl;
+    }
+
+-- What is worked out of the kept commands, field by field.
+history-edges : HistoryEdges
+unfolding highest timesWritten textFrom entryFrom deducedBy deduced replied fieldsOf payload formed commandBytes wellFormed all allFrom le toLe part splice concatMap zeros
+history-edges =
+    record {
+      entry0 = refl;
+      entry1 = refl;
+      entry2 = refl;
+      texts = refl;
+      translations = refl;
+      full = refl;
+      reply = refl;
+      untouched = refl;
+      two-cards = refl;
+      weights = refl;
     }
 
 -- ---- one command again and again
@@ -168,7 +186,7 @@ shape = tt
 zeros-long : length (replicate {A = ℕ} historySize 0) ≡ historySize
 zeros-long = length-replicate {A = ℕ} historySize 0
 
-pub two-hundred : TwoHundred
+two-hundred : TwoHundred
 unfolding engineTrace
 two-hundred =
     record {
@@ -270,7 +288,7 @@ unfolding run serve serveBy stepped sound headerSound cardSound translationSound
     header shapeOk fresh replied raise entrySound commandBytes formed payload fieldsOf wellFormed all allFrom le toLe part splice tabulate concatMap every zeros
 accepted-2 = refl
 
-pub apart-cases : ApartCases
+apart-cases : ApartCases
 unfolding swap commandBytes formed fieldsOf wellFormed all allFrom le toLe part splice zeros
 apart-cases =
     record {
@@ -290,3 +308,6 @@ apart-cases =
       languages-apart = swapping V2 (fresh V2 2 16) fresh-bytes-2 inLanguage3 all-bytes-2 0 apart-2;
       languages-accepted = accepted-2;
     }
+
+pub history-worked : HistoryWorked
+history-worked = (kept-limits, (two-hundred, (worked-bytes, (history-edges, apart-cases))))
