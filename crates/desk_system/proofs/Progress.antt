@@ -278,7 +278,7 @@ proposal-or-spent k mode some which =
     fair (inl e) = rw (e, ne-eqb (k .desk) 0 some)
     fair (inr e) = rw (e, ne-eqb (k .desk) 0 some)
 
-module _ (y : System) (who card mode : ℕ) (width : who < 4294967296) (valid-s : stampValid (y .known who card .s) ≡ true) (valid-x : stampValid (y .known who card .x) ≡ true)
+module _ (y : System) (who card mode : ℕ) (width : who < 4294967296) (valid-s : stampValid (y .desks .known who card .s) ≡ true) (valid-x : stampValid (y .desks .known who card .x) ≡ true)
     (fine : proposed (knows y who card) mode .number ≡ 0 → Fine (knows y who card) mode) where
   own-pair : OwnPair y who card mode
   own-pair =
@@ -308,19 +308,20 @@ module _ (y : System) (who card mode : ℕ) (width : who < 4294967296) (valid-s 
       relied p q vs vx s x c is-p is-q = checks c is-p is-q vs vx (le-leb (p .s) (q .s) s) (le-leb (p .x) (q .x) x)
 
       formed-pairs : proposed (knows y who card) mode .number ≡ 0 → Fine (knows y who card) mode → (c : Command) → c .mode ≡ mode → update c ≡ proposed (knows y who card) mode .pair
-          → (verifier c ≡ proposed (knows y who card) mode .pair) ⊎ (verifier c ≡ y .known who card)
+          → (verifier c ≡ proposed (knows y who card) mode .pair) ⊎ (verifier c ≡ y .desks .known who card)
           → all (pairChecks c) ≡ true
       formed-pairs e g c mode-is pair-is relies =
           let session = subst (λ (m : ℕ). all (sessionChecks m (update c)) ≡ true) (sym mode-is) (subst (λ (p : Pair). all (sessionChecks mode p) ≡ true) (sym pair-is) (g .rules)) in
           let rules = session-rules mode (proposed (knows y who card) mode .pair) (g .rules) in
           all-append (sessionChecks (c .mode) (update c)) (verifierChecks c) ∙ and-in session (pick rules relies)
         where
-          pick : SessionRules mode (proposed (knows y who card) mode .pair) → (verifier c ≡ proposed (knows y who card) mode .pair) ⊎ (verifier c ≡ y .known who card) → all (verifierChecks c) ≡ true
+          pick : SessionRules mode (proposed (knows y who card) mode .pair) → (verifier c ≡ proposed (knows y who card) mode .pair) ⊎ (verifier c ≡ y .desks .known who card)
+              → all (verifierChecks c) ≡ true
           pick rules (inl own) = relied (proposed (knows y who card) mode .pair) (proposed (knows y who card) mode .pair) (rules .s) (rules .x) (omega arith) (omega arith) c own pair-is
           pick rules (inr knew) =
               let up = reaches (knows y who card) mode in
               let made = made-pair (knows y who card) mode e in
-              relied (y .known who card) (pairFor (knows y who card) mode) valid-s valid-x (up .0) (up .1) c knew (pair-is ∙ made)
+              relied (y .desks .known who card) (pairFor (knows y who card) mode) valid-s valid-x (up .0) (up .1) c knew (pair-is ∙ made)
 
 pub own-pairs : OwnPairs
 own-pairs v n c places logs steps r who card mode running =

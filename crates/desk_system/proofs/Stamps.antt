@@ -89,15 +89,15 @@ stamps-last v n c places logs steps r who card mode running e =
     let s = spent (knows y who card) mode e in
     go (s .which) (s .at-end) (kept-finally v n c places logs steps r .knowing who card)
   where
-    go : (mode ≡ shared) ⊎ (mode ≡ exclusive) → lastT ≤ stampT (own mode (finally v n c places logs steps .known who card))
-        → Backed (finally v n c places logs steps .made) card (finally v n c places logs steps .known who card)
-        → 4294967296 ≤ proposalsFor card mode (finally v n c places logs steps .made)
+    go : (mode ≡ shared) ⊎ (mode ≡ exclusive) → lastT ≤ stampT (own mode (finally v n c places logs steps .desks .known who card))
+        → Backed (finally v n c places logs steps .desks .made) card (finally v n c places logs steps .desks .known who card)
+        → 4294967296 ≤ proposalsFor card mode (finally v n c places logs steps .desks .made)
     go (inl m) h b =
-        subst (λ (d : ℕ). 4294967296 ≤ proposalsFor card d (finally v n c places logs steps .made)) (sym m)
-        (counted (b .dated-s) (subst (λ (d : ℕ). lastT ≤ stampT (own d (finally v n c places logs steps .known who card))) m h))
+        subst (λ (d : ℕ). 4294967296 ≤ proposalsFor card d (finally v n c places logs steps .desks .made)) (sym m)
+        (counted (b .dated-s) (subst (λ (d : ℕ). lastT ≤ stampT (own d (finally v n c places logs steps .desks .known who card))) m h))
     go (inr m) h b =
-        subst (λ (d : ℕ). 4294967296 ≤ proposalsFor card d (finally v n c places logs steps .made)) (sym m)
-        (counted (b .dated-x) (subst (λ (d : ℕ). lastT ≤ stampT (own d (finally v n c places logs steps .known who card))) m h))
+        subst (λ (d : ℕ). 4294967296 ≤ proposalsFor card d (finally v n c places logs steps .desks .made)) (sym m)
+        (counted (b .dated-x) (subst (λ (d : ℕ). lastT ≤ stampT (own d (finally v n c places logs steps .desks .known who card))) m h))
 
 -- ---- the guard's limit
 
@@ -266,7 +266,7 @@ pub guard-spends : GuardSpends
 guard-spends v n c places logs steps shape fits card desk start mode doings d i heard e =
     let y = finally v n c places logs steps in
     let r = carried-run v n c (Raised v n c) (raised-carried v n c) (opening v n c places logs) steps fits (raised-fresh v n c shape) in
-    let w = known-within desk start d i (acceptedFor card (y .log)) (y .log) card (heard-within r card) doings heard in
+    let w = known-within desk start d i (acceptedFor card (y .store .trace)) (y .store .trace) card (heard-within r card) doings heard in
     let s = spent (knownBy desk start doings) mode e in
-    let high = either (knownBy desk start doings .pair) mode (mostAhead * acceptedFor card (y .log) + ownMade doings) (s .which) (s .at-end) (w .s) (w .x) in
+    let high = either (knownBy desk start doings .pair) mode (mostAhead * acceptedFor card (y .store .trace) + ownMade doings) (s .which) (s .at-end) (w .s) (w .x) in
     record { raised = high; together = omega (arith, high) }

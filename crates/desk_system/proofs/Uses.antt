@@ -32,5 +32,5 @@ strange : ByRules V1 1 16 many noLogs stranger
 unfolding byRules shapeOk all allFrom
 strange = record { shape = tt; fits = (tt, tt); rules = refl }
 
-strange-premise : premise 0 (commandsIn (finally V1 1 16 many noLogs stranger .log)) ≡ true
+strange-premise : premise 0 (commandsIn (finally V1 1 16 many noLogs stranger .store .trace)) ≡ true
 strange-premise = premise-kept V1 1 16 many noLogs stranger strange 0

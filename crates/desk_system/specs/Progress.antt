@@ -101,7 +101,7 @@ pub record OwnPair (y : System) (who card mode : ℕ) : Type 0 where
   pub sent :
       proposed (knows y who card) mode .number ≡ 0 → (c : Command) → c .mode ≡ mode
       → update c ≡ proposed (knows y who card) mode .pair
-      → (verifier c ≡ proposed (knows y who card) mode .pair) ⊎ (verifier c ≡ y .known who card)
+      → (verifier c ≡ proposed (knows y who card) mode .pair) ⊎ (verifier c ≡ y .desks .known who card)
       → all (pairChecks c) ≡ true
 
 abbrev pub OwnPairs : Type 0
@@ -125,7 +125,7 @@ StampsLast =
     (v : Format) (n c : ℕ) (places : ℕ → ℕ → List Waiting) (logs : ℕ → List ℕ) (steps : List Move) → ByRules v n c places logs steps →
     (who card mode : ℕ) → inUse (finally v n c places logs steps) who ≡ true →
     proposed (knows (finally v n c places logs steps) who card) mode .number ≡ NO-STAMP-LEFT →
-    4294967296 ≤ proposalsFor card mode (finally v n c places logs steps .made)
+    4294967296 ≤ proposalsFor card mode (finally v n c places logs steps .desks .made)
 
 -- What a desk does for one card that listens to the guard alone: it hears a pair, or proposes. Latest first.
 pub data Listening : Type 0 where
@@ -166,6 +166,6 @@ pub record Spends (commands proposals : ℕ) : Type 0 where
 abbrev pub GuardSpends : Type 0
 GuardSpends =
     (v : Format) (n c : ℕ) (places : ℕ → ℕ → List Waiting) (logs : ℕ → List ℕ) (steps : List Move) → T (shapeOk v n c) → AllFit steps →
-    (card desk start mode : ℕ) (doings : List Listening) → desk < 65536 → start < 65536 → heardIn (finally v n c places logs steps .log) card doings ≡ true →
+    (card desk start mode : ℕ) (doings : List Listening) → desk < 65536 → start < 65536 → heardIn (finally v n c places logs steps .store .trace) card doings ≡ true →
     proposed (knownBy desk start doings) mode .number ≡ NO-STAMP-LEFT →
-    Spends (acceptedFor card (finally v n c places logs steps .log)) (ownMade doings)
+    Spends (acceptedFor card (finally v n c places logs steps .store .trace)) (ownMade doings)

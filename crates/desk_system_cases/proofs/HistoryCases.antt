@@ -51,7 +51,7 @@ unfolding byRules systemAfter stepTo sendSteps due recoverySent recoveryStep rec
 lived-through = record { rules = refl; cut = refl; logged = refl; same-bytes = refl; answers = refl; shows = refl; version = refl; goes-on = refl }
 
 -- Requests alone leave demand 3's log.
-only-sent : systemAfter singleCard (map send sentD) .log ≡ traceOf V1 1 16 sentD
+only-sent : systemAfter singleCard (map send sentD) .store .trace ≡ traceOf V1 1 16 sentD
 unfolding systemAfter stepTo traceOf traceFrom imageAfter
 only-sent = refl
 
@@ -74,7 +74,7 @@ blank-log : GoodLog (emptyLog 64)
 unfolding goodLog every
 blank-log = record { good = refl; bytes = bytes-by (emptyLog 64) tt }
 
-few-read : records (finally V1 1 16 twoPlaces blankLogs few .redo 3) ≡ finally V1 1 16 twoPlaces blankLogs few .whole 3
+few-read : records (finally V1 1 16 twoPlaces blankLogs few .logs 3 .bytes) ≡ finally V1 1 16 twoPlaces blankLogs few .logs 3 .whole
 few-read = one-history V1 1 16 twoPlaces blankLogs few few-rules (λ d. blank-log) .read-back 3
 
 -- Against the rules, too: a request that nobody proposed anything for comes first.
@@ -85,5 +85,5 @@ unruled-fits : AllFit unruled
 unfolding commandBytes toLe
 unruled-fits = (sent-bytes (readUnder (stamp 0 1 0) 0) tt tt, few-rules .fits)
 
-unruled-read : records (finally V1 1 16 twoPlaces blankLogs unruled .redo 3) ≡ finally V1 1 16 twoPlaces blankLogs unruled .whole 3
+unruled-read : records (finally V1 1 16 twoPlaces blankLogs unruled .logs 3 .bytes) ≡ finally V1 1 16 twoPlaces blankLogs unruled .logs 3 .whole
 unruled-read = logs-follow V1 1 16 twoPlaces blankLogs unruled unruled-fits (λ d. blank-log) 3 .1

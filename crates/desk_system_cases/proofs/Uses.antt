@@ -147,14 +147,14 @@ told = record { shape = shape; fits = fits; rules = long-story .rules }
 
 -- ---- the long story
 
-long-premise : premise 0 (commandsIn (finally V1 1 16 twoPlaces blankLogs longStory .log)) ≡ true
+long-premise : premise 0 (commandsIn (finally V1 1 16 twoPlaces blankLogs longStory .store .trace)) ≡ true
 long-premise = premise-kept V1 1 16 twoPlaces blankLogs longStory told 0
 
-long-store : StoreOf V1 1 16 (finally V1 1 16 twoPlaces blankLogs longStory)
+long-store : StoreOf V1 1 16 (finally V1 1 16 twoPlaces blankLogs longStory .store)
 long-store = store-follows V1 1 16 twoPlaces blankLogs longStory shape fits
 
 -- Also of a desk that never started.
-long-valid : stampValid (finally V1 1 16 twoPlaces blankLogs longStory .known deskThree 0 .s) ≡ true
+long-valid : stampValid (finally V1 1 16 twoPlaces blankLogs longStory .desks .known deskThree 0 .s) ≡ true
 long-valid = desks-valid V1 1 16 twoPlaces blankLogs longStory told .known-s deskThree 0
 
 -- ---- recovery under a pair that was proposed for card 0, with none for any other card
@@ -171,7 +171,8 @@ unfolding systemAfter stepTo proposed pairFor nextT learnt
 recovers-allowed =
     recovery-allowed V1 1 16 twoPlaces blankLogs proposing proposes (pairsFor 0 (stamp 0 1 0)) committed pairs-one log-bytes refl given .allows 1
   where
-    given : (k : ℕ) → (recoveryPair (pairsFor 0 (stamp 0 1 0)) k .x ≡ 0) ⊎ (isMade (finally V1 1 16 twoPlaces blankLogs proposing .made) k exclusive (recoveryPair (pairsFor 0 (stamp 0 1 0)) k) ≡ true)
+    given : (k : ℕ)
+        → (recoveryPair (pairsFor 0 (stamp 0 1 0)) k .x ≡ 0) ⊎ (isMade (finally V1 1 16 twoPlaces blankLogs proposing .desks .made) k exclusive (recoveryPair (pairsFor 0 (stamp 0 1 0)) k) ≡ true)
     given zero = inr refl
     given (suc k) = inl refl
 
@@ -201,13 +202,13 @@ unruled = send (writeOriginal 0 (stamp 1000000 9 0) text205) ∷ []
 abbrev listens : List Listening
 listens = makes exclusive ∷ hears (record { s = 0; x = stamp 1000000 9 0 }) ∷ []
 
-heard-unruled : heardIn (finally V1 1 16 twoPlaces blankLogs unruled .log) 0 listens ≡ true
+heard-unruled : heardIn (finally V1 1 16 twoPlaces blankLogs unruled .store .trace) 0 listens ≡ true
 unfolding heardIn systemAfter stepTo serve serveBy stepped sound headerSound cardSound translationSound tailZero decode cardAt entryAt readEntry encode bodies
     pad entryBytes header shapeOk fresh replied raise entrySound commandBytes formed payload fieldsOf wellFormed all allFrom le toLe part splice
     tabulate concatMap every zeros
 heard-unruled = refl
 
-one-accepted : acceptedFor 0 (finally V1 1 16 twoPlaces blankLogs unruled .log) ≡ 1
+one-accepted : acceptedFor 0 (finally V1 1 16 twoPlaces blankLogs unruled .store .trace) ≡ 1
 unfolding systemAfter stepTo serve serveBy stepped sound headerSound cardSound translationSound tailZero decode cardAt entryAt readEntry encode bodies pad
     entryBytes header shapeOk fresh replied raise entrySound commandBytes formed payload fieldsOf wellFormed all allFrom le toLe part splice tabulate
     concatMap every zeros
@@ -272,7 +273,7 @@ between-rules =
 
 -- The event at a place of its log, latest first.
 abbrev eventAt : ℕ → Event
-eventAt i = getD (finally V1 1 16 twoPlaces blankLogs between .log) i (eventOf V1 (readUnder 0 0) (serve V1 [] [] []))
+eventAt i = getD (finally V1 1 16 twoPlaces blankLogs between .store .trace) i (eventOf V1 (readUnder 0 0) (serve V1 [] [] []))
 
 nobody-between : none (intrudes 0 (eventAt 0)) (eventAt 1 ∷ []) ≡ true
 unfolding systemAfter stepTo proposed pairFor nextT learnt serve serveBy stepped sound headerSound cardSound translationSound tailZero decode cardAt entryAt readEntry encode bodies pad

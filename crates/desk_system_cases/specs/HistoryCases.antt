@@ -56,12 +56,12 @@ lived =
 pub record Lived : Type 0 where
   pub rules : byRules singleCard lived ≡ true
   -- a cut append is no record; cut and made again it is one, and the log is the bytes of one that was never cut
-  pub cut : systemAfter singleCard (take 9 lived) .whole 1 ≡ beginOf 1 ∷ updateOf 0 1 text205 ∷ updateOf 0 2 text401 ∷ []
-  pub logged : systemAfter singleCard (take 10 lived) .whole 1 ≡ bothUpdates
-  pub same-bytes : systemAfter singleCard (take 10 lived) .redo 1 ≡ bothLogged
+  pub cut : systemAfter singleCard (take 9 lived) .logs 1 .whole ≡ beginOf 1 ∷ updateOf 0 1 text205 ∷ updateOf 0 2 text401 ∷ []
+  pub logged : systemAfter singleCard (take 10 lived) .logs 1 .whole ≡ bothUpdates
+  pub same-bytes : systemAfter singleCard (take 10 lived) .logs 1 .bytes ≡ bothLogged
   -- the answers of queues and store: one write of the recovery that is cut, two of the other
   pub answers :
-      reverse (systemAfter singleCard lived .told)
+      reverse (systemAfter singleCard lived .desks .told)
       ≡ heard 0 0 (stamp 0 1 0)
       ∷ heard 0 0 (stamp 0 1 0)
       ∷ heard 0 0 (stamp 0 1 0)
@@ -72,14 +72,14 @@ pub record Lived : Type 0 where
       ∷ []
   -- what the commands show: the writes nothing, both reads what the recovery wrote
   pub shows :
-      map (λ (e : Event). take (e .answer .length) (e .reply)) (reverse (systemAfter singleCard lived .log)) ≡ [] ∷ [] ∷ [] ∷ text205 ∷ text205 ∷ []
-  pub version : systemAfter singleCard lived .version ≡ V2
-  pub goes-on : systemAfter singleCard lived .whole 1 ≡ beginOf 2 ∷ []
+      map (λ (e : Event). take (e .answer .length) (e .reply)) (reverse (systemAfter singleCard lived .store .trace)) ≡ [] ∷ [] ∷ [] ∷ text205 ∷ text205 ∷ []
+  pub version : systemAfter singleCard lived .store .version ≡ V2
+  pub goes-on : systemAfter singleCard lived .logs 1 .whole ≡ beginOf 2 ∷ []
 
 -- Rule 17.2: what the theorem needs. Commands that nobody proposed: a desk stands between two commands of a session. A log
 -- that is bad at the beginning: it stays so, and takes no record.
 pub record HistoryNeeds : Type 0 where
   pub unruled : byRules singleCard (map send sentD) ≡ false
-  pub intruded : Intruded (systemAfter singleCard (map send sentD) .log)
-  pub bad-log : goodLog (systemAfter (opening V1 1 16 twoPlaces (λ d. [])) (appendTo 1 99 (beginOf 1) ∷ []) .redo 1) ≡ false
-  pub no-record : systemAfter (opening V1 1 16 twoPlaces (λ d. [])) (appendTo 1 99 (beginOf 1) ∷ []) .whole 1 ≡ []
+  pub intruded : Intruded (systemAfter singleCard (map send sentD) .store .trace)
+  pub bad-log : goodLog (systemAfter (opening V1 1 16 twoPlaces (λ d. [])) (appendTo 1 99 (beginOf 1) ∷ []) .logs 1 .bytes) ≡ false
+  pub no-record : systemAfter (opening V1 1 16 twoPlaces (λ d. [])) (appendTo 1 99 (beginOf 1) ∷ []) .logs 1 .whole ≡ []

@@ -80,7 +80,7 @@ pub record SpendCases : Type 0 where
   pub spent :
       proposed (knows (systemAfter singleCard (begin deskOne ∷ lastAsk ∷ learn deskOne 0 (pair 0 (stamp lastT 9 0)) ∷ [])) deskOne 0) exclusive .number ≡ 16
   pub none-made :
-      proposalsFor 0 exclusive (systemAfter singleCard (begin deskOne ∷ lastAsk ∷ learn deskOne 0 (pair 0 (stamp lastT 9 0)) ∷ []) .made) ≡ 0
+      proposalsFor 0 exclusive (systemAfter singleCard (begin deskOne ∷ lastAsk ∷ learn deskOne 0 (pair 0 (stamp lastT 9 0)) ∷ []) .desks .made) ≡ 0
   pub guarded : serve V1 freshStore (writeOriginal 0 (stamp lastT 9 0) text205 .command) [] .answer .number ≡ 17
   -- 4,294 commands are not enough by themselves; with 967,295 proposals they are, and with one less they are not
   pub enough : Spends 4294 967295

@@ -141,7 +141,7 @@ pub record Story : Type 0 where
   pub rules : byRules singleCard story ≡ true
   -- the answers of the queue and of the store, in order
   pub answers :
-      reverse (systemAfter singleCard story .told)
+      reverse (systemAfter singleCard story .desks .told)
       ≡ heard 0 (stamp 0 1 0) 0
       ∷ heard 0 (stamp 0 1 0) 0
       ∷ heard 11 (stamp 0 1 0) 0
@@ -165,7 +165,7 @@ pub record Story : Type 0 where
       ∷ []
   -- what its commands show
   pub shows :
-      map (λ (e : Event). take (e .answer .length) (e .reply)) (reverse (systemAfter singleCard story .log))
+      map (λ (e : Event). take (e .answer .length) (e .reply)) (reverse (systemAfter singleCard story .store .trace))
       ≡ [] ∷ [] ∷ [] ∷ text205 ∷ [] ∷ [] ∷ [] ∷ [] ∷ text401 ∷ []
   -- the premise has something to say of it: a shared command carries the stamp of an exclusive one
   pub carried : carries (fieldsOf V1 (readUnder (stamp 1 1 0) (stamp 1 2 0) .command)) ≡ true
@@ -249,11 +249,11 @@ longStory =
 
 pub record LongStory : Type 0 where
   pub rules : byRules singleCard longStory ≡ true
-  pub version : systemAfter singleCard longStory .version ≡ V2
+  pub version : systemAfter singleCard longStory .store .version ≡ V2
   -- the answers, in order: an ask; three writes of recovery, the last malformed; a leave and three lapses; two asks;
   -- three commands of version 2
   pub answers :
-      reverse (systemAfter singleCard longStory .told)
+      reverse (systemAfter singleCard longStory .desks .told)
       ≡ heard 0 0 (stamp 0 1 0)
       ∷ heard 0 0 (stamp 0 1 0)
       ∷ heard 0 0 (stamp 0 1 0)
@@ -270,7 +270,7 @@ pub record LongStory : Type 0 where
       ∷ []
   -- the read after the conversion shows what the recovery wrote before it
   pub shows :
-      map (λ (e : Event). take (e .answer .length) (e .reply)) (reverse (systemAfter singleCard longStory .log)) ≡ [] ∷ [] ∷ [] ∷ text205 ∷ [] ∷ [] ∷ []
+      map (λ (e : Event). take (e .answer .length) (e .reply)) (reverse (systemAfter singleCard longStory .store .trace)) ≡ [] ∷ [] ∷ [] ∷ text205 ∷ [] ∷ [] ∷ []
   -- a recovery under a pair that nobody proposed is not by the rules, nor under one that was proposed shared
   pub not-proposed : allowed (systemAfter singleCard (begin deskOne ∷ [])) (recoverWith (pairsFor 0 (stamp 0 1 0)) committed 0) ≡ false
   pub not-exclusive :
@@ -310,7 +310,7 @@ manyManagers =
 pub record ManyManagers : Type 0 where
   pub rules : byRules singleCard manyManagers ≡ true
   pub answers :
-      reverse (systemAfter singleCard manyManagers .told)
+      reverse (systemAfter singleCard manyManagers .desks .told)
       ≡ heard 0 0 (stamp 0 1 0)
       ∷ heard 0 0 (stamp 0 2 0)
       ∷ heard 0 0 (stamp 0 1 0)
@@ -330,13 +330,13 @@ pub record BrokenBy (lead : List Move) (wrong : Move) (rest : List Move) : Type 
   pub before : byRules singleCard lead ≡ true
   pub refused : allowed (systemAfter singleCard lead) wrong ≡ false
   pub after : byRules (stepTo (systemAfter singleCard lead) wrong) rest ≡ true
-  pub broken : premise 0 (commandsIn (systemAfter singleCard (lead ++ wrong ∷ rest) .log)) ≡ false
+  pub broken : premise 0 (commandsIn (systemAfter singleCard (lead ++ wrong ∷ rest) .store .trace)) ≡ false
 
 -- The same with a change of the system that is no step.
 pub record BrokenWith (lead : List Move) (wrong : System → System) (rest : List Move) : Type 0 where
   pub before : byRules singleCard lead ≡ true
   pub after : byRules (wrong (systemAfter singleCard lead)) rest ≡ true
-  pub broken : premise 0 (commandsIn (systemAfter (wrong (systemAfter singleCard lead)) rest .log)) ≡ false
+  pub broken : premise 0 (commandsIn (systemAfter (wrong (systemAfter singleCard lead)) rest .store .trace)) ≡ false
 
 -- Desk 3 asks under (0.3.0, 0), so that a pair with an s and no x is told.
 abbrev pub threeAsks : List Move
@@ -451,7 +451,7 @@ pub record RulesNeeded : Type 0 where
       BrokenWith (threeAsks ++ (begin deskOne ∷ begin deskTwo ∷ [])) (withKnown deskTwo (λ k. pair 0 (stamp 0 1 0)))
       (twoBelow ++ oneAbove)
   pub stored :
-      BrokenWith [] (λ y. withStore V1 (serve V1 (y .image) (writeOriginal 0 (stamp 0 1 0) text205 .command) [] .image) (y .log) y)
+      BrokenWith [] (λ y. withStore V1 (serve V1 (y .store .image) (writeOriginal 0 (stamp 0 1 0) text205 .command) [] .image) (y .store .trace) y)
       (twoLearnsAt (send (readUnder (stamp 0 2 0) 0)) ++ oneFarAbove)
   pub queued :
       BrokenWith []

@@ -113,8 +113,8 @@ systemAfter-both y (m ∷ a) b = systemAfter-both (stepTo y m) a b
 -- ---- the store among the desks is of version 1, with these bytes
 
 record Has (image : List ℕ) (y : System) : Type 0 where
-  version : y .version ≡ V1
-  bytes : y .image ≡ image
+  version : y .store .version ≡ V1
+  bytes : y .store .image ≡ image
 
 has-send : (image : List ℕ) (y : System) (s : Sent) → Has image y → Has (serve V1 image (s .command) (s .lent) .image) (stepTo y (send s))
 unfolding stepTo
@@ -122,7 +122,7 @@ has-send image y s h =
     record {
       version = h .version;
       bytes =
-          ap (λ (v : Format). serve v (y .image) (s .command) (s .lent) .image) (h .version)
+          ap (λ (v : Format). serve v (y .store .image) (s .command) (s .lent) .image) (h .version)
           ∙ ap (λ (i : List ℕ). serve V1 i (s .command) (s .lent) .image) (h .bytes);
     }
 
@@ -276,14 +276,14 @@ module _ (y : System) (who card : ℕ) (pair : Pair) (s : Sent) (p : Proposes y 
   unfolding stepTo learnt
   knows-now = rw (eq-eqb who who refl, eq-eqb card card refl)
 
-  made-now : Among new (stepTo knew (propose who card exclusive) .made)
+  made-now : Among new (stepTo knew (propose who card exclusive) .desks .made)
   unfolding stepTo
   made-now = subst (λ (k : Known). Among new
       (settled (proposed k exclusive .number)
       (withMade (record { card = card; mode = exclusive; pair = proposed k exclusive .pair })
-      (nowKnows who card (proposed k exclusive .known .pair) knew)) knew .made)) (sym knows-now)
-      (subst (λ (n : ℕ). Among new (settled n (withMade new (nowKnows who card (proposed known exclusive .known .pair) knew)) knew .made))
-      (sym (p .number)) (among-here new (knew .made)))
+      (nowKnows who card (proposed k exclusive .known .pair) knew)) knew .desks .made)) (sym knows-now)
+      (subst (λ (n : ℕ). Among new (settled n (withMade new (nowKnows who card (proposed known exclusive .known .pair) knew)) knew .desks .made))
+      (sym (p .number)) (among-here new (knew .desks .made)))
 
   is-made-by : (made : List Made) → Among new made → isMade made (commandIn s .card) (commandIn s .mode) (update (commandIn s)) ≡ true
   is-made-by made a =
@@ -306,9 +306,9 @@ module _ (y : System) (who card : ℕ) (pair : Pair) (s : Sent) (p : Proposes y 
             and-in (and-in (eq-eqb (v .card) (commandIn s .card) (e ∙ sym (p .card-is))) (eq-eqb (verifier (commandIn s) .x) (v .x) (p .relies ∙ sym x)))
             (lt-ltb (v .x) (update (commandIn s) .x) (subst (λ (q : Pair). v .x < q .x) (sym (p .opens)) (subst (λ (n : ℕ). n < proposed known exclusive .pair .x) (sym x) up)));
         arrives = λ later version.
-            subst (λ (v : Format). sendsMade v (systemAfter (stepTo knew (propose who card exclusive)) later .made) s ≡ true) (sym version)
+            subst (λ (v : Format). sendsMade v (systemAfter (stepTo knew (propose who card exclusive)) later .desks .made) s ≡ true) (sym version)
             (or-right (not (formed V1 (s .command)))
-            (is-made-by (systemAfter (stepTo knew (propose who card exclusive)) later .made)
+            (is-made-by (systemAfter (stepTo knew (propose who card exclusive)) later .desks .made)
             (made-run (stepTo knew (propose who card exclusive)) later new made-now)));
       }
 

@@ -46,7 +46,7 @@ dealtEnd = afterDeskSteps (desksOpening (fresh V1 1 16) logs) (stepsIn dealt)
 one-run : OneRun 1 16 twoPlaces fiveRuled logs dealt
 one-run = both-are-one 1 16 twoPlaces fiveRuled logs dealt (dealt-by-both .rules)
 
-dealt-store : finally V1 1 16 twoPlaces logs (movesIn (desksOpening (fresh V1 1 16) logs) dealt) .image ≡ dealtEnd .image
+dealt-store : finally V1 1 16 twoPlaces logs (movesIn (desksOpening (fresh V1 1 16) logs) dealt) .store .image ≡ dealtEnd .image
 dealt-store = one-run .store
 
 dealt-rules : ByRules V1 1 16 twoPlaces logs (movesIn (desksOpening (fresh V1 1 16) logs) dealt)
@@ -56,7 +56,7 @@ dealt-moment : DesksMoment fiveRuled dealtEnd
 dealt-moment = one-run .moment
 
 -- Of a card that is not there, too.
-dealt-premised : premise 9 (commandsIn (finally V1 1 16 twoPlaces logs (movesIn (desksOpening (fresh V1 1 16) logs) dealt) .log)) ≡ true
+dealt-premised : premise 9 (commandsIn (finally V1 1 16 twoPlaces logs (movesIn (desksOpening (fresh V1 1 16) logs) dealt) .store .trace)) ≡ true
 dealt-premised = one-run .premised 9
 
 dealt-refines : fiveRuled (markIn (dealtEnd .image) 0 .desk) ≡ false → textIn (dealtEnd .image) original 0 ≡ dealtEnd .meant 0 original

@@ -94,11 +94,11 @@ pub record ByBoth (n c : ℕ) (places : ℕ → ℕ → List Waiting) (ruled : �
 -- demand 3's premise is kept, and a commit is one step.
 pub record OneRun (n c : ℕ) (places : ℕ → ℕ → List Waiting) (ruled : ℕ → Bool) (logs : ℕ → List ℕ) (deals : List Deal) : Type 0 where
   pub store :
-      finally V1 n c places logs (movesIn (desksOpening (fresh V1 n c) logs) deals) .image
+      finally V1 n c places logs (movesIn (desksOpening (fresh V1 n c) logs) deals) .store .image
       ≡ afterDeskSteps (desksOpening (fresh V1 n c) logs) (stepsIn deals) .image
   pub conduct : ByRules V1 n c places logs (movesIn (desksOpening (fresh V1 n c) logs) deals)
   pub moment : DesksMoment ruled (afterDeskSteps (desksOpening (fresh V1 n c) logs) (stepsIn deals))
-  pub premised : (k : ℕ) → premise k (commandsIn (finally V1 n c places logs (movesIn (desksOpening (fresh V1 n c) logs) deals) .log)) ≡ true
+  pub premised : (k : ℕ) → premise k (commandsIn (finally V1 n c places logs (movesIn (desksOpening (fresh V1 n c) logs) deals) .store .trace)) ≡ true
   pub refines : DesksRefine ruled (afterDeskSteps (desksOpening (fresh V1 n c) logs) (stepsIn deals))
 
 abbrev pub BothAreOne : Type 0
@@ -123,7 +123,7 @@ pub record Proposes (y : System) (who card : ℕ) (pair : Pair) (s : Sent) : Typ
 pub record MayOrder (y : System) (who card : ℕ) (pair : Pair) (s : Sent) : Type 0 where
   pub ordered : (v : Shown) → v .card ≡ card → v .x ≡ pair .x → opensAbove (commandIn s) v ≡ true
   pub arrives :
-      (later : List Move) → systemAfter y (learn who card pair ∷ propose who card exclusive ∷ later) .version ≡ V1
+      (later : List Move) → systemAfter y (learn who card pair ∷ propose who card exclusive ∷ later) .store .version ≡ V1
       → allowed (systemAfter y (learn who card pair ∷ propose who card exclusive ∷ later)) (send s) ≡ true
 
 abbrev pub ProposalsOrder : Type 0
