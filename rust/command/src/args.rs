@@ -4,17 +4,16 @@ use std::collections::BTreeMap;
 use std::ffi::{OsStr, OsString};
 use std::path::Path;
 
-/// An option of a subcommand: its name with `--` in front, the name of its value if it has one, and whether it must be
-/// given.
+/// An option of a subcommand: its name with `--` in front, and the name of its value if it has one.
 pub struct Opt {
     pub name: &'static str,
     pub value: Option<&'static str>,
-    pub needed: bool,
 }
 
-/// What a subcommand is called with: the names of its files and words, in order, the last `optional` of which may be
-/// left out, and its options.
+/// What a subcommand is called with, as a line for people; the names of its files and words, in order, the last
+/// `optional` of which may be left out; and its options.
 pub struct Usage {
+    pub line: &'static str,
     pub names: &'static [&'static str],
     pub optional: usize,
     pub options: &'static [Opt],
@@ -90,6 +89,14 @@ fn enough(usage: &Usage, words: &[OsString]) -> Result<(), String> {
     if let Some(more) = words.get(most) {
         return Err(format!("{:?} is one word too many", more.to_string_lossy()));
     }
+    if let Some((name, _)) = usage
+        .names
+        .iter()
+        .zip(words)
+        .find(|(_, word)| word.is_empty())
+    {
+        return Err(format!("{name} is empty"));
+    }
     match usage.names.get(words.len()) {
         Some(missing) if words.len() < least => Err(format!("{missing} is missing")),
         _ => Ok(()),
@@ -128,20 +135,38 @@ impl Args {
         self.options.get(name).map(Path::new)
     }
 
-    /// The value of an option as a number, if it is given.
+    /// The word at a place, as the path of a file that is written.
+    ///
+    /// # Errors
+    ///
+    /// Where it is `-`, which is standard input.
+    pub fn written(&self, at: usize) -> Result<&Path, String> {
+        match self.path(at) {
+            path if path == Path::new("-") => {
+                Err("-: this is standard input, and a file that can be written is due".into())
+            }
+            path => Ok(path),
+        }
+    }
+
+    /// The value of an option as a number, if it is given; such numbers would be right.
     ///
     /// # Errors
     ///
     /// Where it is no number, or too large.
-    pub fn number<T: std::str::FromStr>(&self, name: &str) -> Result<Option<T>, String> {
+    pub fn number<T: std::str::FromStr>(
+        &self,
+        name: &str,
+        right: &str,
+    ) -> Result<Option<T>, String> {
         let Some(value) = self.value(name) else {
             return Ok(None);
         };
         let whole = !value.is_empty() && value.bytes().all(|digit| digit.is_ascii_digit());
         match value.parse() {
             Ok(number) if whole => Ok(Some(number)),
-            _ if whole => Err(format!("{name} {value}: it is too large")),
-            _ => Err(format!("{name} {value}: a whole number is due")),
+            _ if whole => Err(format!("{name} {value}: it is too large; {right}")),
+            _ => Err(format!("{name} {value}: a whole number is due; {right}")),
         }
     }
 
@@ -150,9 +175,9 @@ impl Args {
     /// # Errors
     ///
     /// Where it is not.
-    pub fn needed<T: std::str::FromStr>(&self, name: &str) -> Result<T, String> {
-        let missing = || format!("{name} is missing");
-        self.number(name)?.ok_or_else(missing)
+    pub fn needed<T: std::str::FromStr>(&self, name: &str, right: &str) -> Result<T, String> {
+        let missing = || format!("{name} is missing; {right}");
+        self.number(name, right)?.ok_or_else(missing)
     }
 }
 
@@ -185,18 +210,17 @@ mod tests {
     use super::*;
 
     const USAGE: Usage = Usage {
+        line: "FILE [LIST] [--card K] [--json]",
         names: &["FILE", "LIST"],
         optional: 1,
         options: &[
             Opt {
                 name: "--card",
                 value: Some("K"),
-                needed: false,
             },
             Opt {
                 name: "--json",
                 value: None,
-                needed: false,
             },
         ],
     };
@@ -242,13 +266,13 @@ mod tests {
         let words = ["a", "--card", "3x"].map(OsString::from);
         let args = read(&USAGE, &words).expect("good words");
         assert_eq!(
-            args.number::<u16>("--card"),
-            Err("--card 3x: a whole number is due".into())
+            args.number::<u16>("--card", "0 to 3"),
+            Err("--card 3x: a whole number is due; 0 to 3".into())
         );
-        assert_eq!(args.number::<u16>("--json"), Ok(None));
+        assert_eq!(args.number::<u16>("--room", ""), Ok(None));
         assert_eq!(
-            args.needed::<u16>("--room"),
-            Err("--room is missing".into())
+            args.needed::<u16>("--room", "as in 64"),
+            Err("--room is missing; as in 64".into())
         );
     }
 

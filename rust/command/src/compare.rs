@@ -2,15 +2,15 @@
 
 use std::path::Path;
 
-use lupaniele::{Image, LARGEST_IMAGE, Language, Text, agree};
+use lupaniele::{Image, LARGEST_IMAGE, Language, Text, Version, agree};
 
 use crate::args::Args;
 use crate::input;
 use crate::outcome::{Done, Failed, Outcome};
-use crate::show::{behind, called, card};
+use crate::show::{CARDS, behind, called, card};
 
 pub fn run(args: &Args) -> Outcome {
-    let number: Option<u16> = args.number("--card").map_err(Failed::unusable)?;
+    let number: Option<u16> = args.number("--card", CARDS).map_err(Failed::unusable)?;
     match (number, args.word(1)) {
         (Some(number), None) => on_card(args, number),
         (None, Some(_)) => {
@@ -34,18 +34,34 @@ fn on_card(args: &Args, number: u16) -> Outcome {
     let image = input::image(args.path(0))?;
     let card = card(&image, number)?;
     let version = image.version();
-    let wanted: Option<u8> = args.number("--language").map_err(Failed::unusable)?;
+    let languages = match version {
+        Version::One => "an image of version 1 has language 0 alone",
+        Version::Two => "an image of version 2 has the languages 0 to 3",
+    };
+    let wanted: Option<u8> = args
+        .number("--language", languages)
+        .map_err(Failed::unusable)?;
     let language = Language::from_number(wanted.unwrap_or(0));
     let Some((language, text)) =
         language.and_then(|language| Some((language, card.translation(language)?)))
     else {
-        let last = version.languages().len() - 1;
         let wanted = wanted.unwrap_or(0);
-        let told =
-            format!("--language {wanted}: an image of {version} has the languages 0 to {last}");
-        return Err(Failed::unusable(told));
+        return Err(Failed::unusable(format!(
+            "--language {wanted}: {languages}"
+        )));
     };
     let name = called(version, language);
+    let missing = match (card.edition(), card.translated_from(language)) {
+        (0, _) => Some("its original"),
+        (_, Some(0)) => Some(name.as_str()),
+        _ => None,
+    };
+    if let Some(missing) = missing {
+        let told = format!(
+            "card {number}: {missing} is not written yet, so there is nothing to compare\n"
+        );
+        return Done::saying(told, false);
+    }
     let mut done = compared(("original", card.original()), (&name, text))?;
     done.out
         .splice(0..0, format!("card {number}: ").into_bytes());
@@ -60,7 +76,8 @@ fn on_card(args: &Args, number: u16) -> Outcome {
 
 /// The bytes of a structured text in a file: as they are, or as steps in words.
 fn text(path: &Path) -> Result<Vec<u8>, Failed> {
-    let bytes = input::bytes(path, LARGEST_IMAGE, "a structured text")?;
+    let bytes = input::bytes(path, LARGEST_IMAGE, "a structured text");
+    let bytes = bytes.map_err(Failed::wrong_use)?;
     let told = |told: &str| Failed::unusable(format!("{}: {told}", path.display()));
     if bytes.is_empty() {
         return Err(told("the file is empty, and a structured text is due"));

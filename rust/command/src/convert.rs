@@ -8,7 +8,7 @@ use crate::make::saved;
 use crate::outcome::{Failed, Outcome};
 
 pub fn run(args: &Args) -> Outcome {
-    let path = args.path(0);
+    let (path, new) = (args.path(0), args.written(1).map_err(Failed::unusable)?);
     let image = input::image(path)?;
     let refused = |told: String| Failed::refused(format!("{}: {told}", path.display()));
     if image.version() != Version::One {
@@ -27,5 +27,5 @@ pub fn run(args: &Args) -> Outcome {
         }
         number => refused(format!("{number}: {}", number.meaning())),
     })?;
-    saved(args.path(1), converted)
+    saved(new, converted)
 }

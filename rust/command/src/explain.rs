@@ -3,7 +3,7 @@
 use forms::folded;
 use lupaniele::Number;
 
-use crate::args::Args;
+use crate::args::{Args, nearest};
 use crate::outcome::{Done, Failed, Outcome};
 
 pub fn run(args: &Args) -> Outcome {
@@ -17,9 +17,12 @@ pub fn run(args: &Args) -> Outcome {
     let number = found(&word);
     let Some(number) = number else {
         let last = Number::ALL.len() - 1;
-        let told = format!(
-            "{word} is no number of an answer: they are 0 to {last}; `lupaniele explain` lists them"
-        );
+        let names = Number::ALL.map(Number::name);
+        let near = match nearest(&word.to_lowercase(), &names) {
+            Some(near) => format!("did you mean `{near}`?"),
+            None => format!("they are 0 to {last}, and `lupaniele explain` lists them"),
+        };
+        let told = format!("`{word}` is no number of an answer, nor the name of one; {near}");
         return Err(Failed::unusable(told));
     };
     let out = format!(

@@ -16,26 +16,12 @@ struct Sub {
 }
 
 const fn flag(name: &'static str) -> Opt {
-    Opt {
-        name,
-        value: None,
-        needed: false,
-    }
+    Opt { name, value: None }
 }
 
 const fn with(name: &'static str, value: &'static str) -> Opt {
-    Opt {
-        name,
-        value: Some(value),
-        needed: false,
-    }
-}
-
-const fn needed(name: &'static str, value: &'static str) -> Opt {
-    Opt {
-        needed: true,
-        ..with(name, value)
-    }
+    let value = Some(value);
+    Opt { name, value }
 }
 
 static SUBS: [Sub; 13] = [
@@ -43,6 +29,7 @@ static SUBS: [Sub; 13] = [
         name: "make",
         about: "makes an image of fresh cards, or of its text",
         usage: Usage {
+            line: "FILE --cards N --room C [--version V] | --from TEXT",
             names: &["FILE"],
             optional: 0,
             options: &[
@@ -62,6 +49,7 @@ with --version 2, has four. With --from the image is made of its text, as `show 
         name: "check",
         about: "says whether an image is sound, or the first rule that it breaks",
         usage: Usage {
+            line: "FILE",
             names: &["FILE"],
             optional: 0,
             options: &[],
@@ -75,6 +63,7 @@ it breaks, with the card and the byte to look at. Exit status 1 where it is not 
         name: "show",
         about: "shows the cards of an image: texts, editions, what is behind, marks",
         usage: Usage {
+            line: "FILE [--card K] [--json] | --text",
             names: &["FILE"],
             optional: 0,
             options: &[with("--card", "K"), flag("--json"), flag("--text")],
@@ -90,6 +79,7 @@ step. --json is for programs. --text is the text of the image, which `make --fro
         name: "send",
         about: "sends the commands of a list to an image, and explains each answer",
         usage: Usage {
+            line: "FILE LIST [--dry-run]",
             names: &["FILE", "LIST"],
             optional: 0,
             options: &[flag("--dry-run")],
@@ -116,6 +106,7 @@ version 2 it is `translation in language 2`. Behind # stands a comment. docs/FOR
         name: "explain",
         about: "says what the number of an answer means, and what to do",
         usage: Usage {
+            line: "[NUMBER]",
             names: &["NUMBER"],
             optional: 1,
             options: &[],
@@ -129,6 +120,7 @@ be a name, such as stale. Without one it lists them all.",
         name: "compare",
         about: "says whether two structured texts have the same drops",
         usage: Usage {
+            line: "FIRST SECOND | FILE --card K [--language L]",
             names: &["FIRST", "SECOND"],
             optional: 1,
             options: &[with("--card", "K"), with("--language", "L")],
@@ -136,7 +128,7 @@ be a name, such as stale. Without one it lists them all.",
         help: "\
 Compares two structured texts step by step: they agree, or it says which step parts and by how many
 degrees. FIRST and SECOND are files, with the bytes of a text or its steps in words. With --card K
-FIRST is an image, and the original and the translation of that card are compared as they stand;
+FILE is an image, and the original and the translation of that card are compared as they stand;
 --language L chooses the translation in an image of version 2. Exit status 1 where they differ.",
         run: compare::run,
     },
@@ -144,6 +136,7 @@ FIRST is an image, and the original and the translation of that card are compare
         name: "convert",
         about: "makes an image of version 2, four languages, out of one of version 1",
         usage: Usage {
+            line: "FILE NEW",
             names: &["FILE", "NEW"],
             optional: 0,
             options: &[],
@@ -157,6 +150,7 @@ version 2. The translation becomes language 0. FILE stays as it is.",
         name: "log make",
         about: "makes an empty log, or one of its text",
         usage: Usage {
+            line: "LOG [--bytes N | --from TEXT]",
             names: &["LOG"],
             optional: 0,
             options: &[with("--bytes", "N"), with("--from", "TEXT")],
@@ -170,6 +164,7 @@ With --from it is made of its text, as `log show --text` writes it.",
         name: "log check",
         about: "says whether a log is good",
         usage: Usage {
+            line: "LOG",
             names: &["LOG"],
             optional: 0,
             options: &[],
@@ -181,6 +176,7 @@ With --from it is made of its text, as `log show --text` writes it.",
         name: "log show",
         about: "shows the records of a log, and what is due",
         usage: Usage {
+            line: "LOG [--text]",
             names: &["LOG"],
             optional: 0,
             options: &[flag("--text")],
@@ -194,6 +190,7 @@ the text of the log, which `log make --from` reads.",
         name: "log append",
         about: "appends the records of a list",
         usage: Usage {
+            line: "LOG LIST",
             names: &["LOG", "LIST"],
             optional: 0,
             options: &[],
@@ -215,9 +212,10 @@ Behind a record may stand `cut after 9`: the power fails after so many one-byte 
         name: "log recover",
         about: "writes what is due in a log to the cards of an image",
         usage: Usage {
+            line: "LOG FILE --desk D.S [--marked] [--dry-run]",
             names: &["LOG", "FILE"],
             optional: 0,
-            options: &[needed("--desk", "D.S"), flag("--marked"), flag("--dry-run")],
+            options: &[with("--desk", "D.S"), flag("--marked"), flag("--dry-run")],
         },
         help: "\
 Writes each update of LOG that is due to its card in the image FILE (version 1), under pairs that
@@ -230,6 +228,7 @@ mark are written and released; others were finished before. --dry-run changes no
         name: "play",
         about: "plays a story of desks, logs and power cuts, as text or as a picture",
         usage: Usage {
+            line: "LIST [--svg | --text | --input]",
             names: &["LIST"],
             optional: 0,
             options: &[flag("--svg"), flag("--text"), flag("--input")],
@@ -271,8 +270,10 @@ pub fn called(words: &[OsString]) -> Outcome {
                 return Done::well(of(sub));
             }
             let read = args::read(&sub.usage, rest);
-            let told =
-                |told| Failed::unusable(format!("{}: {told}; usage: {}", sub.name, usage(sub)));
+            let told = |told: String| {
+                let (name, stop) = (sub.name, if told.ends_with('?') { "" } else { ";" });
+                Failed::unusable(format!("{name}: {told}{stop} usage: {}", usage(sub)))
+            };
             (sub.run)(&read.map_err(told)?)
         }
     }
@@ -311,26 +312,7 @@ fn found(words: &[OsString]) -> Result<(&'static Sub, &[OsString]), Failed> {
 
 /// One line of usage.
 fn usage(sub: &Sub) -> String {
-    let mut line = format!("lupaniele {}", sub.name);
-    let least = sub.usage.names.len() - sub.usage.optional;
-    for (at, name) in sub.usage.names.iter().enumerate() {
-        line += &if at < least {
-            format!(" {name}")
-        } else {
-            format!(" [{name}]")
-        };
-    }
-    for option in sub.usage.options {
-        let words = match option.value {
-            Some(value) => format!("{} {value}", option.name),
-            None => option.name.into(),
-        };
-        line += &match option.needed {
-            true => format!(" {words}"),
-            false => format!(" [{words}]"),
-        };
-    }
-    line
+    format!("lupaniele {} {}", sub.name, sub.usage.line)
 }
 
 fn of(sub: &Sub) -> String {
@@ -347,4 +329,49 @@ fn all() -> String {
     out + "\n`lupaniele NAME --help` says more of each; docs/TOUR.md leads through them. Exit status: 0 all is\n\
            accepted, sound or the same; 1 something is refused, unsound or different; 2 a wrong use, or a\n\
            file that cannot be read or written.\n"
+}
+
+#[cfg(test)]
+mod tests {
+    use super::*;
+
+    /// The line of each has its names and its options.
+    #[test]
+    fn the_usage_has_every_option() {
+        for sub in &SUBS {
+            let Usage { line, names, .. } = &sub.usage;
+            for name in *names {
+                assert!(line.contains(name), "{}: {name}", sub.name);
+            }
+            for option in sub.usage.options {
+                let words = option.value.map_or(option.name.into(), |value| {
+                    format!("{} {value}", option.name)
+                });
+                assert!(line.contains(&words), "{}: {words}", sub.name);
+            }
+            assert_eq!(
+                line.matches("--").count(),
+                sub.usage.options.len(),
+                "{}",
+                sub.name
+            );
+        }
+    }
+
+    /// The page of the command has each, and no other.
+    #[test]
+    fn the_page_has_every_line() {
+        let page = concat!(env!("CARGO_MANIFEST_DIR"), "/../../docs/lupaniele.1");
+        let page = std::fs::read_to_string(page).expect("the page");
+        let page = page
+            .replace("\\fI", "")
+            .replace("\\fP", "")
+            .replace("\\-", "-");
+        let synopsis = page.lines().take_while(|line| *line != ".fi");
+        let lines = synopsis.filter_map(|line| line.strip_prefix(".B "));
+        let lines: Vec<&str> = lines
+            .filter(|line| line.starts_with("lupaniele "))
+            .collect();
+        assert_eq!(lines, SUBS.each_ref().map(usage));
+    }
 }

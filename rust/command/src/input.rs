@@ -6,7 +6,7 @@ use std::path::Path;
 use lupaniele::files::{FileError, ImageFile, LogFile, read_bytes};
 use lupaniele::{Broken, Image, LARGEST_IMAGE, LARGEST_LOG, LOG_TABLE, Log};
 
-use crate::outcome::Failed;
+use crate::outcome::{Failed, some};
 
 /// More bytes than these has no list that is read: some ten thousand long commands.
 pub const LARGEST_TEXT: usize = 1 << 24;
@@ -133,7 +133,7 @@ fn bad_log(bytes: &[u8]) -> String {
 
 /// The text in a file, or why it is none.
 pub fn text(path: &Path, what: &str) -> Result<String, Failed> {
-    let bytes = bytes(path, LARGEST_TEXT, what)?;
+    let bytes = bytes(path, LARGEST_TEXT, what).map_err(Failed::wrong_use)?;
     let told = |told: String| Failed::unusable(format!("{}: {told}", path.display()));
     let other = match Image::check(&bytes[..]) {
         Ok(_) => Some("an image"),
@@ -158,11 +158,10 @@ pub fn wrong(path: &Path) -> impl Fn(forms::Wrong) -> Failed {
 
 /// What an image is, in a few words.
 pub fn described(image: &Image) -> String {
-    let (cards, plural) = (image.count(), if image.count() == 1 { "" } else { "s" });
+    let (cards, bytes) = (some(image.count(), "card"), image.bytes().len());
     format!(
-        "{}, {cards} card{plural}, room {}, {} bytes",
+        "{}, {cards}, room {}, {bytes} bytes",
         image.version(),
-        image.room(),
-        image.bytes().len()
+        image.room()
     )
 }

@@ -1,10 +1,10 @@
 //! `lupaniele log`: a desk's redo log.
 
 use std::collections::BTreeMap;
-use std::fmt::Write;
+use std::fmt::{Display, Write};
 use std::path::Path;
 
-use lupaniele::desk::Desk;
+use lupaniele::desk::{Desk, Journal, Store};
 use lupaniele::files::LogFile;
 use lupaniele::{
     AppendError, DeskId, Image, Known, LARGEST_LOG, Log, Mode, Number, Pair, Record, Side, Version,
@@ -13,7 +13,7 @@ use lupaniele::{
 use crate::args::Args;
 use crate::input;
 use crate::make::exists;
-use crate::outcome::{Done, Failed, Outcome, verdict};
+use crate::outcome::{Done, Failed, Outcome, some, verdict};
 use crate::send::{numbered, shortened, under};
 
 /// The columns in front of a record, for its number and whether it is due.
@@ -23,7 +23,7 @@ const NOTED: usize = 10;
 const LENGTH: usize = 8_192;
 
 pub fn make(args: &Args) -> Outcome {
-    let path = args.path(0);
+    let path = args.written(0).map_err(Failed::unusable)?;
     let log = match args.file("--from") {
         Some(_) if args.has("--bytes") => {
             return Err(Failed::unusable("--from has the bytes in its text"));
@@ -33,11 +33,11 @@ pub fn make(args: &Args) -> Outcome {
             forms::read_log(&text).map_err(input::wrong(from))?
         }
         None => {
-            let length: Option<usize> = args.number("--bytes").map_err(Failed::unusable)?;
-            let length = length.unwrap_or(LENGTH);
             let least = lupaniele::LOG_TABLE;
-            let told =
-                format!("--bytes {length}: a log has {least} to {LARGEST_LOG} bytes (rule 11.1)");
+            let right = format!("a log has {least} to {LARGEST_LOG} bytes (rule 11.1)");
+            let length: Option<usize> = args.number("--bytes", &right).map_err(Failed::unusable)?;
+            let length = length.unwrap_or(LENGTH);
+            let told = format!("--bytes {length}: {right}");
             Log::empty(length).map_err(|_| Failed::unusable(told))?
         }
     };
@@ -46,15 +46,13 @@ pub fn make(args: &Args) -> Outcome {
     }
     let made = LogFile::create_with(path, &log);
     made.map_err(|why| Failed::unusable(format!("{}: {why}", path.display())))?;
-    Done::well(format!("{}: made, {}\n", path.display(), described(&log)))
+    let made = format!("{}: made, {}\n", path.display(), described(&log));
+    Done::changed(made, true)
 }
 
 fn described(log: &Log) -> String {
-    let (count, plural) = (log.count(), if log.count() == 1 { "" } else { "s" });
-    format!(
-        "a log of {} bytes with {count} record{plural}",
-        log.bytes().len()
-    )
+    let (length, records) = (log.bytes().len(), some(log.count(), "record"));
+    format!("a log of {length} bytes with {records}")
 }
 
 pub fn check(args: &Args) -> Outcome {
@@ -143,7 +141,7 @@ fn read(path: &Path) -> Result<Vec<Entry>, Failed> {
 
 /// Appends the records of a list, each kept before the next; stops at the first that is refused or cut.
 pub fn append(args: &Args) -> Outcome {
-    let path = args.path(0);
+    let path = args.written(0).map_err(Failed::unusable)?;
     let entries = read(args.path(1))?;
     let mut file = input::log_file(path)?;
     let (mut out, mut well) = (String::new(), true);
@@ -163,7 +161,7 @@ pub fn append(args: &Args) -> Outcome {
         }
     }
     let _ = writeln!(out, "{}: {}", path.display(), described(file.log()));
-    Done::saying(out, well)
+    Done::changed(out, well)
 }
 
 fn appended(file: &mut LogFile, record: &Record, cut: Option<u64>) -> Result<Number, String> {
@@ -218,7 +216,9 @@ fn out_of_order(log: &Log, record: &Record) -> String {
 
 /// Writes what is due to the cards, and notes it as synced.
 pub fn recover(args: &Args) -> Outcome {
-    let (path, image_path) = (args.path(0), args.path(1));
+    let (path, image_path) = (args.written(0), args.written(1));
+    let path = path.map_err(Failed::unusable)?;
+    let image_path = image_path.map_err(Failed::unusable)?;
     let desk = desk(args)?;
     let version = input::image(image_path)?.version();
     if version != Version::One {
@@ -228,16 +228,19 @@ pub fn recover(args: &Args) -> Outcome {
         );
         return Err(Failed::refused(told));
     }
-    let mut log = input::log_file(path)?;
     if args.has("--dry-run") {
-        let mut image = input::image(image_path)?;
-        let (out, well) = recovered(log.log(), &mut image, desk);
+        let (mut log, mut image) = (input::log(path)?, input::image(image_path)?);
+        let (out, well) = match args.has("--marked") {
+            true => (marked(desk, image_path, &mut image, &mut log)?, true),
+            false => recovered(&log, &mut image, desk),
+        };
         return Done::saying(out + "nothing was changed (--dry-run)\n", well);
     }
-    if args.has("--marked") {
-        return marked(desk, image_path, &mut log);
-    }
+    let mut log = input::log_file(path)?;
     let mut image = input::image_file(image_path)?;
+    if args.has("--marked") {
+        return Done::changed(marked(desk, image_path, &mut image, &mut log)?, true);
+    }
     let due = synced(log.log());
     let saved = image.change(|image| recovered(log.log(), image, desk));
     let (mut out, well) =
@@ -245,12 +248,13 @@ pub fn recover(args: &Args) -> Outcome {
     if well {
         out += &noted(&mut log, &due, path)?;
     }
-    Done::saying(out, well)
+    Done::changed(out, well)
 }
 
 /// Who recovers.
 fn desk(args: &Args) -> Result<DeskId, Failed> {
-    let what = "the desk and a start that it never had, as in 1.1 (rule 10.9)";
+    let what =
+        "the desk, 1 to 65535, and a start that it never had, 0 to 65535, as in 1.1 (rule 10.9)";
     let missing = || Failed::unusable(format!("--desk D.S is needed: {what}"));
     let value = args.value("--desk").ok_or_else(missing)?;
     let read = forms::Line::new(1, &value).and_then(|mut line| {
@@ -338,13 +342,18 @@ fn noted(log: &mut LogFile, due: &BTreeMap<u16, u32>, path: &Path) -> Result<Str
 }
 
 /// Recovery by the rules for transactions: only cards that bear the desk's mark are written.
-fn marked(desk: DeskId, path: &Path, log: &mut LogFile) -> Outcome {
-    let mut image = input::image_file(path)?;
-    match Desk::start(desk).recover(&mut image, log) {
-        Ok(done) => Done::well(format!(
-            "{} updates written, {} cards noted as synced\n",
-            done.written, done.synced
-        )),
-        Err(why) => Err(Failed::refused(format!("{}: {why}", path.display()))),
-    }
+fn marked<S: Store, J: Journal>(
+    desk: DeskId,
+    path: &Path,
+    image: &mut S,
+    log: &mut J,
+) -> Result<String, Failed>
+where
+    S::Error: Display,
+    J::Error: Display,
+{
+    let done = Desk::start(desk).recover(image, log);
+    let done = done.map_err(|why| Failed::refused(format!("{}: {why}", path.display())))?;
+    let (updates, cards) = (some(done.written, "update"), some(done.synced, "card"));
+    Ok(format!("{updates} written, {cards} noted as synced\n"))
 }

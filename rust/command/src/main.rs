@@ -33,12 +33,17 @@ fn main() -> ExitCode {
     }
 }
 
-/// Prints what came of it. A reader that has seen enough is no fault; a disk that is full is one.
+/// Prints what came of it. A reader that has seen enough is no fault; a disk that is full is one, and then it is told
+/// how a file that may be changed stands.
 fn printed(done: &Done) -> ExitCode {
     let mut out = io::stdout().lock();
     match out.write_all(&done.out).and_then(|()| out.flush()) {
         Err(why) if why.kind() != io::ErrorKind::BrokenPipe => {
-            failed(&format!("the output cannot be written: {why}"), 2)
+            let stands = match done.changed {
+                true => format!("; it ends with: {}", done.last_line()),
+                false => String::new(),
+            };
+            failed(&format!("the output cannot be written: {why}{stands}"), 2)
         }
         _ => ExitCode::from(done.status),
     }

@@ -11,6 +11,7 @@ use crate::input::{described, text, wrong};
 use crate::outcome::{Done, Failed, Outcome};
 
 pub fn run(args: &Args) -> Outcome {
+    let path = args.written(0).map_err(Failed::unusable)?;
     let image = match args.file("--from") {
         Some(from) => {
             if ["--cards", "--room", "--version"]
@@ -25,12 +26,14 @@ pub fn run(args: &Args) -> Outcome {
         }
         None => fresh(args)?,
     };
-    saved(args.path(0), image)
+    saved(path, image)
 }
 
 fn fresh(args: &Args) -> Result<Image, Failed> {
-    let cards = args.needed("--cards").map_err(Failed::unusable)?;
-    let room = args.needed("--room").map_err(Failed::unusable)?;
+    let cards = args.needed("--cards", "an image has 1 to 128 cards (rule 2.2)");
+    let cards = cards.map_err(Failed::unusable)?;
+    let room = "a text has room for 16 to 1024 bytes, a multiple of 16 (rule 2.2)";
+    let room = args.needed("--room", room).map_err(Failed::unusable)?;
     let version = match args.value("--version").as_deref() {
         None | Some("1") => Version::One,
         Some("2") => Version::Two,
@@ -57,11 +60,8 @@ pub fn saved(path: &Path, image: Image) -> Outcome {
         }
         why => Failed::unusable(format!("{}: {why}", path.display())),
     })?;
-    Done::well(format!(
-        "{}: made, {}\n",
-        path.display(),
-        described(file.image())
-    ))
+    let (path, image) = (path.display(), described(file.image()));
+    Done::changed(format!("{path}: made, {image}\n"), true)
 }
 
 pub fn exists(path: &Path) -> Failed {

@@ -1,10 +1,11 @@
 use std::fmt::Display;
 
-/// What is to be printed, and the exit status: 0 or 1.
+/// What is to be printed, and the exit status: 0 or 1; and whether a file may be changed, which the last line says.
 #[derive(Debug)]
 pub struct Done {
     pub out: Vec<u8>,
     pub status: u8,
+    pub changed: bool,
 }
 
 /// Why nothing is printed.
@@ -27,7 +28,24 @@ impl Done {
     /// This is printed, and all is well or not.
     pub fn saying(out: impl Into<Vec<u8>>, well: bool) -> Outcome {
         let (out, status) = (out.into(), u8::from(!well));
-        Ok(Done { out, status })
+        let changed = false;
+        Ok(Done {
+            out,
+            status,
+            changed,
+        })
+    }
+
+    /// The same, of a file that may be changed.
+    pub fn changed(out: impl Into<Vec<u8>>, well: bool) -> Outcome {
+        let changed = true;
+        Done::saying(out, well).map(|done| Done { changed, ..done })
+    }
+
+    /// The last line of what is printed.
+    pub fn last_line(&self) -> String {
+        let out = String::from_utf8_lossy(&self.out);
+        out.lines().next_back().unwrap_or_default().into()
     }
 }
 
@@ -40,7 +58,22 @@ pub fn verdict<T>(asked: Result<T, Failed>) -> Result<Result<T, Done>, Failed> {
     }
 }
 
+/// So many of something: `1 card`, `2 cards`.
+pub fn some(count: impl Into<u64>, what: &str) -> String {
+    match count.into() {
+        1 => format!("1 {what}"),
+        count => format!("{count} {what}s"),
+    }
+}
+
 impl Failed {
+    /// The same as a wrong use: a list or a text that is refused is none.
+    pub fn wrong_use(self) -> Failed {
+        match self {
+            Failed::Refused(told) | Failed::Unusable(told) => Failed::Unusable(told),
+        }
+    }
+
     /// The same, with the rule by which it is refused.
     pub fn by_rule(self, rule: &str) -> Failed {
         match self {

@@ -2,7 +2,7 @@
 
 use std::path::Path;
 
-use lupaniele::{Broken, Image};
+use lupaniele::{Broken, Image, Log};
 use story::Story;
 
 use crate::args::Args;
@@ -31,13 +31,16 @@ pub fn run(args: &Args) -> Outcome {
 
 /// The story in a text, or in an input of the program: an image and a stream.
 fn read(path: &Path) -> Result<Story, Failed> {
-    let bytes = input::bytes(path, LARGEST_TEXT, "a story")?;
+    let bytes = input::bytes(path, LARGEST_TEXT, "a story").map_err(Failed::wrong_use)?;
     let told = |told: String| Failed::unusable(format!("{}: {told}", path.display()));
     if bytes.is_empty() {
         return Err(told("the file is empty, and a story is due".into()));
     }
     if Image::check(&bytes[..]).err() != Some(Broken::Header) {
         return Story::from_input(&bytes).map_err(|broken| told(input::unsound(&bytes, &broken)));
+    }
+    if Log::check(&bytes[..]).is_ok() {
+        return Err(told("this is a log, and a story is due".into()));
     }
     let text = forms::decoded(&bytes).map_err(input::wrong(path))?;
     Story::read(text).map_err(input::wrong(path))

@@ -44,7 +44,7 @@ pub fn run(args: &Args) -> Outcome {
         );
         return Done::saying(out + &told, accepted == commands.len());
     }
-    let mut file = input::image_file(path)?;
+    let mut file = input::image_file(args.written(0).map_err(Failed::unusable)?)?;
     let commands = read(list, file.image().version())?;
     let before = file.image().clone();
     let saved = file.change(|image| sent(image, &commands));
@@ -59,7 +59,7 @@ pub fn run(args: &Args) -> Outcome {
         counted(accepted, commands.len()),
         path.display()
     );
-    Done::saying(out + &told, accepted == commands.len())
+    Done::changed(out + &told, accepted == commands.len())
 }
 
 fn counted(accepted: usize, all: usize) -> String {

@@ -8,7 +8,7 @@ use lupaniele::{Card, Contents, Image, Language, Mark, Text, Version};
 use crate::args::Args;
 use crate::input::{described, image};
 use crate::json;
-use crate::outcome::{Done, Failed, Outcome};
+use crate::outcome::{Done, Failed, Outcome, some};
 
 pub fn run(args: &Args) -> Outcome {
     let path = args.path(0);
@@ -17,7 +17,7 @@ pub fn run(args: &Args) -> Outcome {
             "--text is the text of the whole image, without --json and --card",
         ));
     }
-    let number: Option<u16> = args.number("--card").map_err(Failed::unusable)?;
+    let number: Option<u16> = args.number("--card", CARDS).map_err(Failed::unusable)?;
     let image = image(path)?;
     if args.has("--text") {
         return Done::well(forms::image(&image));
@@ -33,6 +33,9 @@ pub fn run(args: &Args) -> Outcome {
         (false, Some(card)) => Done::well(whole(&name, image.version(), &card)),
     }
 }
+
+/// What card may be named.
+pub const CARDS: &str = "the cards of an image are 0 to 127 at the most (rule 2.2)";
 
 /// A card of an image.
 pub fn card(image: &Image, number: u16) -> Result<Card<'_>, Failed> {
@@ -218,7 +221,8 @@ fn whole(name: &str, version: Version, card: &Card) -> String {
         0 => out += "  original: not written yet\n",
         edition => {
             let bytes = card.original();
-            let _ = writeln!(out, "  original: edition {edition}, {} bytes", bytes.len());
+            let length = some(bytes.len() as u64, "byte");
+            let _ = writeln!(out, "  original: edition {edition}, {length}");
             out += &indented(bytes);
         }
     }
@@ -239,8 +243,8 @@ fn whole_translation(version: Version, card: &Card, language: Language) -> Strin
         Some(editions) => format!("BEHIND by {editions}, not to be shown"),
     };
     let bytes = card.translation(language).unwrap_or(&[]);
-    let length = bytes.len();
-    let line = format!("  {name}: made from edition {from}, {state}, {length} bytes\n");
+    let length = some(bytes.len() as u64, "byte");
+    let line = format!("  {name}: made from edition {from}, {state}, {length}\n");
     line + &indented(bytes)
 }
 

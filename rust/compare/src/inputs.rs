@@ -6,50 +6,28 @@ use std::fs;
 use std::path::Path;
 
 use second::random::Random;
-use second::short::{fresh, on_card, put_texts, Kept};
-use second::trials::{self, Told, Tried};
+use second::short::{fresh, on_card, put_texts};
+use second::trials::{self, Second, Store, Trial};
 use second::Format::V1;
-use second::{Format, Layout, Turn};
+use second::{Format, Layout, Queue};
 
 use crate::outputs::{self, LONGEST};
 use crate::proved;
 use crate::run::{bytes, same, Compared};
 
-/// The second program, and what a trial sends to it.
-#[derive(Default)]
-struct Heard {
-    /// The image before the first command.
-    image: Vec<u8>,
-    commands: Vec<Vec<u8>>,
-}
-
-impl Tried for Heard {
-    fn make(&mut self, format: Format, image: &mut [u8], cards: u64, room: u64) -> Compared<u8> {
-        Ok(format.make_fresh(image, cards, room))
-    }
-
-    fn answer(
-        &mut self,
-        format: Format,
-        image: &mut [u8],
-        command: &[u8],
-        reply: &mut [u8],
-    ) -> Compared<Told<7>> {
-        if self.commands.is_empty() {
-            self.image = image.to_vec();
+/// What a trial sends: the image before the first command, and the commands.
+fn sent(store: Store, trial: &Trial) -> Compared<(Vec<u8>, Vec<Vec<u8>>)> {
+    let (mut before, mut commands) = (Vec::new(), Vec::new());
+    let answer = |format: Format, image: &mut [u8], command: &[u8], reply: &mut [u8]| {
+        if commands.is_empty() {
+            before = image.to_vec();
         }
-        self.commands.push(command.to_vec());
-        let told = format.answer(image, command, reply);
-        Ok((told.number, told.fields.numbers()))
-    }
-
-    fn turn(&mut self, _: &mut Kept, _: Turn) -> Compared<Told<4>> {
-        Err("a trial of a card has no turns".to_owned())
-    }
-
-    fn output(&mut self, _: &[u8]) -> Compared<String> {
-        Err("a trial of a card prints nothing".to_owned())
-    }
+        commands.push(command.to_vec());
+        format.answer(image, command, reply)
+    };
+    let turn = |queue: &mut Queue, turn| queue.turn(turn);
+    trials::run(&mut Second { answer, turn }, store, trial)?;
+    Ok((before, commands))
 }
 
 /// Every trial of a card of version 1, each on a card of its own of one image,
@@ -61,19 +39,15 @@ pub fn trials() -> Compared<Vec<u8>> {
     let layout = Layout::of_header(V1, &image).ok_or("no header")?;
     let mut stream = Vec::new();
     for (card, trial) in (0..).zip(&all) {
-        let mut heard = Heard::default();
-        trials::run(&mut heard, store, trial)?;
-        let own = Layout::of_header(V1, &heard.image).ok_or("no header")?;
-        let entry = own.entry(&heard.image, 0).ok_or("no entry")?;
+        let (before, commands) = sent(store, trial)?;
+        let own = Layout::of_header(V1, &before).ok_or("no header")?;
+        let entry = own.entry(&before, 0).ok_or("no entry")?;
         let texts = layout
             .languages()
-            .map(|language| own.text(&heard.image, 0, language));
+            .map(|language| own.text(&before, 0, language));
         let texts: Vec<&[u8]> = texts.map(Option::unwrap_or_default).collect();
         put_texts(layout, &mut image, card, entry, &texts);
-        let whole = heard
-            .commands
-            .into_iter()
-            .filter(|command| is_whole(command));
+        let whole = commands.into_iter().filter(|command| is_whole(command));
         stream.extend(whole.flat_map(|command| on_card(card, command)));
     }
     Ok([image, stream].concat())

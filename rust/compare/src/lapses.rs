@@ -1,7 +1,7 @@
 //! Desks that fall silent: leases and times by their bits, near every limit, on
 //! queues of any sort.
 
-use lupaniele::raw;
+use lupaniele::raw::Places;
 use second::generate;
 use second::random::Random;
 use second::short::Kept;
@@ -9,27 +9,9 @@ use second::stamp::desk_and_start;
 use second::{Lease, Silence};
 
 use crate::coverage::{Kind, Run};
-use crate::proved::{self, QueueAnswer, UNWRITTEN};
-use crate::run::{same, Compared};
-
-/// A silent desk leaves a queue of the proved library.
-fn proved_lapse(queue: &mut proved::Queue, silence: Silence) -> QueueAnswer {
-    let mut fields = [UNWRITTEN; 4];
-    let number = raw::lapse(
-        &mut queue.modes,
-        &mut queue.s,
-        &mut queue.x,
-        &mut queue.kept,
-        queue.places,
-        silence.desk,
-        silence.lease.period,
-        silence.lease.drift,
-        silence.begin,
-        silence.now,
-        &mut fields,
-    );
-    (number, fields)
-}
+use crate::proved::{self, QueueAnswer};
+use crate::queues::by_both;
+use crate::run::Compared;
 
 /// The four numbers of a silence: period, drift, begin, now.
 fn terms(silence: Silence) -> [f64; 4] {
@@ -37,28 +19,12 @@ fn terms(silence: Silence) -> [f64; 4] {
     [period, drift, silence.begin, silence.now]
 }
 
-/// A lapse by both: compares the answer and the whole queue after it.
+/// A lapse by both.
 pub fn lapse(run: &mut Run, queue: &mut Kept, silence: Silence) -> Compared<QueueAnswer> {
-    let entry = queue.clone();
     let bits = terms(silence).map(f64::to_bits);
-    let input = || {
-        format!(
-            "  queue: {entry:x?}\n  desk: {:x?}, {bits:x?}\n",
-            silence.desk
-        )
-    };
-    let mut lent = proved::Queue::new(queue);
-    let proved = proved_lapse(&mut lent, silence);
-    let second = queue.lend(|queue| queue.lapse(silence));
-    let told = (second.number, second.numbers());
-    same("lapse's answer", proved, told, input)?;
-    same(
-        "queue after a lapse",
-        lent,
-        proved::Queue::new(queue),
-        input,
-    )?;
-    run.number(proved.0);
+    let request = || format!("desk: {:x?}, {bits:x?}", silence.desk);
+    let proved = |queue: &mut Places| proved::lapse(queue, silence);
+    let proved = by_both(run, queue, request, proved, |queue| queue.lapse(silence))?;
     note(run, silence, proved.0);
     Ok(proved)
 }

@@ -187,16 +187,22 @@ fn compared(run: &mut Run, input: &[u8], room: usize) -> Compared<()> {
     Ok(())
 }
 
-/// Counts an output by its last line, its lines and its numbers.
-fn counted(run: &mut Run, input: &[u8], output: &str) {
-    let lines: Vec<&str> = output.lines().collect();
-    let last = lines.last().copied().unwrap_or_default();
-    let kind = match last.split(' ').next() {
+/// The place of an output among those that are counted, by its last line.
+pub fn ending(output: &str) -> usize {
+    let last = output.lines().last().unwrap_or_default();
+    match last.split(' ').next() {
         Some("too") => 0,
         Some("bad") => 1,
         Some("end") => 2,
         _ => 3,
-    };
+    }
+}
+
+/// Counts an output by its last line, its lines and its numbers.
+fn counted(run: &mut Run, input: &[u8], output: &str) {
+    let lines: Vec<&str> = output.lines().collect();
+    let last = lines.last().copied().unwrap_or_default();
+    let kind = ending(output);
     run.seen_at(Kind::WholeOutputs, kind);
     if input.len() == INPUT_LIMIT + 1 {
         run.seen_at(Kind::FullStreams, 2);

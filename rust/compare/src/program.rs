@@ -99,13 +99,7 @@ impl Program {
         let lent = || bytes("standard input", input);
         same("program", &proved, &second, lent)?;
         run.seen(Kind::ExitStatus);
-        let last = proved.lines().last().unwrap_or_default();
-        let kind = match last.split(' ').next() {
-            Some("too") => 0,
-            Some("bad") => 1,
-            Some("end") => 2,
-            _ => 3,
-        };
+        let kind = outputs::ending(&proved);
         run.seen_at(Kind::Outputs, kind);
         if let Some(past @ 0..2) = input.len().checked_sub(INPUT_LIMIT) {
             run.seen_at(Kind::InputLengths, past);

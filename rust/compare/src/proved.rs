@@ -1,9 +1,9 @@
 //! The proved library, by its exported functions, in the words of the second
 //! program. What must be written holds a value before that nothing has.
 
-use lupaniele::raw;
+use lupaniele::raw::{self, Places};
 use second::short::Kept;
-use second::{Format, Held, Language, Place, Turn};
+use second::{Format, Held, Language, Silence, Turn};
 
 /// What a number is set to before a call that must write it.
 pub const UNWRITTEN: u64 = 0x5a5a_5a5a_5a5a_5a5a;
@@ -67,77 +67,48 @@ pub fn run(
     (count as usize, end as usize)
 }
 
-/// A queue of the proved library.
-#[derive(Clone, Copy, Debug, PartialEq, Eq)]
-pub struct Queue {
-    /// The modes of the 32 places.
-    pub modes: [u8; 32],
-    /// Their shared stamps.
-    pub s: [u64; 32],
-    /// Their exclusive stamps.
-    pub x: [u64; 32],
-    /// The count, the largest s and the largest x.
-    pub kept: [u64; 3],
-    /// How many places are lent.
-    pub places: u64,
-}
-
 /// A number, then holds (1 or 0), the largest s, the largest x, entries looked
 /// at.
 pub type QueueAnswer = (u8, [u64; 4]);
 
-impl Queue {
-    /// The queue with its places lent; of more than 32 the first 32, since
-    /// such a queue is bad whatever they hold.
-    pub fn new(kept: &Kept) -> Queue {
-        let mut queue = Queue {
-            modes: [0xaa; 32],
-            s: [0xaaaa_aaaa; 32],
-            x: [0xaaaa_aaaa; 32],
-            kept: [kept.count as u64, kept.largest.s, kept.largest.x],
-            places: kept.places.len() as u64,
-        };
-        for (at, place) in kept.places.iter().take(32).enumerate() {
-            queue.modes[at] = place.mode;
-            queue.s[at] = place.pair.s;
-            queue.x[at] = place.pair.x;
-        }
-        queue
+/// The queue with its places lent; of more than 32 the first 32, since such a
+/// queue is bad whatever they hold.
+pub fn lent(kept: &Kept) -> Places {
+    let mut queue = Places {
+        modes: [0xaa; 32],
+        s: [0xaaaa_aaaa; 32],
+        x: [0xaaaa_aaaa; 32],
+        kept: [kept.count as u64, kept.largest.s, kept.largest.x],
+        places: kept.places.len() as u64,
+    };
+    for (at, place) in kept.places.iter().take(32).enumerate() {
+        queue.modes[at] = place.mode;
+        queue.s[at] = place.pair.s;
+        queue.x[at] = place.pair.x;
     }
+    queue
+}
 
-    /// A desk asks or leaves.
-    pub fn turn(&mut self, turn: Turn) -> QueueAnswer {
-        match turn {
-            Turn::Ask(asked) => self.ask(asked),
-            Turn::Leave(desk) => self.leave(desk),
-        }
-    }
+/// A desk asks or leaves.
+pub fn turn(queue: &mut Places, turn: Turn) -> QueueAnswer {
+    let mut fields = [UNWRITTEN; 4];
+    let number = match turn {
+        Turn::Ask(asked) => queue.ask(asked.mode, asked.pair.s, asked.pair.x, &mut fields),
+        Turn::Leave(desk) => queue.leave(desk, &mut fields),
+    };
+    (number, fields)
+}
 
-    /// A desk asks for the lock.
-    fn ask(&mut self, asked: Place) -> QueueAnswer {
-        let mut fields = [UNWRITTEN; 4];
-        let number = raw::ask(
-            &mut self.modes,
-            &mut self.s,
-            &mut self.x,
-            &mut self.kept,
-            self.places,
-            asked.mode,
-            asked.pair.s,
-            asked.pair.x,
-            &mut fields,
-        );
-        (number, fields)
-    }
-
-    /// A desk and start leaves.
-    fn leave(&mut self, desk: u32) -> QueueAnswer {
-        let mut fields = [UNWRITTEN; 4];
-        let (places, kept) = (self.places, &mut self.kept);
-        let (modes, s, x) = (&mut self.modes, &mut self.s, &mut self.x);
-        let number = raw::leave(modes, s, x, kept, places, desk, &mut fields);
-        (number, fields)
-    }
+/// A silent desk leaves.
+pub fn lapse(queue: &mut Places, silence: Silence) -> QueueAnswer {
+    let lease = lupaniele::Lease {
+        period: silence.lease.period,
+        drift: silence.lease.drift,
+        begin: silence.begin,
+        now: silence.now,
+    };
+    let mut fields = [UNWRITTEN; 4];
+    (queue.lapse(silence.desk, lease, &mut fields), fields)
 }
 
 /// The number, and how many first bytes of the buffer asked for are shown.

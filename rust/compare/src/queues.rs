@@ -1,27 +1,43 @@
 //! Lock queues of 0 to 33 places, good and bad, and chains of asks and leaves.
 
+use lupaniele::raw::Places;
 use second::generate;
 use second::random::Random;
 use second::short::Kept;
 use second::stamp::{desk_and_start, is_valid, stamp};
-use second::{Place, Turn};
+use second::{Place, Queue, Turn};
 
 use crate::coverage::{Kind, Run};
 use crate::proved::{self, QueueAnswer};
 use crate::run::{same, Compared};
 
-/// A turn by both: compares the answer and the whole queue after it.
-pub fn turn(run: &mut Run, queue: &mut Kept, turn: Turn) -> Compared<QueueAnswer> {
+/// A request to a queue by both, which is told as text: compares the answer and
+/// the whole queue after it.
+pub fn by_both(
+    run: &mut Run,
+    queue: &mut Kept,
+    request: impl Fn() -> String,
+    proved: impl FnOnce(&mut Places) -> QueueAnswer,
+    second: impl FnOnce(&mut Queue) -> second::QueueAnswer,
+) -> Compared<QueueAnswer> {
     let entry = queue.clone();
-    let input = || format!("  queue: {entry:x?}\n  turn: {turn:x?}\n");
-    let mut lent = proved::Queue::new(queue);
-    let proved = lent.turn(turn);
-    let second = queue.lend(|queue| queue.turn(turn));
+    let input = || format!("  queue: {entry:x?}\n  {}\n", request());
+    let mut lent = proved::lent(queue);
+    let proved = proved(&mut lent);
+    let second = queue.lend(second);
     let told = (second.number, second.numbers());
     same("queue's answer", proved, told, input)?;
-    same("queue after", lent, proved::Queue::new(queue), input)?;
+    same("queue after", lent, proved::lent(queue), input)?;
     run.number(proved.0);
-    if proved.0 == 0 && second.holds {
+    Ok(proved)
+}
+
+/// A turn by both.
+pub fn turn(run: &mut Run, queue: &mut Kept, turn: Turn) -> Compared<QueueAnswer> {
+    let request = || format!("turn: {turn:x?}");
+    let proved = |queue: &mut Places| proved::turn(queue, turn);
+    let proved = by_both(run, queue, request, proved, |queue| queue.turn(turn))?;
+    if let (0, [1, ..]) = proved {
         run.seen(Kind::Holding);
     }
     Ok(proved)

@@ -111,7 +111,9 @@ pub fn take_image(lines: &mut Peekable<IntoIter<Line>>) -> Got<Image> {
 }
 
 fn read_shape(line: &mut Line) -> Got<(Version, u16, u16)> {
-    line.words("cards")?;
+    if !line.takes("cards") {
+        return line.wrong("the shape of an image is due, as in `cards 2 room 64`");
+    }
     let at_cards = line.clone();
     let cards = line.u16_of("the number of cards")?;
     line.words("room")?;

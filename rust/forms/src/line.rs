@@ -294,7 +294,16 @@ impl Line {
         if self.takes("none") {
             return Ok(Stamp::NONE);
         }
-        let due = "a stamp is due, T.desk.start as in 1.1.0, or `none`";
+        let is_too_large = |word: &str| {
+            let parts: Vec<&str> = word.split('.').collect();
+            parts.len() == 3 && parts.into_iter().all(is_whole)
+        };
+        let due = match self.next() {
+            Some(Token::Word(word)) if is_too_large(word) => {
+                "in a stamp T is at most 4294967295, desk and start are at most 65535"
+            }
+            _ => "a stamp is due, T.desk.start as in 1.1.0, or `none`",
+        };
         self.word_as(|word| word.parse().ok(), due)
     }
 

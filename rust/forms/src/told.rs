@@ -132,6 +132,9 @@ fn marked(expected: Mark, stored: Mark) -> String {
 fn editions(command: &Command, answer: &Answer) -> String {
     let (stands, from) = (answer.edition, answer.translated_from);
     match command.action {
+        Action::WriteTranslation { edition, .. } if stands == 0 => {
+            format!("it is made from edition {edition}, and there is no original yet")
+        }
         Action::WriteTranslation { edition, .. } => {
             format!("it is made from edition {edition}, and edition {stands} stands")
         }

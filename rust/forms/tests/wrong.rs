@@ -160,6 +160,11 @@ fn what_is_wrong_is_told_with_its_place() {
         ),
         (
             "list",
+            "shared read original of card 0 by (99999999999.1.0, none)",
+            "line 1, column 36: in a stamp T is at most 4294967295, desk and start are at most 65535, not `99999999999.1.0`",
+        ),
+        (
+            "list",
             "shared read original of card 0 by (1.1.0 none)",
             "line 1, column 42: `,` is due, not `none`",
         ),

@@ -1,7 +1,5 @@
-use crate::{DeskId, Mode, Number, Pair, raw};
-
-/// How many places a queue has at most (rule 7.1).
-const MOST: usize = 32;
+use crate::raw::Places;
+use crate::{DeskId, Mode, Number, Pair};
 
 /// The lock queue of one card, which its manager keeps (section 7 of the rules).
 ///
@@ -22,13 +20,7 @@ const MOST: usize = 32;
 /// # Ok::<(), Number>(())
 /// ```
 #[derive(Clone, Debug, PartialEq, Eq)]
-pub struct Queue {
-    modes: [u8; MOST],
-    s: [u64; MOST],
-    x: [u64; MOST],
-    kept: [u64; 3],
-    places: u64,
-}
+pub struct Queue(Places);
 
 impl Queue {
     /// An empty queue with so many places.
@@ -43,13 +35,10 @@ impl Queue {
     /// assert_eq!(Queue::new(33), Err(Number::BadQueue));
     /// ```
     pub fn new(places: u64) -> Result<Queue, Number> {
-        let mut queue = Queue {
-            modes: [0; MOST],
-            s: [0; MOST],
-            x: [0; MOST],
-            kept: [0; 3],
+        let mut queue = Queue(Places {
             places,
-        };
+            ..Places::default()
+        });
         // Nobody stands in it; so a good one says that this desk does not.
         match queue.leave(DeskId::default()).number {
             Number::NotStanding => Ok(queue),
@@ -67,17 +56,7 @@ impl Queue {
     /// ```
     pub fn ask(&mut self, mode: Mode, pair: Pair) -> QueueAnswer {
         let ([s, x], mut fields) = (pair.numbers(), [0; 4]);
-        let number = raw::ask(
-            &mut self.modes,
-            &mut self.s,
-            &mut self.x,
-            &mut self.kept,
-            self.places,
-            mode.number(),
-            s,
-            x,
-            &mut fields,
-        );
+        let number = self.0.ask(mode.number(), s, x, &mut fields);
         QueueAnswer::given(number, fields)
     }
 
@@ -91,15 +70,7 @@ impl Queue {
     /// ```
     pub fn leave(&mut self, desk: DeskId) -> QueueAnswer {
         let mut fields = [0; 4];
-        let number = raw::leave(
-            &mut self.modes,
-            &mut self.s,
-            &mut self.x,
-            &mut self.kept,
-            self.places,
-            desk.number(),
-            &mut fields,
-        );
+        let number = self.0.leave(desk.number(), &mut fields);
         QueueAnswer::given(number, fields)
     }
 
@@ -117,19 +88,7 @@ impl Queue {
     /// ```
     pub fn lapse(&mut self, desk: DeskId, lease: Lease) -> QueueAnswer {
         let mut fields = [0; 4];
-        let number = raw::lapse(
-            &mut self.modes,
-            &mut self.s,
-            &mut self.x,
-            &mut self.kept,
-            self.places,
-            desk.number(),
-            lease.period,
-            lease.drift,
-            lease.begin,
-            lease.now,
-            &mut fields,
-        );
+        let number = self.0.lapse(desk.number(), lease, &mut fields);
         QueueAnswer::given(number, fields)
     }
 
@@ -143,8 +102,11 @@ impl Queue {
     /// # Ok::<(), lupaniele::Number>(())
     /// ```
     pub fn standing(&self) -> impl Iterator<Item = (Mode, Pair)> + '_ {
-        let count = usize::try_from(self.kept[0]).unwrap_or(MOST);
-        let places = self.modes.iter().zip(self.s.iter().zip(&self.x));
+        let Places {
+            modes, s, x, kept, ..
+        } = &self.0;
+        let count = usize::try_from(kept[0]).unwrap_or(modes.len());
+        let places = modes.iter().zip(s.iter().zip(x));
         places.take(count).filter_map(|(mode, (s, x))| {
             let mode = Mode::from_number(*mode)?;
             Some((mode, Pair::of([*s, *x])))
@@ -160,7 +122,8 @@ impl Queue {
     /// ```
     #[must_use]
     pub fn largest(&self) -> Pair {
-        Pair::of([self.kept[1], self.kept[2]])
+        let [_, s, x] = self.0.kept;
+        Pair::of([s, x])
     }
 }
 

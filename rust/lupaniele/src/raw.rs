@@ -8,7 +8,7 @@
 #![allow(unsafe_code)]
 #![allow(clippy::too_many_arguments)] // as many as the exported functions have
 
-use crate::sys;
+use crate::{Lease, sys};
 
 /// Makes a fresh image of version 1 in the whole of `image` (rules 2.2 and 2.7): 0 or 14.
 ///
@@ -195,6 +195,78 @@ pub fn lapse(
     unsafe {
         sys::lupaniele_lapse(
             modes, s, x, kept, places, desk, period, drift, begin, time, fields,
+        )
+    }
+}
+
+/// A lock queue as its keeper lends it to [`ask`], [`leave`] and [`lapse`], any values at all: modes, s and x of the 32
+/// places; the count, the largest s and the largest x; and how many places are lent. The methods are those three on it.
+///
+/// ```
+/// use lupaniele::raw::Places;
+/// let (mut queue, mut fields) = (Places { places: 32, ..Places::default() }, [0; 4]);
+/// assert_eq!(queue.ask(1, 65_536, 0, &mut fields), 0);
+/// assert_eq!((queue.modes[0], queue.s[0], queue.kept), (1, 65_536, [1, 65_536, 0]));
+/// ```
+#[derive(Clone, Copy, Debug, Default, PartialEq, Eq)]
+pub struct Places {
+    /// The modes of the 32 places.
+    pub modes: [u8; 32],
+    /// Their shared stamps.
+    pub s: [u64; 32],
+    /// Their exclusive stamps.
+    pub x: [u64; 32],
+    /// The count, the largest s and the largest x.
+    pub kept: [u64; 3],
+    /// How many places are lent.
+    pub places: u64,
+}
+
+impl Places {
+    /// [`ask`] on it.
+    ///
+    /// ```
+    /// use lupaniele::raw::Places;
+    /// assert_eq!(Places::default().ask(1, 65_536, 0, &mut [0; 4]), 10);
+    /// ```
+    #[inline]
+    #[must_use]
+    pub fn ask(&mut self, mode: u8, s: u64, x: u64, fields: &mut [u64; 4]) -> u8 {
+        let (kept, places) = (&mut self.kept, self.places);
+        let (modes, all_s, all_x) = (&mut self.modes, &mut self.s, &mut self.x);
+        ask(modes, all_s, all_x, kept, places, mode, s, x, fields)
+    }
+
+    /// [`leave`] on it.
+    ///
+    /// ```
+    /// use lupaniele::raw::Places;
+    /// assert_eq!(Places::default().leave(65_536, &mut [0; 4]), 10);
+    /// ```
+    #[inline]
+    #[must_use]
+    pub fn leave(&mut self, desk: u32, fields: &mut [u64; 4]) -> u8 {
+        let (kept, places) = (&mut self.kept, self.places);
+        let (modes, s, x) = (&mut self.modes, &mut self.s, &mut self.x);
+        leave(modes, s, x, kept, places, desk, fields)
+    }
+
+    /// [`lapse`] on it.
+    ///
+    /// ```
+    /// use lupaniele::{Lease, raw::Places};
+    /// let lease = Lease { period: 30.0, drift: 0.5, begin: 100.0, now: 145.0 };
+    /// assert_eq!(Places::default().lapse(65_536, lease, &mut [0; 4]), 10);
+    /// ```
+    #[inline]
+    #[must_use]
+    pub fn lapse(&mut self, desk: u32, lease: Lease, fields: &mut [u64; 4]) -> u8 {
+        let (kept, places) = (&mut self.kept, self.places);
+        let (modes, s, x) = (&mut self.modes, &mut self.s, &mut self.x);
+        let (period, drift) = (lease.period, lease.drift);
+        let (begin, now) = (lease.begin, lease.now);
+        lapse(
+            modes, s, x, kept, places, desk, period, drift, begin, now, fields,
         )
     }
 }

@@ -7,7 +7,10 @@
 #![allow(clippy::arithmetic_side_effects, clippy::indexing_slicing)]
 
 use crate::short::*;
-use crate::{CommandFields, Entry, Format, Layout, Mark, Pair, Place, Turn};
+use crate::{
+    output, Answer, CommandFields, Entry, Format, Layout, Mark, Pair, Place, Queue, QueueAnswer,
+    Turn,
+};
 
 /// Numbers that say what an answer is, and the fields that stand with it.
 pub type Told<const FIELDS: usize> = (u8, [u64; FIELDS]);
@@ -36,6 +39,52 @@ pub trait Tried {
     fn turn(&mut self, queue: &mut Kept, turn: Turn) -> Result<Told<4>, String>;
     /// What the program prints.
     fn output(&mut self, input: &[u8]) -> Result<String, String>;
+}
+
+/// The second program, by what answers its commands and takes its turns: a test
+/// looks at them there.
+#[derive(Debug)]
+pub struct Second<A, T> {
+    /// Answers a command.
+    pub answer: A,
+    /// Takes a turn on a queue.
+    pub turn: T,
+}
+
+impl<A, T> Tried for Second<A, T>
+where
+    A: FnMut(Format, &mut [u8], &[u8], &mut [u8]) -> Answer,
+    T: FnMut(&mut Queue, Turn) -> QueueAnswer,
+{
+    fn make(
+        &mut self,
+        format: Format,
+        image: &mut [u8],
+        cards: u64,
+        room: u64,
+    ) -> Result<u8, String> {
+        Ok(format.make_fresh(image, cards, room))
+    }
+
+    fn answer(
+        &mut self,
+        format: Format,
+        image: &mut [u8],
+        command: &[u8],
+        reply: &mut [u8],
+    ) -> Result<Told<7>, String> {
+        let answer = (self.answer)(format, image, command, reply);
+        Ok((answer.number, answer.fields.numbers()))
+    }
+
+    fn turn(&mut self, queue: &mut Kept, turn: Turn) -> Result<Told<4>, String> {
+        let answer = queue.lend(|queue| (self.turn)(queue, turn));
+        Ok((answer.number, answer.numbers()))
+    }
+
+    fn output(&mut self, input: &[u8]) -> Result<String, String> {
+        Ok(output(input))
+    }
 }
 
 /// The places of the reply fields that a trial names.

@@ -3,42 +3,14 @@
 mod common;
 
 use common::check;
-use common::Kept;
-use second::trials::{self, Told, Tried};
-use second::{output, Format, Turn};
+use second::trials::{self, Second, Tried};
+use second::Format;
 
 /// The second program; what every answer must keep is checked as well.
-struct Second;
-
-impl Tried for Second {
-    fn make(
-        &mut self,
-        format: Format,
-        image: &mut [u8],
-        cards: u64,
-        room: u64,
-    ) -> Result<u8, String> {
-        Ok(format.make_fresh(image, cards, room))
-    }
-
-    fn answer(
-        &mut self,
-        format: Format,
-        image: &mut [u8],
-        command: &[u8],
-        reply: &mut [u8],
-    ) -> Result<Told<7>, String> {
-        let answer = check::answer(format, image, command, reply);
-        Ok((answer.number, answer.fields.numbers()))
-    }
-
-    fn turn(&mut self, queue: &mut Kept, turn: Turn) -> Result<Told<4>, String> {
-        let answer = queue.lend(|queue| check::turn(queue, turn));
-        Ok((answer.number, answer.numbers()))
-    }
-
-    fn output(&mut self, input: &[u8]) -> Result<String, String> {
-        Ok(output(input))
+fn checked() -> impl Tried {
+    Second {
+        answer: check::answer,
+        turn: check::turn,
     }
 }
 
@@ -46,7 +18,7 @@ impl Tried for Second {
 fn commands_in_every_store() {
     for store in Format::BOTH.into_iter().flat_map(trials::stores) {
         for trial in trials::trials(store.format, store.room) {
-            assert_eq!(trials::run(&mut Second, store, &trial), Ok(()));
+            assert_eq!(trials::run(&mut checked(), store, &trial), Ok(()));
         }
     }
 }
@@ -54,10 +26,10 @@ fn commands_in_every_store() {
 #[test]
 fn m_n_and_p() {
     for format in Format::BOTH {
-        assert_eq!(trials::run_making(&mut Second, format), Ok(()));
+        assert_eq!(trials::run_making(&mut checked(), format), Ok(()));
     }
-    assert_eq!(trials::run_queues(&mut Second), Ok(()));
-    assert_eq!(trials::run_case_p(&mut Second), Ok(()));
+    assert_eq!(trials::run_queues(&mut checked()), Ok(()));
+    assert_eq!(trials::run_case_p(&mut checked()), Ok(()));
 }
 
 /// Each name is one of a trial, but for those of m and n.

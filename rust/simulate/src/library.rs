@@ -1,6 +1,10 @@
 //! The proved library as the town calls it: [`Library`] has a method for each
-//! exported function that is used, and [`Proved`] calls them. The tests put
-//! wrong answers in between here; nothing else stands between town and library.
+//! exported function that is used, which calls it, and [`Proved`] has them as
+//! they are. The tests put wrong answers in between here; nothing else stands
+//! between town and library.
+
+pub use lupaniele::raw::Places as Queue;
+pub use lupaniele::Lease;
 
 use lupaniele::raw;
 use second::{Format, Pair};
@@ -17,21 +21,6 @@ pub struct Answer {
     pub fields: [u64; 7],
 }
 
-/// A lock queue, as its keeper lends it.
-#[derive(Clone, Copy, Debug, PartialEq, Eq)]
-pub struct Queue {
-    /// The modes of the 32 places.
-    pub modes: [u8; 32],
-    /// Their shared stamps.
-    pub s: [u64; 32],
-    /// Their exclusive stamps.
-    pub x: [u64; 32],
-    /// The count, the largest s and the largest x.
-    pub kept: [u64; 3],
-    /// How many places are lent.
-    pub places: u64,
-}
-
 /// The queue's answer.
 #[derive(Clone, Copy, Debug, PartialEq, Eq)]
 pub struct QueueAnswer {
@@ -39,19 +28,6 @@ pub struct QueueAnswer {
     pub number: u8,
     /// Holds (1 or 0), largest s, largest x, entries looked at.
     pub fields: [u64; 4],
-}
-
-/// A lease term and the two times of a request to take a desk out (rule 13.1).
-#[derive(Clone, Copy, Debug, PartialEq)]
-pub struct Lease {
-    /// The period.
-    pub period: f64,
-    /// The drift.
-    pub drift: f64,
-    /// Since when the desk is held failed.
-    pub begin: f64,
-    /// The time now.
-    pub now: f64,
 }
 
 /// What a desk holds of a card, at its own word (rule 6.1).
@@ -70,33 +46,85 @@ pub struct Held {
 /// The exported functions.
 pub trait Library {
     /// Makes a fresh image.
-    fn make(&mut self, image: &mut [u8], cards: u64, room: u64) -> u8;
+    fn make(&mut self, image: &mut [u8], cards: u64, room: u64) -> u8 {
+        raw::make(image, cards, room)
+    }
+
     /// Whether the bytes are a sound image.
-    fn sound(&mut self, image: &[u8]) -> bool;
+    fn sound(&mut self, image: &[u8]) -> bool {
+        raw::sound(image)
+    }
+
     /// One request to the store.
-    fn answer(&mut self, image: &mut [u8], command: &[u8], reply: &mut [u8]) -> Answer;
+    fn answer(&mut self, image: &mut [u8], command: &[u8], reply: &mut [u8]) -> Answer {
+        let mut fields = [UNWRITTEN; 7];
+        let number = raw::answer(image, command, reply, &mut fields);
+        Answer { number, fields }
+    }
+
     /// A desk asks for the lock, or upgrades.
-    fn ask(&mut self, queue: &mut Queue, mode: u8, pair: Pair) -> QueueAnswer;
+    fn ask(&mut self, queue: &mut Queue, mode: u8, pair: Pair) -> QueueAnswer {
+        let mut fields = [UNWRITTEN; 4];
+        let number = queue.ask(mode, pair.s, pair.x, &mut fields);
+        QueueAnswer { number, fields }
+    }
+
     /// A desk and start leaves.
-    fn leave(&mut self, queue: &mut Queue, desk: u32) -> QueueAnswer;
+    fn leave(&mut self, queue: &mut Queue, desk: u32) -> QueueAnswer {
+        let mut fields = [UNWRITTEN; 4];
+        let number = queue.leave(desk, &mut fields);
+        QueueAnswer { number, fields }
+    }
+
     /// A desk that fell silent leaves once its lease is over.
-    fn lapse(&mut self, queue: &mut Queue, desk: u32, lease: Lease) -> QueueAnswer;
+    fn lapse(&mut self, queue: &mut Queue, desk: u32, lease: Lease) -> QueueAnswer {
+        let mut fields = [UNWRITTEN; 4];
+        let number = queue.lapse(desk, lease, &mut fields);
+        QueueAnswer { number, fields }
+    }
+
     /// A desk learns a pair.
-    fn learn(&mut self, known: &mut [u64; 2], pair: Pair);
+    fn learn(&mut self, known: &mut [u64; 2], pair: Pair) {
+        raw::learn(known, pair.s, pair.x);
+    }
+
     /// A desk proposes a pair.
     fn propose(
         &mut self,
-        who: (u16, u16),
+        (desk, start): (u16, u16),
         known: &mut [u64; 2],
         mode: u8,
         pair: &mut [u64; 2],
-    ) -> u8;
+    ) -> u8 {
+        raw::propose(desk, start, known, mode, pair)
+    }
+
     /// The number, and how many first bytes of the buffer asked for are shown.
-    fn shown(&mut self, held: &Held, asked: u8) -> (u8, u64);
+    fn shown(&mut self, held: &Held, asked: u8) -> (u8, u64) {
+        let mut count = UNWRITTEN;
+        let [original, translation] = &held.buffers;
+        let number = raw::shown(
+            original,
+            translation,
+            held.lengths[0],
+            held.lengths[1],
+            held.edition,
+            held.from,
+            asked,
+            &mut count,
+        );
+        (number, count)
+    }
+
     /// Whether the bytes are a good log.
-    fn check_log(&mut self, log: &[u8]) -> u8;
+    fn check_log(&mut self, log: &[u8]) -> u8 {
+        raw::log_check(log)
+    }
+
     /// Appends a record, as far as so many stores go.
-    fn append(&mut self, log: &mut [u8], kind: u8, body: &[u8], stores: u64) -> u8;
+    fn append(&mut self, log: &mut [u8], kind: u8, body: &[u8], stores: u64) -> u8 {
+        raw::log_append(log, kind, body, stores)
+    }
 
     /// Makes a fresh image of version 2.
     fn make_v2(&mut self, image: &mut [u8], cards: u64, room: u64) -> u8 {
@@ -113,6 +141,28 @@ pub trait Library {
         let mut fields = [UNWRITTEN; 7];
         let number = raw::answer_v2(image, command, reply, &mut fields);
         Answer { number, fields }
+    }
+
+    /// Whether the bytes are a sound image of a version.
+    fn sound_in(&mut self, format: Format, image: &[u8]) -> bool {
+        match format {
+            Format::V1 => self.sound(image),
+            Format::V2 => self.sound_v2(image),
+        }
+    }
+
+    /// One request to a store of a version.
+    fn answer_in(
+        &mut self,
+        format: Format,
+        image: &mut [u8],
+        command: &[u8],
+        reply: &mut [u8],
+    ) -> Answer {
+        match format {
+            Format::V1 => self.answer(image, command, reply),
+            Format::V2 => self.answer_v2(image, command, reply),
+        }
     }
 
     /// Converts an image of version 1.
@@ -167,7 +217,11 @@ pub trait Library {
     }
 
     /// Recovery: the number and the line.
-    fn recover(&mut self, log: &[u8], image: &mut [u8], s: &[u64], x: &[u64]) -> (u8, u64);
+    fn recover(&mut self, log: &[u8], image: &mut [u8], s: &[u64], x: &[u64]) -> (u8, u64) {
+        let mut line = UNWRITTEN;
+        let number = raw::recover(log, image, s, x, &mut line);
+        (number, line)
+    }
 
     /// The next step of a desk for a card (rule 16.25): the step, the line that
     /// is written and the transaction that is noted.
@@ -204,97 +258,4 @@ pub type Next = (u8, u64, u64);
 #[derive(Clone, Copy, Debug, Default)]
 pub struct Proved;
 
-impl Library for Proved {
-    fn make(&mut self, image: &mut [u8], cards: u64, room: u64) -> u8 {
-        raw::make(image, cards, room)
-    }
-
-    fn sound(&mut self, image: &[u8]) -> bool {
-        raw::sound(image)
-    }
-
-    fn answer(&mut self, image: &mut [u8], command: &[u8], reply: &mut [u8]) -> Answer {
-        let mut fields = [UNWRITTEN; 7];
-        let number = raw::answer(image, command, reply, &mut fields);
-        Answer { number, fields }
-    }
-
-    fn ask(&mut self, queue: &mut Queue, mode: u8, pair: Pair) -> QueueAnswer {
-        let mut fields = [UNWRITTEN; 4];
-        let Queue { modes, s, x, .. } = queue;
-        let (kept, places) = (&mut queue.kept, queue.places);
-        let number = raw::ask(modes, s, x, kept, places, mode, pair.s, pair.x, &mut fields);
-        QueueAnswer { number, fields }
-    }
-
-    fn leave(&mut self, queue: &mut Queue, desk: u32) -> QueueAnswer {
-        let mut fields = [UNWRITTEN; 4];
-        let Queue { modes, s, x, .. } = queue;
-        let (kept, places) = (&mut queue.kept, queue.places);
-        let number = raw::leave(modes, s, x, kept, places, desk, &mut fields);
-        QueueAnswer { number, fields }
-    }
-
-    fn lapse(&mut self, queue: &mut Queue, desk: u32, lease: Lease) -> QueueAnswer {
-        let mut fields = [UNWRITTEN; 4];
-        let Queue { modes, s, x, .. } = queue;
-        let number = raw::lapse(
-            modes,
-            s,
-            x,
-            &mut queue.kept,
-            queue.places,
-            desk,
-            lease.period,
-            lease.drift,
-            lease.begin,
-            lease.now,
-            &mut fields,
-        );
-        QueueAnswer { number, fields }
-    }
-
-    fn learn(&mut self, known: &mut [u64; 2], pair: Pair) {
-        raw::learn(known, pair.s, pair.x);
-    }
-
-    fn propose(
-        &mut self,
-        (desk, start): (u16, u16),
-        known: &mut [u64; 2],
-        mode: u8,
-        pair: &mut [u64; 2],
-    ) -> u8 {
-        raw::propose(desk, start, known, mode, pair)
-    }
-
-    fn shown(&mut self, held: &Held, asked: u8) -> (u8, u64) {
-        let mut count = UNWRITTEN;
-        let [original, translation] = &held.buffers;
-        let number = raw::shown(
-            original,
-            translation,
-            held.lengths[0],
-            held.lengths[1],
-            held.edition,
-            held.from,
-            asked,
-            &mut count,
-        );
-        (number, count)
-    }
-
-    fn check_log(&mut self, log: &[u8]) -> u8 {
-        raw::log_check(log)
-    }
-
-    fn append(&mut self, log: &mut [u8], kind: u8, body: &[u8], stores: u64) -> u8 {
-        raw::log_append(log, kind, body, stores)
-    }
-
-    fn recover(&mut self, log: &[u8], image: &mut [u8], s: &[u64], x: &[u64]) -> (u8, u64) {
-        let mut line = UNWRITTEN;
-        let number = raw::recover(log, image, s, x, &mut line);
-        (number, line)
-    }
-}
+impl Library for Proved {}

@@ -1,6 +1,8 @@
 //! What a run counts: steps, faults, numbers of each operation, checks. What
 //! never came fails the run.
 
+use second::Format;
+
 use crate::checks::{Check, Made};
 
 crate::named! {
@@ -116,6 +118,14 @@ crate::named! {
 }
 
 impl Operation {
+    /// A request to a store of a version.
+    pub fn store(format: Format) -> Operation {
+        match format {
+            Format::V1 => Operation::Store,
+            Format::V2 => Operation::Store2,
+        }
+    }
+
     /// The numbers that must come.
     fn numbers(self) -> &'static [u8] {
         match self {

@@ -2,12 +2,15 @@
 //! the simulation, and the check that stops it is the one that is named here.
 //! `docs/RELIABILITY.md` has this table.
 
+mod wrong;
+
 use second::Pair;
 use simulate::checks::Check;
 use simulate::library::{Answer, Held, Lease, Library, Next, Proved, Queue, QueueAnswer};
 use simulate::rule::Rule;
-use simulate::run::{run, told, Plan};
+use simulate::run::{run, told};
 use simulate::tally::Tally;
+use wrong::{on_the_page, stopped, PLAN};
 
 /// A wrong answer, by what is wrong.
 #[derive(Clone, Copy, Debug, PartialEq, Eq)]
@@ -401,14 +404,6 @@ impl Wrong {
 }
 
 impl Library for Wrong {
-    fn make(&mut self, image: &mut [u8], cards: u64, room: u64) -> u8 {
-        Proved.make(image, cards, room)
-    }
-
-    fn sound(&mut self, image: &[u8]) -> bool {
-        Proved.sound(image)
-    }
-
     fn answer(&mut self, image: &mut [u8], command: &[u8], reply: &mut [u8]) -> Answer {
         let before = image.to_vec();
         let mut told = Proved.answer(image, command, reply);
@@ -496,10 +491,6 @@ impl Library for Wrong {
             (6, _) if self.is(BehindShown) && held.lengths[1] > 0 => (0, held.lengths[1]),
             told => told,
         }
-    }
-
-    fn check_log(&mut self, log: &[u8]) -> u8 {
-        Proved.check_log(log)
     }
 
     fn append(&mut self, log: &mut [u8], kind: u8, body: &[u8], stores: u64) -> u8 {
@@ -626,14 +617,6 @@ fn unsynced(log: &[u8]) -> Vec<u8> {
     wrong
 }
 
-/// The steps within which each must be stopped.
-const PLAN: Plan = Plan {
-    seed: 9,
-    steps: 1_000_000,
-    first: 1,
-    progress: false,
-};
-
 #[test]
 fn the_library_as_it_is_goes_through() {
     let mut tally = Tally::default();
@@ -643,17 +626,7 @@ fn the_library_as_it_is_goes_through() {
 
 #[test]
 fn each_wrong_answer_stops_the_simulation() {
-    let mut told = Vec::new();
-    for (mutant, _, check) in ALL {
-        let mut tally = Tally::default();
-        let stop = run(&mut Wrong(*mutant), &mut tally, PLAN).err();
-        match stop {
-            Some(stop) if stop.breach.check == *check && !stop.last.is_empty() => {}
-            Some(stop) => told.push(format!("{mutant:?}: {:?}", stop.breach.check)),
-            None => told.push(format!("{mutant:?}: nothing")),
-        }
-    }
-    assert!(told.is_empty(), "stopped by another check: {told:#?}");
+    stopped(ALL, Wrong);
 }
 
 /// Rules of transactions that a town breaks, and the check of the store beside
@@ -683,10 +656,5 @@ fn each_broken_rule_is_seen_in_the_store_beside() {
 
 #[test]
 fn the_page_has_this_table() {
-    let page = concat!(env!("CARGO_MANIFEST_DIR"), "/../../docs/RELIABILITY.md");
-    let page = std::fs::read_to_string(page).unwrap();
-    for (_, words, check) in ALL {
-        let row = format!("| {words} | {} |", check.words());
-        assert!(page.contains(&row), "missing: {row}");
-    }
+    on_the_page(ALL);
 }

@@ -2,13 +2,15 @@
 //! texts, as in `mutants.rs`: each stops the simulation at the check that is
 //! named here. `docs/RELIABILITY.md` has these rows too.
 
+mod wrong;
+
 use second::random::Random;
-use second::{Format, Pair};
+use second::Format;
 use simulate::checks::Check;
-use simulate::library::{Answer, Held, Lease, Library, Proved, Queue, QueueAnswer};
-use simulate::run::{run, Plan};
+use simulate::library::{Answer, Library, Proved};
 use simulate::tally::Tally;
 use simulate::town::{Shape, Town};
+use wrong::{on_the_page, stopped};
 
 /// A wrong answer, by what is wrong.
 #[derive(Clone, Copy, Debug, PartialEq, Eq)]
@@ -320,58 +322,12 @@ impl Library for Wrong {
         Proved.make(image, cards, room)
     }
 
-    fn sound(&mut self, image: &[u8]) -> bool {
-        Proved.sound(image)
-    }
-
     fn answer(&mut self, image: &mut [u8], command: &[u8], reply: &mut [u8]) -> Answer {
         let mut told = Proved.answer(image, command, reply);
         if self.is(OldTaken) && image[4] == 2 {
             told.number = 1;
         }
         told
-    }
-
-    fn ask(&mut self, queue: &mut Queue, mode: u8, pair: Pair) -> QueueAnswer {
-        Proved.ask(queue, mode, pair)
-    }
-
-    fn leave(&mut self, queue: &mut Queue, desk: u32) -> QueueAnswer {
-        Proved.leave(queue, desk)
-    }
-
-    fn lapse(&mut self, queue: &mut Queue, desk: u32, lease: Lease) -> QueueAnswer {
-        Proved.lapse(queue, desk, lease)
-    }
-
-    fn learn(&mut self, known: &mut [u64; 2], pair: Pair) {
-        Proved.learn(known, pair);
-    }
-
-    fn propose(
-        &mut self,
-        who: (u16, u16),
-        known: &mut [u64; 2],
-        mode: u8,
-        pair: &mut [u64; 2],
-    ) -> u8 {
-        Proved.propose(who, known, mode, pair)
-    }
-
-    fn shown(&mut self, held: &Held, asked: u8) -> (u8, u64) {
-        Proved.shown(held, asked)
-    }
-
-    fn check_log(&mut self, log: &[u8]) -> u8 {
-        Proved.check_log(log)
-    }
-
-    fn append(&mut self, log: &mut [u8], kind: u8, body: &[u8], stores: u64) -> u8 {
-        Proved.append(log, kind, body, stores)
-    }
-
-    fn recover(&mut self, log: &[u8], image: &mut [u8], s: &[u64], x: &[u64]) -> (u8, u64) {
-        Proved.recover(log, image, s, x)
     }
 
     fn make_v2(&mut self, image: &mut [u8], cards: u64, room: u64) -> u8 {
@@ -526,27 +482,9 @@ fn apart(first: &[u8], second: &[u8]) -> bool {
     apart == Some(5)
 }
 
-/// The steps within which each must be stopped.
-const PLAN: Plan = Plan {
-    seed: 9,
-    steps: 1_000_000,
-    first: 1,
-    progress: false,
-};
-
 #[test]
 fn each_wrong_answer_stops_the_simulation() {
-    let mut told = Vec::new();
-    for (mutant, _, check) in ALL {
-        let mut tally = Tally::default();
-        let stop = run(&mut Wrong::new(*mutant), &mut tally, PLAN).err();
-        match stop {
-            Some(stop) if stop.breach.check == *check => {}
-            Some(stop) => told.push(format!("{mutant:?}: {:?}", stop.breach)),
-            None => told.push(format!("{mutant:?}: nothing")),
-        }
-    }
-    assert!(told.is_empty(), "stopped by another check: {told:#?}");
+    stopped(ALL, Wrong::new);
 }
 
 /// Towns whose desks translate one edition and name another.
@@ -570,14 +508,5 @@ fn a_careless_translation_is_seen() {
 
 #[test]
 fn the_page_has_these_rows() {
-    let page = concat!(env!("CARGO_MANIFEST_DIR"), "/../../docs/RELIABILITY.md");
-    let page = std::fs::read_to_string(page).unwrap();
-    let mut missing = Vec::new();
-    for (_, words, check) in ALL {
-        let row = format!("| {words} | {} |", check.words());
-        if !page.contains(&row) {
-            missing.push(row);
-        }
-    }
-    assert!(missing.is_empty(), "missing:\n{}", missing.join("\n"));
+    on_the_page(ALL);
 }

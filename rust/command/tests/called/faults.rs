@@ -32,12 +32,27 @@ fn wrong_words_are_told_and_what_would_be_right() {
         ),
         (
             "show a --jsno",
-            "show: there is no option --jsno; did you mean --json?; usage: lupaniele show FILE [--card K] [--json] [--text]",
+            "show: there is no option --jsno; did you mean --json? usage: lupaniele show FILE [--card K] [--json] | --text",
         ),
-        ("make cards --cards 1", "--room is missing"),
+        (
+            "make cards",
+            "--cards is missing; an image has 1 to 128 cards (rule 2.2)",
+        ),
+        (
+            "make cards --cards 1",
+            "--room is missing; a text has room for 16 to 1024 bytes, a multiple of 16 (rule 2.2)",
+        ),
         (
             "make cards --cards x --room 16",
-            "--cards x: a whole number is due",
+            "--cards x: a whole number is due; an image has 1 to 128 cards (rule 2.2)",
+        ),
+        (
+            "make cards --cards 99999999999999999999 --room 16",
+            "--cards 99999999999999999999: it is too large; an image has 1 to 128 cards (rule 2.2)",
+        ),
+        (
+            "log make log --bytes 99999999999999999999",
+            "--bytes 99999999999999999999: it is too large; a log has 2201 to 65536 bytes (rule 11.1)",
         ),
         (
             "make cards --cards 1 --room 60",
@@ -51,16 +66,51 @@ fn wrong_words_are_told_and_what_would_be_right() {
             "make nowhere/cards --cards 1 --room 16",
             "nowhere/cards: the folder for it is not there",
         ),
-        ("show cards --card 65536", "--card 65536: it is too large"),
+        (
+            "show cards --card 65536",
+            "--card 65536: it is too large; the cards of an image are 0 to 127 at the most (rule 2.2)",
+        ),
         ("show cards", "cards: there is no such file"),
         ("send cards list", "cards: there is no such file"),
         (
             "log recover log cards",
-            "--desk D.S is needed: the desk and a start that it never had, as in 1.1 (rule 10.9)",
+            "--desk D.S is needed: the desk, 1 to 65535, and a start that it never had, 0 to 65535, as in 1.1 (rule 10.9)",
         ),
         (
             "log recover log cards --desk x",
-            "--desk x: the desk and a start that it never had, as in 1.1 (rule 10.9)",
+            "--desk x: the desk, 1 to 65535, and a start that it never had, 0 to 65535, as in 1.1 (rule 10.9)",
+        ),
+        (
+            "log recover log cards --desk 65536.1",
+            "--desk 65536.1: the desk, 1 to 65535, and a start that it never had, 0 to 65535, as in 1.1 (rule 10.9)",
+        ),
+        (
+            "make - --cards 1 --room 16",
+            "-: this is standard input, and a file that can be written is due",
+        ),
+        (
+            "convert cards -",
+            "-: this is standard input, and a file that can be written is due",
+        ),
+        (
+            "log make -",
+            "-: this is standard input, and a file that can be written is due",
+        ),
+        (
+            "log append - list",
+            "-: this is standard input, and a file that can be written is due",
+        ),
+        (
+            "log recover - cards --desk 1.1",
+            "-: this is standard input, and a file that can be written is due",
+        ),
+        (
+            "log recover log - --desk 1.1",
+            "-: this is standard input, and a file that can be written is due",
+        ),
+        (
+            "send - list",
+            "-: this is standard input, and a file that can be written is due",
         ),
     ] {
         assert_eq!(place.fails(2, words), right, "{words}");
@@ -75,6 +125,17 @@ fn wrong_words_are_told_and_what_would_be_right() {
             .fails(2, "xyzzy")
             .starts_with("there is no `lupaniele xyzzy`; there is make, check")
     );
+    for words in ["make --cards 1 --room 16", "log make"] {
+        let called = place.command(words).arg("").output().expect("it runs");
+        let (status, told) = (
+            called.status.code(),
+            String::from_utf8_lossy(&called.stderr),
+        );
+        assert!(
+            status == Some(2) && told.contains(" is empty; usage: lupaniele "),
+            "{told}"
+        );
+    }
     assert_eq!(
         fs::read_dir(&place.folder).expect("the folder").count(),
         0,
@@ -118,6 +179,7 @@ fn files_that_are_none() {
     fs::create_dir(place.folder.join("folder")).expect("a folder");
     place.write("empty", "");
     place.write("text", "cards 1 room 16\n");
+    place.write("list", "shared verify of card 0 by (1.1.0, none)\n");
     let large = File::create(place.folder.join("large")).expect("a file");
     large.set_len(1 << 30).expect("a gigabyte of nothing");
     place.well("make cards --cards 1 --room 16");
@@ -127,6 +189,27 @@ fn files_that_are_none() {
             2,
             "check folder",
             "folder: this is a folder; name an image in it",
+        ),
+        (2, "play log", "log: this is a log, and a story is due"),
+        (
+            2,
+            "send cards large",
+            "large: it has more than 16777216 bytes, the most that a list of commands has",
+        ),
+        (
+            2,
+            "play large",
+            "large: it has more than 16777216 bytes, the most that a story has",
+        ),
+        (
+            2,
+            "compare large text",
+            "large: it has more than 65536 bytes, the most that a structured text has",
+        ),
+        (
+            2,
+            "make new --from list",
+            "list: line 1, column 1: the shape of an image is due, as in `cards 2 room 64`, not `shared`",
         ),
         (
             2,
@@ -172,11 +255,6 @@ fn files_that_are_none() {
             1,
             "send large text",
             "large: it has more than 65536 bytes, the most that an image has (rule 2.2)",
-        ),
-        (
-            1,
-            "send cards large",
-            "large: it has more than 16777216 bytes, the most that a list of commands has",
         ),
         (
             2,
@@ -341,6 +419,42 @@ fn a_full_disk_is_told_of() {
         .status()
         .expect("it runs");
     assert_eq!(status.code(), Some(2));
+}
+
+/// Where the output is lost, it is told whether the file is changed.
+#[test]
+fn a_full_disk_leaves_what_is_saved() {
+    let place = Place::new();
+    let written = "exclusive write original of card 0 by (1.1.0, 1.1.0) text \"205\"\n";
+    place.write("list", written);
+    place.write("records", "begin 1\n");
+    for (words, right) in [
+        (
+            "make cards --cards 1 --room 16",
+            "cards: made, version 1, 1 card, room 16, 80 bytes\n",
+        ),
+        ("send cards list", "1 accepted; cards is saved\n"),
+        (
+            "send cards list --dry-run",
+            "No space left on device (os error 28)\n",
+        ),
+        (
+            "log make log",
+            "log: made, a log of 8192 bytes with 0 records\n",
+        ),
+        (
+            "log append log records",
+            "log: a log of 8192 bytes with 1 record\n",
+        ),
+    ] {
+        let full = OpenOptions::new().write(true).open("/dev/full");
+        let mut command = place.command(words);
+        command.stdout(full.expect("/dev/full"));
+        let called = called(command.stderr(Stdio::piped()).output().expect("it runs"));
+        assert_eq!(called.status, 2, "{words}");
+        assert!(called.told.ends_with(right), "{}", called.told);
+    }
+    assert!(place.well("show cards").contains("\"205\""));
 }
 
 #[test]

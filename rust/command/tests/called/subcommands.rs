@@ -376,11 +376,15 @@ fn numbers_are_explained() {
     assert!(
         place
             .fails(2, "explain log")
-            .starts_with("log is no number")
+            .starts_with("`log` is no number")
     );
     assert_eq!(
         place.fails(2, "explain 27"),
-        "27 is no number of an answer: they are 0 to 26; `lupaniele explain` lists them"
+        "`27` is no number of an answer, nor the name of one; they are 0 to 26, and `lupaniele explain` lists them"
+    );
+    assert_eq!(
+        place.fails(2, "explain malformd"),
+        "`malformd` is no number of an answer, nor the name of one; did you mean `malformed`?"
     );
 }
 
@@ -435,6 +439,67 @@ exclusive write translation of card 0 by (1.1.0, 1.1.0) edition 1 steps (words \
         place
             .fails(2, "compare cards english")
             .starts_with("cards: this is an image; compare the texts of a card with --card K")
+    );
+}
+
+#[test]
+fn what_is_not_written_cannot_be_compared() {
+    let place = Place::new();
+    place.well("make one --cards 1 --room 64");
+    place.well("make four --cards 1 --room 64 --version 2");
+    let written = "exclusive write original of card 0 by (1.1.0, 1.1.0) steps (drop 205.0 C)\n";
+    place.write("list", written);
+    let none = "is not written yet, so there is nothing to compare\n";
+    let told = |words: &str, right: String| {
+        let called = place.call(words);
+        assert_eq!((called.status, called.out), (1, right), "{words}");
+    };
+    told(
+        "compare one --card 0",
+        format!("card 0: its original {none}"),
+    );
+    place.well("send one list");
+    place.well("send four list");
+    told(
+        "compare one --card 0",
+        format!("card 0: translation {none}"),
+    );
+    told(
+        "compare four --card 0 --language 3",
+        format!("card 0: language 3 {none}"),
+    );
+    assert_eq!(
+        place.fails(2, "compare one --card 0 --language 1"),
+        "--language 1: an image of version 1 has language 0 alone"
+    );
+    assert_eq!(
+        place.fails(2, "compare four --card 0 --language 4"),
+        "--language 4: an image of version 2 has the languages 0 to 3"
+    );
+}
+
+#[test]
+fn one_byte_is_no_bytes() {
+    let place = Place::new();
+    place.well("make cards --cards 1 --room 16");
+    let list = "exclusive write original of card 0 by (1.1.0, 1.1.0) text \"a\"\n";
+    place.write("list", list);
+    place.well("send cards list");
+    let out = place.well("show cards --card 0");
+    assert!(out.contains("  original: edition 1, 1 byte\n"), "{out}");
+}
+
+#[test]
+fn a_translation_of_nothing_is_told_so() {
+    let place = Place::new();
+    place.well("make cards --cards 1 --room 64");
+    let list = "exclusive write translation of card 0 by (1.1.0, 1.1.0) edition 1 text \"401\"\n";
+    place.write("list", list);
+    let right = "6 translation behind (rule 4.6): it is made from edition 1, and there is no original yet.\n";
+    let called = place.call("send cards list");
+    assert!(
+        called.status == 1 && called.out.contains(right),
+        "{called:?}"
     );
 }
 
@@ -556,9 +621,16 @@ fn a_marked_card_is_finished_by_its_desk_alone() {
     );
     place.well("log append log records");
     place.well("send cards prepare");
+    let before = (place.read("cards"), place.read("log"));
+    let right = "1 update written, 1 card noted as synced\n";
+    assert_eq!(
+        place.well("log recover log cards --desk 1.1 --marked --dry-run"),
+        format!("{right}nothing was changed (--dry-run)\n")
+    );
+    assert!(before == (place.read("cards"), place.read("log")));
     assert_eq!(
         place.well("log recover log cards --desk 1.1 --marked"),
-        "1 updates written, 1 cards noted as synced\n"
+        right
     );
     let out = place.well("show cards --card 0");
     assert!(

@@ -130,20 +130,28 @@ fn new_seed() -> u64 {
     now.map_or(0, |since| since.as_nanos() as u64)
 }
 
+/// Carries out a plan, and says where it was stopped.
+fn ran(plan: Plan) -> Option<Tally> {
+    let mut tally = Tally::default();
+    if let Err(stop) = run(&mut Proved, &mut tally, plan) {
+        say(format!("simulate: seed {}, a breach", plan.seed));
+        stopped(&stop);
+        return None;
+    }
+    Some(tally)
+}
+
 /// Runs some steps: for tools that make it slow.
 fn some(seed: u64, steps: u64) -> ExitCode {
-    let mut tally = Tally::default();
     let plan = Plan {
         seed,
         steps,
         first: 1,
         progress: false,
     };
-    if let Err(stop) = run(&mut Proved, &mut tally, plan) {
-        say(format!("simulate: seed {seed}, a breach"));
-        stopped(&stop);
+    let Some(tally) = ran(plan) else {
         return ExitCode::FAILURE;
-    }
+    };
     let steps = grouped(tally.steps);
     say(format!("simulate: no breach in {steps} steps, seed {seed}"));
     ExitCode::SUCCESS
@@ -152,7 +160,6 @@ fn some(seed: u64, steps: u64) -> ExitCode {
 /// Runs everything, and prints the tables.
 fn simulated(seed: u64, steps: u64) -> ExitCode {
     say(format!("simulate: seed {seed}, {} steps", grouped(steps)));
-    let mut tally = Tally::default();
     let started = Instant::now();
     let plan = Plan {
         seed,
@@ -160,11 +167,9 @@ fn simulated(seed: u64, steps: u64) -> ExitCode {
         first: 0,
         progress: true,
     };
-    if let Err(stop) = run(&mut Proved, &mut tally, plan) {
-        say(format!("simulate: seed {seed}, a breach"));
-        stopped(&stop);
+    let Some(tally) = ran(plan) else {
         return ExitCode::FAILURE;
-    }
+    };
     let seconds = started.elapsed().as_secs_f64();
     put(&tally.table());
     let rate = grouped((tally.steps as f64 / seconds) as u64);

@@ -137,22 +137,12 @@ impl Shape {
     /// A shape whose card 0 is worn out.
     pub fn worn() -> Shape {
         Shape {
-            cards: 2,
-            room: 16,
             versions: Versions::Converts(70_000),
-            desks: 3,
-            places: 3,
-            log: 2_600,
             steps: 75_000,
             storm: 10,
             polite: false,
             worn: true,
-            careless: false,
-            guests: 0,
-            managers: 1,
-            majority: false,
-            transacting: false,
-            crowd: 60,
+            ..Shape::small()
         }
     }
 
@@ -397,14 +387,8 @@ impl<'a, L: Library> Town<'a, L> {
         self.reply.extend_from_slice(&self.lent[..lent]);
         let before = self.scenes.is_some().then(|| self.image.clone());
         let (image, reply) = (&mut self.image, &mut self.reply);
-        let (operation, answer) = match format {
-            Format::V1 => (Operation::Store, self.library.answer(image, command, reply)),
-            Format::V2 => (
-                Operation::Store2,
-                self.library.answer_v2(image, command, reply),
-            ),
-        };
-        self.tally.number(operation, answer.number);
+        let answer = self.library.answer_in(format, image, command, reply);
+        self.tally.number(Operation::store(format), answer.number);
         if let Some((scenes, before)) = self.scenes.as_mut().zip(before) {
             let shown = &self.reply[..(answer.fields[6] as usize).min(lent)];
             let images = [&before[..], &self.image];
@@ -428,10 +412,7 @@ impl<'a, L: Library> Town<'a, L> {
         if !self.now.is_multiple_of(64) {
             return Ok(());
         }
-        let sound = match self.store.format {
-            Format::V1 => self.library.sound(&self.image),
-            Format::V2 => self.library.sound_v2(&self.image),
-        };
+        let sound = self.library.sound_in(self.store.format, &self.image);
         self.tally.made.same(Check::Sound, sound, true)
     }
 

@@ -40,34 +40,54 @@ impl<L: Library> Town<'_, L> {
         }
     }
 
-    /// A copy of the image with a byte changed so that it is not sound: every
-    /// command gets 9, and so does a recovery that has something to write.
-    fn damaged_image(&mut self) -> Checked {
-        let entry = 16 + 32 * self.card();
-        let at = self.random.pick(&[0, 4, 10, entry + 18, entry + 29]);
+    /// A copy of the image with a byte changed at one of these places, so that
+    /// it is not sound: every command gets 9.
+    fn damaged_copy(&mut self, places: &[usize]) -> Checked<Vec<u8>> {
         let mut image = self.image.clone();
-        image[at] ^= 0x40;
-        let damaged = image.clone();
+        image[self.random.pick(places)] ^= 0x40;
+        let (damaged, format) = (image.clone(), self.store.format);
         let command = CommandFields {
+            format,
             act: 5,
             mode: 1,
             pair: Pair::new(1 << 16, 0),
             ..CommandFields::default()
         };
-        let mut reply = [0xa5; 16];
+        let (command, mut reply) = (command.to_bytes(), [0xa5; 16]);
         let answer = self
             .library
-            .answer(&mut image, &command.to_bytes(), &mut reply);
-        self.tally.number(Operation::Store, answer.number);
+            .answer_in(format, &mut image, &command, &mut reply);
+        self.tally.number(Operation::store(format), answer.number);
         self.tally.fault(Fault::DamagedImage);
+        let number = match format {
+            Format::V1 => Check::Number,
+            Format::V2 => Check::Number2,
+        };
         let made = &mut self.tally.made;
-        made.same(Check::Sound, self.library.sound(&image), false)?;
-        made.same(Check::Number, answer, NOT_SOUND)?;
+        made.same(Check::Sound, self.library.sound_in(format, &image), false)?;
+        made.same(number, answer, NOT_SOUND)?;
         let same = image == damaged && reply == [0xa5; 16];
         made.hold(Check::RefusedStore, same, || {
             "9, and bytes are changed".into()
         })?;
-        self.damaged_run(Format::V1, &command.to_bytes(), &damaged)?;
+        self.damaged_run(format, &command, &damaged)?;
+        Ok(damaged)
+    }
+
+    /// A damaged copy of an image of version 2.
+    fn damaged_image2(&mut self) -> Checked {
+        let entry = 16 + 48 * self.card();
+        let places = [0, 4, 10, entry + 18, entry + 27, entry + 44, entry + 47];
+        self.damaged_copy(&places).map(|_| ())
+    }
+
+    /// A damaged copy of an image of version 1: 9 gets a recovery, too, that has
+    /// something to write.
+    fn damaged_image(&mut self) -> Checked {
+        let entry = 16 + 32 * self.card();
+        let places = [0, 4, 10, entry + 18, entry + 29];
+        let damaged = self.damaged_copy(&places)?;
+        let mut image = damaged.clone();
         let desk = self.random.index(self.desks.len());
         let desk = &self.desks[desk];
         let line = read(&desk.log).and_then(|read| {

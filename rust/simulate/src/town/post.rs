@@ -78,14 +78,7 @@ pub fn act_in(format: Format, bytes: &[u8]) -> (u8, u8) {
 impl<L: Library> Town<'_, L> {
     /// A desk sends a message.
     pub(super) fn send(&mut self, desk: usize, card: usize, body: Body) {
-        let (who, sent) = (self.desks[desk].who, self.now);
-        self.post.push(Message {
-            desk,
-            who,
-            sent,
-            card,
-            body,
-        });
+        self.answer_to(desk, self.desks[desk].who, card, body);
     }
 
     /// A message that is drawn from the post arrives.

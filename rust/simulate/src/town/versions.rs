@@ -6,7 +6,6 @@ use second::{CommandFields, Format};
 use story::Scene;
 
 use super::Town;
-use crate::checks::store::NOT_SOUND;
 use crate::checks::versions::{conversion_number, exists, fresh, size, MOST};
 use crate::checks::{Check, Checked};
 use crate::library::Library;
@@ -214,34 +213,5 @@ impl<L: Library> Town<'_, L> {
         self.tally.made.hold(Check::Made, same, || {
             format!("{cards} cards with room {room} in {length} bytes: {number}")
         })
-    }
-
-    /// A damaged copy of an image of version 2: every command gets 9.
-    pub(super) fn damaged_image2(&mut self) -> Checked {
-        let entry = 16 + 48 * self.card();
-        let at = [0, 4, 10, entry + 18, entry + 27, entry + 44, entry + 47];
-        let mut image = self.image.clone();
-        image[self.random.pick(&at)] ^= 0x40;
-        let damaged = image.clone();
-        let mut reply = [0xa5; 16];
-        let command = CommandFields {
-            format: Format::V2,
-            act: 5,
-            mode: 1,
-            pair: second::Pair::new(1 << 16, 0),
-            ..CommandFields::default()
-        };
-        let bytes = command.to_bytes();
-        let answer = self.library.answer_v2(&mut image, &bytes, &mut reply);
-        self.tally.number(Operation::Store2, answer.number);
-        self.tally.fault(Fault::DamagedImage);
-        let made = &mut self.tally.made;
-        made.same(Check::Sound, self.library.sound_v2(&image), false)?;
-        made.same(Check::Number2, answer, NOT_SOUND)?;
-        let same = image == damaged && reply == [0xa5; 16];
-        made.hold(Check::RefusedStore, same, || {
-            "9, and bytes are changed".into()
-        })?;
-        self.damaged_run(Format::V2, &bytes, &damaged)
     }
 }
