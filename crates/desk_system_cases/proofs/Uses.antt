@@ -43,7 +43,7 @@ use Rattle.desk_system.proofs.Claims.{premise-kept, desks-isolated, store-follo
 use Rattle.desk_system.specs.Progress.{ownEntry, Listening, hears, makes, knownBy, heardIn, acceptedFor, ownMade}
 use Rattle.desk_system.proofs.Stamps.{stamps-last, guard-spends}
 use Rattle.desk_system.proofs.Progress.{own-pairs}
-use Rattle.desk_system_cases.proofs.Trials.{long-story}
+use Rattle.desk_system_cases.proofs.Runs.{desk-runs}
 
 -- ---- what the uses rest on, by computation
 
@@ -143,7 +143,7 @@ fits = (
 )
 
 told : ByRules V1 1 16 twoPlaces blankLogs longStory
-told = record { shape = shape; fits = fits; rules = long-story .rules }
+told = record { shape = shape; fits = fits; rules = desk-runs .1 .0 .rules }
 
 -- ---- the long story
 

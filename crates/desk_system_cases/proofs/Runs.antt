@@ -1,5 +1,5 @@
--- The story and the runs that break one rule, by computation on bytes. Assumes nothing.
-use mathlib.Core.Path.{refl}
+-- The stories, the runs that break one rule and the other worked runs, by computation on bytes. Assumes nothing.
+use mathlib.Core.Path.{refl, _≡_, sym, subst}
 use lib.Ieee.{ofBits, ofInt, add, sub, mul, div, neg, lt, le as atMost}
 use Rattle.floats.specs.Numbers.{wholeFloat, half}
 use Rattle.lists.specs.Parts.{part, splice, tabulate, concatMap, every, zeros}
@@ -12,10 +12,10 @@ use Rattle.guard.specs.Judge.{raise}
 use Rattle.guard.specs.Replies.{replied}
 use Rattle.image.specs.Layout.{shapeOk}
 use Rattle.image.specs.Bytes.{header, entryBytes, pad, readEntry, entryAt}
-use Rattle.image.specs.Image.{bodies, encode, cardAt, decode, tailZero, translationSound, cardSound, headerSound, sound, fresh}
+use Rattle.image.specs.Image.{makes, bodies, encode, cardAt, decode, tailZero, translationSound, cardSound, headerSound, sound, fresh}
 use Rattle.store_model.specs.Serve.{stepped, serveBy, serve}
 use Rattle.image.specs.Convert.{converted}
-use Rattle.image.specs.Image.{makes}
+use Rattle.image.specs.Image.{makes, bodies, encode, cardAt, decode, tailZero, translationSound, cardSound, headerSound, sound, fresh}
 use Rattle.redo_log.specs.Log.{shaped, lastBegun, opened, follows, total, startAt, recordAt, recordOk, goodLog, records}
 use Rattle.redo_log.specs.Append.{stored, puts, lineBytes, stores, appended}
 use Rattle.redo_log_claims.specs.Claims.{appendedAll}
@@ -24,17 +24,27 @@ use Rattle.lock_queue.specs.Queue.{stands, firstPlace, noExclusive, holdsAt, ho
 use Rattle.lock_queue.specs.Good.{distinct, good}
 use Rattle.lock_queue.specs.Requests.{joined, removed, without, upgrading, queueJoined, answered, number, after, answer}
 use Rattle.desk_proposals.specs.Propose.{learnt, nextT, pairFor, proposed}
-use Rattle.desk_system.specs.System.{sendSteps, stepTo, systemAfter, byRules}
-use Rattle.desk_system_cases.specs.Trials.{Story, LongStory, ManyManagers, RulesNeeded}
+use Rattle.desk_system.specs.System.{sendSteps, stepTo, systemAfter, byRules, send}
+use Rattle.desk_system_cases.specs.Trials.{Story, LongStory, ManyManagers, RulesNeeded, singleCard}
+use native.Mathlib.Omega.{arith}
+use mathlib.Core.List.{map}
+use Rattle.formats.specs.Format.{V1}
+use Rattle.store_model.specs.Words.{imageAfter, traceFrom, traceOf}
+use Rattle.store_model.specs.Claims.{Intruded}
+use Rattle.store_model.specs.Cases.{sentD}
+use Rattle.store_model.proofs.Premise.{premise-tells}
+use Rattle.desk_system_cases.specs.HistoryCases.{Lived, HistoryNeeds}
+use Rattle.desk_system_cases.specs.ProgressCases.{GuardCases, SpendCases}
+use Rattle.desk_system_cases.specs.Runs.{DeskRuns}
 
-pub story-holds : Story
+story-holds : Story
 unfolding byRules systemAfter stepTo learnt nextT pairFor proposed answered number after answer upgrading queueJoined firstPlace good distinct stands
     joined removed without serve serveBy stepped sound headerSound cardSound translationSound tailZero decode cardAt entryAt readEntry encode bodies
     pad entryBytes header shapeOk fresh replied raise entrySound commandBytes formed payload fieldsOf wellFormed all allFrom le toLe part splice
     tabulate concatMap every zeros
 story-holds = record { rules = refl; answers = refl; shows = refl; carried = refl; below = refl }
 
-pub long-story : LongStory
+long-story : LongStory
 unfolding byRules systemAfter stepTo sendSteps due recoverySent recoveryStep recovering recovered appendedAll stored puts lineBytes stores appended
     shaped lastBegun opened follows total startAt recordAt recordOk goodLog records converted makes learnt nextT pairFor proposed answered number
     after answer upgrading queueJoined firstPlace good distinct stands joined removed without serve serveBy stepped sound headerSound cardSound
@@ -42,14 +52,14 @@ unfolding byRules systemAfter stepTo sendSteps due recoverySent recoveryStep rec
     formed payload fieldsOf wellFormed all allFrom le toLe part splice tabulate concatMap every zeros ofBits ofInt wholeFloat half add sub mul div neg lt atMost
 long-story = record { rules = refl; version = refl; answers = refl; shows = refl; not-proposed = refl; not-exclusive = refl }
 
-pub many-managers : ManyManagers
+many-managers : ManyManagers
 unfolding byRules systemAfter stepTo learnt nextT pairFor proposed answered number after answer upgrading queueJoined firstPlace good distinct stands
     noExclusive holdsAt holds joined removed without serve serveBy stepped sound headerSound cardSound translationSound tailZero decode cardAt entryAt
     readEntry encode bodies pad entryBytes header shapeOk fresh replied raise entrySound commandBytes formed payload fieldsOf wellFormed all allFrom le
     toLe part splice tabulate concatMap every zeros
 many-managers = record { rules = refl; answers = refl; held-0 = refl; held-1 = refl }
 
-pub rules-needed : RulesNeeded
+rules-needed : RulesNeeded
 unfolding byRules systemAfter stepTo learnt nextT pairFor proposed answered number after answer upgrading queueJoined firstPlace good distinct stands
     joined removed without serve serveBy stepped sound headerSound cardSound translationSound tailZero decode cardAt entryAt readEntry encode bodies
     pad entryBytes header shapeOk fresh replied raise entrySound commandBytes formed payload fieldsOf wellFormed all allFrom le toLe part splice
@@ -72,3 +82,54 @@ rules-needed =
       stored = record { before = refl; after = refl; broken = refl };
       queued = record { before = refl; after = refl; broken = refl };
     }
+
+-- ---- the whole system
+
+lived-through : Lived
+unfolding byRules systemAfter stepTo sendSteps due recoverySent recoveryStep recovering recovered appendedAll stored puts lineBytes stores appended
+    shaped lastBegun opened follows total startAt recordAt recordOk goodLog records converted makes learnt nextT pairFor proposed answered number
+    after answer upgrading queueJoined firstPlace good distinct stands joined removed without serve serveBy stepped sound headerSound cardSound
+    translationSound tailZero decode cardAt entryAt readEntry encode bodies pad entryBytes header shapeOk fresh replied raise entrySound commandBytes
+    formed payload fieldsOf wellFormed all allFrom le toLe part splice tabulate concatMap every zeros
+lived-through = record { rules = refl; cut = refl; logged = refl; same-bytes = refl; answers = refl; shows = refl; version = refl; goes-on = refl }
+
+-- Requests alone leave demand 3's log.
+only-sent : systemAfter singleCard (map send sentD) .store .trace ≡ traceOf V1 1 16 sentD
+unfolding systemAfter stepTo traceOf traceFrom imageAfter
+only-sent = refl
+
+history-needs : HistoryNeeds
+unfolding byRules systemAfter stepTo learnt appended shaped goodLog records commandBytes formed payload fieldsOf wellFormed all allFrom le toLe part splice
+    tabulate concatMap every zeros
+history-needs =
+    record { unruled = refl; intruded = subst Intruded (sym only-sent) (premise-tells .without); bad-log = refl; no-record = refl }
+
+-- ---- desks that get on
+
+guard-cases : GuardCases
+unfolding imageAfter nextT pairFor proposed serve serveBy stepped sound headerSound cardSound translationSound tailZero decode cardAt entryAt readEntry encode
+    bodies pad entryBytes header shapeOk fresh replied raise entrySound commandBytes formed payload fieldsOf wellFormed all allFrom le toLe part splice
+    tabulate concatMap every zeros
+guard-cases = record { near = refl; edge = refl; passes = refl; too-far = refl; far = refl; unrelying = refl; overtaken = refl }
+
+spend-cases : SpendCases
+unfolding byRules systemAfter stepTo learnt nextT pairFor proposed answered number after answer upgrading queueJoined firstPlace good distinct stands
+    joined removed without serve serveBy stepped sound headerSound cardSound translationSound tailZero decode cardAt entryAt readEntry encode bodies
+    pad entryBytes header shapeOk fresh replied raise entrySound commandBytes formed payload fieldsOf wellFormed all allFrom le toLe part splice
+    tabulate concatMap every zeros
+spend-cases =
+    record {
+      refused = refl;
+      after = refl;
+      spent = refl;
+      none-made = refl;
+      guarded = refl;
+      enough = record { raised = omega arith; together = omega arith };
+      not-enough = λ s. absurd (omega (arith, s .raised));
+      alone = record { raised = omega arith; together = omega arith };
+    }
+
+-- ---- all of them
+
+pub desk-runs : DeskRuns
+desk-runs = (story-holds, (long-story, (many-managers, (rules-needed, (lived-through, (history-needs, (guard-cases, spend-cases)))))))
