@@ -12,6 +12,7 @@ use Rattle.formats.specs.Format.{Format, V1, V2}
 use Rattle.lists.specs.Search.{none}
 use Rattle.lists.specs.Table.{settled}
 use Rattle.lists.proofs.Tests.{cases, and-in, and-left, and-right, or-left, or-right, not-in, never-both}
+use Rattle.lists.specs.Runs.{foldl, everyAlong}
 use Rattle.stamps.specs.Stamp.{exclusive, own}
 use Rattle.stamps.specs.declared.Pair.{Pair}
 use Rattle.commands.specs.Command.{update}
@@ -121,7 +122,7 @@ kept-next v n c y (appendTo desk budget r) k f h =
 kept-next v n c y (renewLog desk) k f h = kept-log v n c y k desk (renewed (y .logs desk .bytes)) []
 
 kept-run : (v : Format) (n c : ℕ) (y : System) (steps : List Move) → Kept v n c y → AllFit steps → byRules y steps ≡ true → Kept v n c (systemAfter y steps)
-unfolding systemAfter byRules
+unfolding foldl everyAlong
 kept-run v n c y [] k f h = k
 kept-run v n c y (s ∷ steps) k f h =
     kept-run v n c (stepTo y s) steps
@@ -163,7 +164,7 @@ made-next y (appendTo desk budget r) m a = a
 made-next y (renewLog desk) m a = a
 
 pub made-run : (y : System) (steps : List Move) (m : Made) → Among m (y .desks .made) → Among m (systemAfter y steps .desks .made)
-unfolding systemAfter
+unfolding foldl
 made-run y [] m a = a
 made-run y (s ∷ steps) m a = made-run (stepTo y s) steps m (made-next y s m a)
 

@@ -4,6 +4,7 @@ use mathlib.Core.Path.{_≡_, refl}
 use mathlib.Core.List.{List, [], _∷_}
 use Rattle.formats.specs.Format.{Format, V1, V2}
 use Rattle.lists.specs.Table.{settled}
+use Rattle.lists.specs.Runs.{foldl}
 use Rattle.image.specs.Convert.{converted, convertNumber}
 use Rattle.store_model.specs.Serve.{serve}
 use Rattle.store_model.specs.Words.{Sent, Event, eventOf}
@@ -87,6 +88,6 @@ module _ (v : Format) (n c : ℕ) (P : Format → List ℕ → List Event → Ty
   carried-next y (renewLog desk) f h = h
 
   pub carried-run : (y : System) (steps : List Move) → AllFit steps → Of y → Of (systemAfter y steps)
-  unfolding systemAfter
+  unfolding foldl
   carried-run y [] f h = h
   carried-run y (s ∷ steps) f h = carried-run (stepTo y s) steps (f .1) (carried-next y s (f .0) h)

@@ -6,6 +6,7 @@ use mathlib.Core.Bool.{true}
 use Rattle.formats.specs.Format.{Format, V1, V2}
 use Rattle.lists.specs.Parts.{Bytes}
 use Rattle.lists.specs.Table.{settled}
+use Rattle.lists.specs.Runs.{foldl}
 use Rattle.commands.specs.Command.{Language}
 use Rattle.image.specs.Image.{encode}
 use Rattle.image.specs.Convert.{converted, convertNumber}
@@ -120,7 +121,7 @@ logs-next y (appendTo desk budget r) f h =
 logs-next y (renewLog desk) f h = logs-with y h desk (renewed (y .logs desk .bytes)) [] (renewed-reads (y .logs desk .bytes) (y .logs desk .whole) (h desk))
 
 logs-run : (y : System) (steps : List Move) → AllFit steps → Logs y → Logs (systemAfter y steps)
-unfolding systemAfter
+unfolding foldl
 logs-run y [] f h = h
 logs-run y (s ∷ steps) f h = logs-run (stepTo y s) steps (f .1) (logs-next y s (f .0) h)
 

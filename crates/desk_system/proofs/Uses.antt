@@ -9,6 +9,7 @@ use lib.Dec.{T}
 use lib.ListN.{replicate}
 use Rattle.formats.specs.Format.{V1}
 use Rattle.lists.specs.Table.{all, allFrom}
+use Rattle.lists.specs.Runs.{everyAlong}
 use Rattle.stamps.specs.Stamp.{stamp}
 use Rattle.image.specs.Layout.{shapeOk}
 use Rattle.store_model.specs.Words.{premise, commandsIn}
@@ -29,7 +30,7 @@ abbrev stranger : List Move
 stranger = atQueue 0 7 33 (leaves (stamp 0 3 0)) ∷ []
 
 strange : ByRules V1 1 16 many noLogs stranger
-unfolding byRules shapeOk all allFrom
+unfolding everyAlong shapeOk all allFrom
 strange = record { shape = tt; fits = (tt, tt); rules = refl }
 
 strange-premise : premise 0 (commandsIn (finally V1 1 16 many noLogs stranger .store .trace)) ≡ true

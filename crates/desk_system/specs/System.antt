@@ -12,6 +12,7 @@ use lib.ListN.{drop}
 use Rattle.lists.specs.Parts.{Bytes}
 use Rattle.lists.specs.Search.{any}
 use Rattle.lists.specs.Table.{settled}
+use Rattle.lists.specs.Runs.{foldl, everyAlong}
 use Rattle.stamps.specs.Stamp.{noPair}
 use Rattle.stamps.specs.declared.Pair.{Pair}
 use Rattle.commands.specs.Command.{update}
@@ -259,14 +260,12 @@ stepTo y (renewLog desk) = withLog desk (renewed (y .logs desk .bytes)) [] y
 
 -- ---- runs: steps in the order in which they happen
 
-unfoldable pub systemAfter : System → List Move → System
-systemAfter y [] = y
-systemAfter y (s ∷ steps) = systemAfter (stepTo y s) steps
+abbrev pub systemAfter : System → List Move → System
+systemAfter y moves = foldl stepTo y moves
 
 -- Each step is by the rules, in the system as the steps before it left it.
-unfoldable pub byRules : System → List Move → Bool
-byRules y [] = true
-byRules y (s ∷ steps) = allowed y s && byRules (stepTo y s) steps
+abbrev pub byRules : System → List Move → Bool
+byRules y moves = everyAlong allowed stepTo y moves
 
 -- What is sent and appended is bytes, and stamps that a recovery is given fit in 64 bits.
 abbrev pub Fits : Move → Type 0

@@ -1,5 +1,5 @@
 -- Worked runs of the whole system, by computation on bytes, and what the one theorem needs. Proved in
--- proofs/HistoryCases.antt.
+-- proofs/Runs.antt.
 -- Assumes nothing.
 use Prim.Native.Nat.{ℕ}
 use mathlib.Core.Path.{_≡_}

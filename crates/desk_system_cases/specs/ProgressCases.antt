@@ -1,5 +1,5 @@
 -- Worked cases of desks that get on, and of what stops them: a command on the word of a reply, with something accepted in
--- between and without, by what its desk knows; and stamps that are used up. Proved in proofs/ProgressCases.antt.
+-- between and without, by what its desk knows; and stamps that are used up. Proved in proofs/Runs.antt.
 -- Assumes nothing.
 use Prim.Native.Nat.{ℕ}
 use mathlib.Core.Path.{_≡_}

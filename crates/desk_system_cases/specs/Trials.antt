@@ -1,5 +1,5 @@
 -- Desks by the rules in a computed story, and for each rule one run in which it alone is broken, and with it demand
--- 3's premise. Proved by computation in proofs/Trials.antt.
+-- 3's premise. Proved by computation in proofs/Runs.antt.
 -- Assumes nothing.
 use Prim.Native.Nat.{ℕ}
 use mathlib.Core.Path.{_≡_}

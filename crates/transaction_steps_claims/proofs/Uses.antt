@@ -35,7 +35,7 @@ use Rattle.transaction_steps_claims.specs.Cases.{doneAsTold}
 use Rattle.transaction_steps_claims.proofs.Follower.{followers-keep-the-rules}
 use Rattle.transaction_steps_claims.proofs.Ends.{steps-end}
 use Rattle.transaction_steps_claims.proofs.Taken.{orders-taken}
-use Rattle.transaction_steps_claims.proofs.Cases.{follower-runs}
+use Rattle.transaction_steps_claims.proofs.Cases.{next-step-cases}
 
 shape-two : T (shapeOk V1 2 16)
 unfolding shapeOk all allFrom
@@ -74,7 +74,7 @@ afterHazard = afterDoings 5 (followerOpening (fresh V1 2 16) (emptyLog 64)) (map
 
 through-hazard : Moment 5 afterHazard
 through-hazard =
-    followers-keep-the-rules 5 (fresh V1 2 16) (emptyLog 64) (map doneAsTold hazard) clean blank (all-followed hazard (steps-tested hazard hazard-bytes)) (follower-runs .told)
+    followers-keep-the-rules 5 (fresh V1 2 16) (emptyLog 64) (map doneAsTold hazard) clean blank (all-followed hazard (steps-tested hazard hazard-bytes)) (next-step-cases .1 .0 .told)
 
 -- It forgets a card that is not there, falls, logs half a begin and then a whole one, and lets its log begin again.
 abbrev idly : List Doing

@@ -19,7 +19,7 @@ use Rattle.redo_log.specs.Log.{LogRecord, commitKind, goodLog, records}
 use Rattle.redo_log.specs.Append.{appendNumber}
 use Rattle.redo_recovery_model.specs.Recovery.{Pairs}
 use Rattle.redo_recovery_model.specs.Claims.{textIn, textOf}
-use Rattle.transactions.specs.System.{OneDesk, Order, Shown, Holding, unknown, Step, other, order, arrive, append, crash, recover, renew, noOrder, commandIn, markIn, lawful, afterStep}
+use Rattle.transactions.specs.System.{OneDesk, Order, Shown, Holding, unknown, Step, other, order, arrive, append, crash, recover, renew, byDoer, noOrder, commandIn, markIn, lawful, afterStep}
 use Rattle.transactions.specs.Claims.{StepBytes, Clean, Blank}
 
 -- ---- what there is
@@ -64,14 +64,9 @@ pub data DeskStep : Type 0 where
   -- a step of desk d: it sends an order, one arrives, it appends to its log, it goes down
   own : (d : ℕ) (m : Step) → DeskStep
 
+-- Rule 16.1: what desk d does itself, and what the post brings of it.
 abbrev pub ownStep : Step → Bool
-ownStep (other s) = false
-ownStep (order s line from) = true
-ownStep (arrive i) = true
-ownStep (append budget r) = true
-ownStep crash = true
-ownStep (recover pairs lines) = true
-ownStep renew = true
+ownStep m = byDoer false true true m
 
 -- Rule 16.1: some desks are under the rules. Who is not names none of them in a mark.
 abbrev pub lawfulDeskStep : (ℕ → Bool) → Desks → DeskStep → Bool

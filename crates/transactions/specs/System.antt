@@ -88,6 +88,16 @@ pub data Step : Type 0 where
   -- rule 16.18: the desk's log begins again (rule 11.27)
   renew : Step
 
+-- One of three, by who does a step: somebody else, the post that brings an order of the desk, the desk itself.
+abbrev pub byDoer : Bool → Bool → Bool → Step → Bool
+byDoer else post desk (other s) = else
+byDoer else post desk (order s line from) = desk
+byDoer else post desk (arrive i) = post
+byDoer else post desk (append budget r) = desk
+byDoer else post desk crash = desk
+byDoer else post desk (recover pairs lines) = desk
+byDoer else post desk renew = desk
+
 -- ---- words of the rules
 
 abbrev pub commandIn : Sent → Command
@@ -260,6 +270,10 @@ shownBy pairs rs reach (suc i) shown =
 abbrev pub forgetting : List LogRecord → (ℕ → Holding) → ℕ → Holding
 forgetting rs holds k = cond (writtenOut rs k 0 (length rs)) (holds k) unknown
 
+-- The same, but for what the desk knows of the cards.
+abbrev pub withHolds : (ℕ → Holding) → OneDesk → OneDesk
+withHolds holds y = record { image = y .image; log = y .log; meant = y .meant; orders = y .orders; shown = y .shown; holds = holds }
+
 unfoldable pub afterStep : ℕ → OneDesk → Step → OneDesk
 afterStep d y (other s) =
     record {
@@ -299,8 +313,7 @@ afterStep d y (append budget r) =
       shown = y .shown;
       holds = y .holds;
     }
-afterStep d y crash =
-    record { image = y .image; log = y .log; meant = y .meant; orders = y .orders; shown = y .shown; holds = λ k. unknown }
+afterStep d y crash = withHolds (λ k. unknown) y
 afterStep d y (recover pairs lines) =
     let r = recovering pairs (records (y .log)) (y .image) lines in
     record {

@@ -40,7 +40,7 @@ use Rattle.transactions_progress.specs.Holders.{seenAs, ActingBytes, hol
 use Rattle.transactions_progress.specs.Cases.{loggedOnce, eachUnder, handedOver, afterHandover}
 use Rattle.transactions_progress.proofs.Claims.{recovery-taken, one-step-finishes}
 use Rattle.transactions_progress.proofs.Holders.{holders-are-one}
-use Rattle.transactions_progress.proofs.Cases.{handover-cases}
+use Rattle.transactions_progress.proofs.Cases.{progress-runs}
 
 shape-two : T (shapeOk V1 2 16)
 unfolding shapeOk all allFrom
@@ -150,7 +150,7 @@ handed-bytes = (
 )
 
 handed-moment : Moment 5 (seenAs (afterHandover .holder) afterHandover)
-handed-moment = holders-are-one 5 1 (fresh V1 2 16) (emptyLog 64) handedOver clean blank handed-bytes (handover-cases .rules)
+handed-moment = holders-are-one 5 1 (fresh V1 2 16) (emptyLog 64) handedOver clean blank handed-bytes (progress-runs .1 .rules)
 
 untouched : Moment 5 (seenAs 70000 (holdersOpening 70000 (fresh V1 2 16) (emptyLog 0)))
 unfolding everyAlong foldl

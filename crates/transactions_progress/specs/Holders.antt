@@ -8,7 +8,7 @@ use mathlib.Core.List.{List, [], _∷_}
 use mathlib.Core.Bool.{Bool, true, false, cond, not, _&&_}
 use lib.Dec.{eqb}
 use Rattle.lists.specs.Runs.{foldl, everyAlong}
-use Rattle.transactions.specs.System.{OneDesk, Holding, unknown, Step, other, order, arrive, append, crash, recover, renew, oneDeskOpening, lawful, afterStep}
+use Rattle.transactions.specs.System.{OneDesk, Holding, unknown, Step, byDoer, oneDeskOpening, lawful, withHolds, afterStep}
 use Rattle.transactions.specs.Claims.{StepBytes, Clean, Blank, Moment}
 
 -- ---- what there is
@@ -22,15 +22,7 @@ pub record Holders : Type 0 where
 
 -- The system of the desk, as one of them sees it.
 abbrev pub seenAs : ℕ → Holders → OneDesk
-seenAs who y =
-    record {
-      image = y .desk .image;
-      log = y .desk .log;
-      meant = y .desk .meant;
-      orders = y .desk .orders;
-      shown = y .desk .shown;
-      holds = y .minds who;
-    }
+seenAs who y = withHolds (y .minds who) (y .desk)
 
 -- ---- what can happen
 
@@ -42,14 +34,9 @@ pub data Acting : Type 0 where
   -- an order arrives, or somebody else's request
   comes : (m : Step) → Acting
 
+-- Rule 16.23: what somebody does for the desk, and the post does not.
 abbrev pub isAct : Step → Bool
-isAct (other s) = false
-isAct (order s line from) = true
-isAct (arrive i) = false
-isAct (append budget r) = true
-isAct crash = true
-isAct (recover pairs lines) = true
-isAct renew = true
+isAct m = byDoer false false true m
 
 -- Rule 16.23: only the holder acts, by the rules of the desk and by its own mind.
 abbrev pub lawfulActing : ℕ → Holders → Acting → Bool

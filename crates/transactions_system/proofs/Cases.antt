@@ -52,7 +52,7 @@ unfolding shapeOk all allFrom
 shape-one = tt
 
 pub dealt-by-both : Dealt
-unfolding movesIn stepsIn sendsAlong byRules systemAfter stepTo learnt nextT pairFor proposed everyAlong foldl afterDeskStep afterStep
+unfolding movesIn stepsIn sendsAlong everyAlong foldl stepTo learnt nextT pairFor proposed afterDeskStep afterStep
     withUpdates shownBy rewritten due recovering recoveryStep recoverySent stored puts lineBytes stores appended shaped lastBegun opened follows total
     startAt recordAt recordOk goodLog records serve serveBy stepped sound headerSound cardSound translationSound tailZero decode cardAt entryAt
     readEntry encode bodies pad entryBytes header shapeOk fresh replied raise entrySound commandBytes formed payload fieldsOf wellFormed all allFrom

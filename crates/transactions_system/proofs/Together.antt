@@ -12,6 +12,7 @@ use Rattle.formats.specs.Format.{Format, V1}
 use Rattle.lists.specs.Table.{settled}
 use Rattle.lists.proofs.Tests.{never-both, and-left, and-right, and-in, or-right}
 use Rattle.lists.specs.Runs.{foldl, everyAlong}
+use Rattle.lists.proofs.Runs.{foldl-append}
 use Rattle.stamps.specs.Stamp.{exclusive}
 use Rattle.stamps.specs.declared.Pair.{Pair}
 use Rattle.commands.specs.Command.{verifier, update}
@@ -105,11 +106,6 @@ fit-none (learn who card pair) e = tt
 fit-none (appendTo desk budget r) e = absurd (never-both refl (sym e))
 fit-none (renewLog desk) e = absurd (never-both refl (sym e))
 
-systemAfter-both : (y : System) (a b : List Move) → systemAfter y (a ++ b) ≡ systemAfter (systemAfter y a) b
-unfolding systemAfter
-systemAfter-both y [] b = refl
-systemAfter-both y (m ∷ a) b = systemAfter-both (stepTo y m) a b
-
 -- ---- the store among the desks is of version 1, with these bytes
 
 record Has (image : List ℕ) (y : System) : Type 0 where
@@ -127,7 +123,7 @@ has-send image y s h =
     }
 
 has-each : (l : List Sent) (image : List ℕ) (y : System) → Has image y → Has (imageAfter V1 image (reverse l)) (systemAfter y (sendEach l))
-unfolding systemAfter imageAfter
+unfolding foldl imageAfter
 has-each [] image y h = h
 has-each (s ∷ l) image y h =
     subst (λ (i : List ℕ). Has i (systemAfter (stepTo y (send s)) (sendEach l)))
@@ -191,7 +187,7 @@ module _ (ruled : ℕ → Bool) (z : Desks) (j : Joint ruled z) where
       fit-own d m (and-left (ruled d) (ownStep m) two) b (and-right (ruled d && ownStep m) (lawful d (seenBy d z) m) h)
 
   has-own : (y : System) (d : ℕ) (m : Step) → ownStep m ≡ true → Has (z .image) y → Has (afterDeskStep z (own d m) .image) (systemAfter y (movesOf z (own d m)))
-  unfolding systemAfter afterDeskStep afterStep
+  unfolding foldl afterDeskStep afterStep
   has-own y d (other s) e h = absurd (never-both refl (sym e))
   has-own y d (order s line from) e h = h
   has-own y d (arrive i) e h = has-send (z .image) y (getD (z .part d .orders) i noOrder .sent) h
@@ -205,7 +201,7 @@ module _ (ruled : ℕ → Bool) (z : Desks) (j : Joint ruled z) where
       (has-each (reverse sent) (z .image) y h)
 
   has-step : (y : System) (m : DeskStep) → lawfulDeskStep ruled z m ≡ true → Has (z .image) y → Has (afterDeskStep z m .image) (systemAfter y (movesOf z m))
-  unfolding systemAfter afterDeskStep afterStep
+  unfolding foldl afterDeskStep afterStep
   has-step y (outside s) h w = has-send (z .image) y s w
   has-step y (own d m) h w = has-own y d m (and-right (ruled d) (ownStep m) (and-left (ruled d && ownStep m) (lawful d (seenBy d z) m) h)) w
 
@@ -217,7 +213,7 @@ record Runs (z : Desks) (deals : List Deal) (y : System) : Type 0 where
 
 runs : (ruled : ℕ → Bool) (z : Desks) (deals : List Deal) (y : System) → Joint ruled z → AllDeskSteps (stepsIn deals) → lawfulDeskSteps ruled z (stepsIn deals) ≡ true → sendsAlong deals ≡ true
     → Has (z .image) y → Runs z deals y
-unfolding movesIn stepsIn sendsAlong everyAlong foldl systemAfter
+unfolding movesIn stepsIn sendsAlong everyAlong foldl
 runs ruled z [] y j b h e w = record { fits = tt; has = w }
 runs ruled z (beside m ∷ deals) y j b h e w =
     let now = and-left (sendsNone m) (sendsAlong deals) e in
@@ -231,7 +227,7 @@ runs ruled z (along m ∷ deals) y j b h e w =
     record {
       fits = fit-both (movesOf z m) (movesIn (afterDeskStep z m) deals) (fit-step ruled z j m (b .0) now) (rest .fits);
       has =
-          subst (Has (afterDeskSteps (afterDeskStep z m) (stepsIn deals) .image)) (sym (systemAfter-both y (movesOf z m) (movesIn (afterDeskStep z m) deals))) (rest .has);
+          subst (Has (afterDeskSteps (afterDeskStep z m) (stepsIn deals) .image)) (sym (foldl-append stepTo y (movesOf z m) (movesIn (afterDeskStep z m) deals))) (rest .has);
     }
 
 pub both-are-one : BothAreOne
@@ -298,7 +294,7 @@ module _ (y : System) (who card : ℕ) (pair : Pair) (s : Sent) (p : Proposes y 
       same-self q = and-in (eq-eqb (q .s) (q .s) refl) (eq-eqb (q .x) (q .x) refl)
 
   may-order : MayOrder y who card pair s
-  unfolding systemAfter
+  unfolding foldl
   may-order =
       record {
         ordered = λ v e x.

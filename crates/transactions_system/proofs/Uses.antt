@@ -12,7 +12,7 @@ use Rattle.formats.specs.Format.{V1}
 use Rattle.lists.specs.Parts.{part}
 use Rattle.lists.specs.Le.{le, toLe}
 use Rattle.lists.specs.Table.{all, allFrom}
-use Rattle.lists.specs.Runs.{everyAlong}
+use Rattle.lists.specs.Runs.{foldl, everyAlong}
 use Rattle.stamps.specs.Stamp.{stamp, exclusive, noMark}
 use Rattle.commands.specs.Command.{original}
 use Rattle.commands.specs.Bytes.{fieldsOf, commandBytes}
@@ -72,7 +72,7 @@ unfolding shapeOk all allFrom
 shape-one = tt
 
 idle : ByBoth 1 16 twoPlaces nobody (λ d. emptyLog 0) []
-unfolding movesIn stepsIn sendsAlong byRules everyAlong
+unfolding movesIn stepsIn sendsAlong everyAlong
 idle = record { shape = shape-one; nobody = refl; blank = λ d. zeros-blank 2201 (omega arith) (omega arith); bytes = tt; sends = refl; moves = refl; steps = refl }
 
 idle-moment : DesksMoment nobody (afterDeskSteps (desksOpening (fresh V1 1 16) (λ d. emptyLog 0)) (stepsIn []))
@@ -100,5 +100,5 @@ ordered7 : opensAbove (commandIn prepares7) (record { card = 7; x = 0; reach = 3
 ordered7 = may-order .ordered (record { card = 7; x = 0; reach = 3 }) refl refl
 
 arrives7 : allowed (systemAfter start (learn last 7 (pair 0 0) ∷ propose last 7 exclusive ∷ [])) (send prepares7) ≡ true
-unfolding systemAfter stepTo proposed pairFor nextT learnt
+unfolding foldl stepTo proposed pairFor nextT learnt
 arrives7 = may-order .arrives [] refl

@@ -1,10 +1,7 @@
--- Desks that get on, by computation, and the theorems used where their hypotheses only just hold. Assumes nothing.
-use Prim.Native.Nat.{ℕ, _/_}
+-- What is claimed of a command on the word of a reply, used where its hypotheses only just hold. Assumes nothing.
 use native.Mathlib.Omega.{arith}
-use mathlib.Core.Path.{_≡_, refl}
-use mathlib.Core.Logic.{inl, inr}
-use mathlib.Core.List.{List, [], _∷_}
-use mathlib.Core.Bool.{true}
+use mathlib.Core.Path.{refl}
+use mathlib.Core.List.{[], _∷_}
 use lib.Dec.{T}
 use Rattle.formats.specs.Format.{V1}
 use Rattle.lists.specs.Parts.{Bytes, part, splice, tabulate, concatMap, every, zeros}
@@ -23,37 +20,10 @@ use Rattle.store_model.specs.Serve.{stepped, serveBy, serve}
 use Rattle.store_model.specs.Words.{imageAfter, traceFrom}
 use Rattle.store_model.specs.Cases.{text401}
 use Rattle.store_model.proofs.ByTest.{bytes-by, sent-bytes}
-use Rattle.lock_queue.specs.Queue.{stands, firstPlace}
-use Rattle.lock_queue.specs.Good.{distinct, good}
-use Rattle.lock_queue.specs.Requests.{joined, removed, without, upgrading, queueJoined, answered, number, after, answer}
-use Rattle.desk_proposals.specs.Propose.{learnt, nextT, pairFor, proposed}
-use Rattle.desk_system.specs.System.{stepTo, systemAfter, byRules}
+use Rattle.desk_proposals.specs.Propose.{nextT, pairFor, proposed}
 use Rattle.desk_system.specs.Progress.{guardNumbers, imageLeft, Resumes}
-use Rattle.desk_system_cases.specs.ProgressCases.{freshStore, firstWrite, refusedSince, twoKnows, resumed, GuardCases, SpendCases}
+use Rattle.desk_system_cases.specs.ProgressCases.{freshStore, firstWrite, refusedSince, twoKnows, resumed}
 use Rattle.desk_system.proofs.Progress.{not-stale-after}
-
-pub guard-cases : GuardCases
-unfolding imageAfter nextT pairFor proposed serve serveBy stepped sound headerSound cardSound translationSound tailZero decode cardAt entryAt readEntry encode
-    bodies pad entryBytes header shapeOk fresh replied raise entrySound commandBytes formed payload fieldsOf wellFormed all allFrom le toLe part splice
-    tabulate concatMap every zeros
-guard-cases = record { near = refl; edge = refl; passes = refl; too-far = refl; far = refl; unrelying = refl; overtaken = refl }
-
-pub spend-cases : SpendCases
-unfolding byRules systemAfter stepTo learnt nextT pairFor proposed answered number after answer upgrading queueJoined firstPlace good distinct stands
-    joined removed without serve serveBy stepped sound headerSound cardSound translationSound tailZero decode cardAt entryAt readEntry encode bodies
-    pad entryBytes header shapeOk fresh replied raise entrySound commandBytes formed payload fieldsOf wellFormed all allFrom le toLe part splice
-    tabulate concatMap every zeros
-spend-cases =
-    record {
-      refused = refl;
-      after = refl;
-      spent = refl;
-      none-made = refl;
-      guarded = refl;
-      enough = record { raised = omega arith; together = omega arith };
-      not-enough = λ s. absurd (omega (arith, s .raised));
-      alone = record { raised = omega arith; together = omega arith };
-    }
 
 -- ---- the theorem, used with refused requests in between, by a desk that knows an x 999,999 ahead
 
