@@ -24,7 +24,7 @@ use Rattle.store_model.specs.Cases.{text205, text401}
 use Rattle.redo_log_claims.specs.Cases.{emptyLog}
 use Rattle.redo_recovery_model.specs.Recovery.{Recovery, due, recoverySent, recoveryStep, recovering, recovered}
 use Rattle.redo_recovery_model.specs.Claims.{textIn}
-use Rattle.redo_recovery_model.specs.Cases.{pairs1, blankImage, RecoveryCase, ranCase, AllRecover, recoveryCases, twoTransactions, RecoveryCases}
+use Rattle.redo_recovery_model.specs.Cases.{pairs1, pairs2, blankImage, RecoveryCase, ranCase, AllRecover, recoveryCase, recoveryCases, bothTexts, afterFirst, twoTransactions, RecoveryCases}
 use Rattle.redo_recovery_model.specs.Edges.{RecoveryEdges, RecoveryWorked}
 use Rattle.redo_recovery_model.proofs.Steps.{recovered-by}
 
@@ -83,6 +83,10 @@ cut-runs = refl
 abbrev number-and-text : {a b : Twice} → a ≡ b → (a .0 ≡ b .0) × (a .1 .0 ≡ b .1 .0)
 number-and-text e = (ap (λ (t : Twice). t .0) e, ap (λ (t : Twice). t .1 .0) e)
 
+-- Both texts of card 0.
+abbrev texts : List ℕ → List ℕ × List ℕ
+texts image = (textIn image original 0, textIn image (translation 0) 0)
+
 bad-log : recovered pairs1 (201 ∷ replicate 2200 0) blankImage ≡ record { number = 23; line = 0; image = blankImage; sent = [] }
 unfolding recovered goodLog
 bad-log = refl
@@ -94,6 +98,7 @@ unfolding imageAfter due recoverySent recoveryStep recovering lastBegun serve se
 recovery-cases =
     let later = tail-eq-of-cons-eq (tail-eq-of-cons-eq cut-runs) in
     let last = twice-by 100 ∙ head-eq-of-cons-eq (tail-eq-of-cons-eq later) in
+    let first : texts afterFirst ≡ (text205, []) = refl in
     record {
       cases = all-recover recoveryCases refl;
       mark = refl;
@@ -103,8 +108,8 @@ recovery-cases =
       cut99 = number-and-text (twice-by 99 ∙ head-eq-of-cons-eq later);
       cut100 = number-and-text last;
       again = ap (λ (t : Twice). t .1 .1) last;
-      cut-first = (refl, refl);
-      run-again = (refl, refl, refl, refl);
+      cut-first = (ap (λ (p : List ℕ × List ℕ). p .0) first, ap (λ (p : List ℕ × List ℕ). p .1) first);
+      run-again = all-recover (recoveryCase bothTexts pairs2 afterFirst 0 0 text205 text401 ∷ []) refl .0;
       bad = bad-log;
     }
 

@@ -4,7 +4,7 @@ use Prim.Native.Nat.{ℕ, zero, suc, _+_, _<_}
 use native.Mathlib.Omega.{arith}
 use mathlib.Core.Path.{_≡_, refl, sym, ap, _∙_}
 use mathlib.Core.List.{List, [], _∷_, _++_, append-nil}
-use mathlib.Core.Bool.{true, false}
+use mathlib.Core.Bool.{true}
 use lib.Dec.{T, eqb, lit<, lit≤}
 use lib.ListN.{length, getD, set}
 use Rattle.formats.specs.Format.{V1}
@@ -219,8 +219,9 @@ cut-number = rw (after-by pairs2 blankImage)
 
 cut-before : textIn (recovered pairs2 after blankImage .image) original 0 ≡ textOf (records after) original 0 (textIn blankImage original 0)
 unfolding imageAfter
-cut-before = cut-recovery pairs1 pairs2 after blankImage fits1 fits2 after-bytes blank-bytes
-    (recovered pairs1 after blankImage .sent) [] (sym (append-nil (recovered pairs1 after blankImage .sent))) cut-number original 0
+cut-before =
+    cut-recovery pairs1 pairs2 after blankImage fits1 fits2 after-bytes blank-bytes (recovered pairs1 after blankImage .sent) []
+    (sym (append-nil (recovered pairs1 after blankImage .sent))) cut-number original 0
 
 -- ---- the last byte of a log's last body, one more than it was (rule 11.26)
 
