@@ -230,10 +230,7 @@ fn second_agreement() -> Box<dyn Ready> {
 
 /// A queue in arrays, as the library has it, and what was answered.
 struct Arrays {
-    modes: [u8; 32],
-    s: [u64; 32],
-    x: [u64; 32],
-    kept: [u64; 3],
+    queue: raw::Places,
     fields: [u64; 4],
     number: u8,
 }
@@ -277,25 +274,23 @@ impl Places {
 fn arrays(count: usize) -> Arrays {
     let queue = places(count);
     Arrays {
-        modes: queue.places.map(|place| place.mode),
-        s: queue.places.map(|place| place.pair.s),
-        x: queue.places.map(|place| place.pair.x),
-        kept: [count as u64, queue.largest.s, queue.largest.x],
+        queue: raw::Places {
+            modes: queue.places.map(|place| place.mode),
+            s: queue.places.map(|place| place.pair.s),
+            x: queue.places.map(|place| place.pair.x),
+            kept: [count as u64, queue.largest.s, queue.largest.x],
+            places: 32,
+        },
         fields: [0; 4],
         number: 1,
     }
 }
 
 /// The number, the fields, and of each place the stamps; its modes.
-fn by_arrays(queue: &Arrays) -> Left {
-    let numbers = [
-        &[queue.number.into()],
-        &queue.fields[..],
-        &queue.s,
-        &queue.x,
-    ]
-    .concat();
-    (numbers, queue.modes.to_vec())
+fn by_arrays(told: &Arrays) -> Left {
+    let raw::Places { modes, s, x, .. } = &told.queue;
+    let numbers = [&[told.number.into()], &told.fields[..], s, x].concat();
+    (numbers, modes.to_vec())
 }
 
 fn by_places(queue: &Places) -> Left {
@@ -308,17 +303,9 @@ fn by_places(queue: &Places) -> Left {
 }
 
 fn asking() -> Box<dyn Ready> {
-    let work = |queue: &mut Arrays| {
+    let work = |on: &mut Arrays| {
         let own = stamp(99, 99);
-        let Arrays {
-            modes,
-            s,
-            x,
-            kept,
-            fields,
-            ..
-        } = queue;
-        queue.number = raw::ask(modes, s, x, kept, 32, 2, own, own, fields);
+        on.number = on.queue.ask(2, own, own, &mut on.fields);
     };
     job(arrays(31), work, by_arrays)
 }
@@ -333,17 +320,7 @@ fn second_asking() -> Box<dyn Ready> {
 }
 
 fn leaving() -> Box<dyn Ready> {
-    let work = |queue: &mut Arrays| {
-        let Arrays {
-            modes,
-            s,
-            x,
-            kept,
-            fields,
-            ..
-        } = queue;
-        queue.number = raw::leave(modes, s, x, kept, 32, 1 << 16, fields);
-    };
+    let work = |on: &mut Arrays| on.number = on.queue.leave(1 << 16, &mut on.fields);
     job(arrays(32), work, by_arrays)
 }
 

@@ -237,7 +237,7 @@ mark are written and released; others were finished before. --dry-run changes no
 Plays the story in LIST (- is standard input) step by step on the store that it begins with, with
 each answer in words; --svg draws it; --text writes it as it was read; --input writes it as input
 for the program `cards`, if it has commands alone. LIST may be such an input too. docs/STORIES.md
-has the lines of a story.",
+has the lines of a story. Exit status 0 whatever is refused in it: a story is for seeing that.",
         run: play::run,
     },
 ];

@@ -479,6 +479,17 @@ fn what_is_not_written_cannot_be_compared() {
 }
 
 #[test]
+fn a_story_with_a_refusal_is_played() {
+    let place = Place::new();
+    place.write(
+        "story",
+        "cards 1 room 16\nshared read original of card 7 by (1.1.0, none)\n",
+    );
+    let told = place.well("play story");
+    assert!(told.contains("     2 no such card (rule 4.1): "), "{told}");
+}
+
+#[test]
 fn one_byte_is_no_bytes() {
     let place = Place::new();
     place.well("make cards --cards 1 --room 16");
