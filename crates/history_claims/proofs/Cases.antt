@@ -20,7 +20,7 @@ use Rattle.guard.specs.Entry.{entrySound}
 use Rattle.guard.specs.Judge.{raise, entryRows}
 use Rattle.guard.specs.Replies.{replied}
 use Rattle.guard.specs.declared.Entry.{Entry}
-use Rattle.stream.specs.Stream.{extent, whole, commandsWithin, commands, endWithin, endOf}
+use Rattle.stream.specs.Stream.{whole, commandsWithin, commands, endWithin, endOf}
 use Rattle.image.specs.Layout.{shapeOk}
 use Rattle.image.specs.Bytes.{header, entryBytes, pad, readEntry, entryAt}
 use Rattle.image.specs.Image.{bodies, encode, cardAt, decode, tailZero, translationSound, cardSound, headerSound, sound, fresh}
@@ -61,7 +61,7 @@ kept-limits = record { many = refl; too-many = refl; heavy = over-behind 32000 7
 
 worked-bytes : WorkedBytes
 unfolding historyServe keptIn bytesBy usedBy deduced deducedBy entryFrom textFrom highest timesWritten replied raise commands commandsWithin endOf
-    endWithin whole extent commandBytes formed payload fieldsOf wellFormed all allFrom le toLe part splice concatMap zeros
+    endWithin whole commandBytes formed payload fieldsOf wellFormed all allFrom le toLe part splice concatMap zeros
 worked-bytes =
     record {
       three = refl;
