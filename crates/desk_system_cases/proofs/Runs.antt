@@ -42,8 +42,8 @@ story-holds : Story
 unfolding everyAlong foldl stepTo learnt nextT pairFor proposed answered number after answer upgrading queueJoined firstPlace good distinct stands
     joined removed without serve serveBy stepped sound headerSound cardSound translationSound tailZero decode cardAt entryAt readEntry encode bodies
     pad entryBytes header shapeOk fresh replied raise entrySound commandBytes formed payload fieldsOf wellFormed all allFrom le toLe part splice
-    tabulate concatMap every zeros
-story-holds = record { rules = refl; answers = refl; shows = refl; carried = refl; below = refl }
+    tabulate concatMap every zeros shaped total goodLog records
+story-holds = record { rules = refl; ends = refl; carried = refl; below = refl }
 
 long-story : LongStory
 unfolding everyAlong foldl stepTo sendSteps due recoverySent recoveryStep recovering recovered appendedAll stored puts lineBytes stores appended
@@ -51,7 +51,7 @@ unfolding everyAlong foldl stepTo sendSteps due recoverySent recoveryStep recove
     after answer upgrading queueJoined firstPlace good distinct stands joined removed without serve serveBy stepped sound headerSound cardSound
     translationSound tailZero decode cardAt entryAt readEntry encode bodies pad entryBytes header shapeOk fresh replied raise entrySound commandBytes
     formed payload fieldsOf wellFormed all allFrom le toLe part splice tabulate concatMap every zeros ofBits ofInt wholeFloat half add sub mul div neg lt atMost
-long-story = record { rules = refl; version = refl; answers = refl; shows = refl; not-proposed = refl; not-exclusive = refl }
+long-story = record { rules = refl; ends = refl; not-proposed = refl; not-exclusive = refl }
 
 many-managers : ManyManagers
 unfolding everyAlong foldl stepTo learnt nextT pairFor proposed answered number after answer upgrading queueJoined firstPlace good distinct stands
@@ -92,7 +92,7 @@ unfolding everyAlong foldl stepTo sendSteps due recoverySent recoveryStep recove
     after answer upgrading queueJoined firstPlace good distinct stands joined removed without serve serveBy stepped sound headerSound cardSound
     translationSound tailZero decode cardAt entryAt readEntry encode bodies pad entryBytes header shapeOk fresh replied raise entrySound commandBytes
     formed payload fieldsOf wellFormed all allFrom le toLe part splice tabulate concatMap every zeros
-lived-through = record { rules = refl; cut = refl; logged = refl; same-bytes = refl; answers = refl; shows = refl; version = refl; goes-on = refl }
+lived-through = record { rules = refl; cut = refl; logged = refl; ends = refl }
 
 -- Requests alone leave demand 3's log.
 only-sent : systemAfter singleCard (map send sentD) .store .trace ≡ traceOf V1 1 16 sentD

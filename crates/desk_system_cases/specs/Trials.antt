@@ -7,7 +7,7 @@ use mathlib.Core.List.{List, [], _∷_, _++_, map, reverse}
 use mathlib.Core.Bool.{true, false}
 use lib.ListN.{length, take, replicate}
 use lib.Ieee.{binary64, ofBits}
-use Rattle.formats.specs.Format.{V1, V2}
+use Rattle.formats.specs.Format.{Format, V1, V2}
 use Rattle.stamps.specs.Stamp.{stamp, shared, exclusive, noPair}
 use Rattle.stamps.specs.declared.Pair.{Pair}
 use Rattle.lock_queue.specs.Queue.{noWaiting, waiting, standing, holds}
@@ -18,6 +18,7 @@ use Rattle.commands.specs.Bytes.{fieldsOf, commandBytes}
 use Rattle.store_model.specs.Serve.{serve}
 use Rattle.store_model.specs.Words.{Sent, Event, carries, under, premise, commandsIn}
 use Rattle.store_model.specs.Cases.{pair, request, writeOriginal, requestOpening, text205, text401, long}
+use Rattle.redo_log.specs.Log.{LogRecord}
 use Rattle.redo_log_claims.specs.Claims.{appendedAll}
 use Rattle.redo_log_claims.specs.Cases.{beginOf, updateOf, commitOf, emptyLog}
 use Rattle.redo_recovery_model.specs.Recovery.{Pairs}
@@ -74,6 +75,23 @@ leave card desk = atQueue card 0 2 (leaves desk)
 
 abbrev pub singleCard : System
 singleCard = opening V1 1 16 twoPlaces blankLogs
+
+-- What a run leaves: the store's version, the records of desk 1's log, and in order the answers and what the commands
+-- show.
+pub record RunEnd : Type 0 where
+  pub version : Format
+  pub whole : List LogRecord
+  pub answers : List Told
+  pub shows : List (List ℕ)
+
+abbrev pub runEnd : System → RunEnd
+runEnd y =
+    record {
+      version = y .store .version;
+      whole = y .logs 1 .whole;
+      answers = reverse (y .desks .told);
+      shows = map (λ (e : Event). take (e .answer .length) (e .reply)) (reverse (y .store .trace));
+    }
 
 -- A read of card 0's original under a pair; a write of it is `writeOriginal`.
 abbrev pub readUnder : ℕ → ℕ → Sent
@@ -139,34 +157,36 @@ heard number s x = record { card = 0; number = number; pair = pair s x }
 
 pub record Story : Type 0 where
   pub rules : byRules singleCard story ≡ true
-  -- the answers of the queue and of the store, in order
-  pub answers :
-      reverse (systemAfter singleCard story .desks .told)
-      ≡ heard 0 (stamp 0 1 0) 0
-      ∷ heard 0 (stamp 0 1 0) 0
-      ∷ heard 11 (stamp 0 1 0) 0
-      ∷ heard 0 (stamp 0 1 0) (stamp 1 2 0)
-      ∷ heard 0 (stamp 0 1 0) (stamp 1 2 0)
-      ∷ heard 0 (stamp 0 1 0) (stamp 1 2 0)
-      ∷ heard 3 (stamp 0 1 0) (stamp 1 2 0)
-      ∷ heard 0 (stamp 0 1 0) (stamp 1 2 0)
-      ∷ heard 0 (stamp 1 1 0) (stamp 1 2 0)
-      ∷ heard 0 (stamp 1 1 0) (stamp 1 2 0)
-      ∷ heard 1 0 0
-      ∷ heard 0 (stamp 1 1 0) (stamp 2 1 0)
-      ∷ heard 0 (stamp 1 1 0) (stamp 2 1 0)
-      ∷ heard 1 0 0
-      ∷ heard 3 (stamp 1 1 0) (stamp 2 1 0)
-      ∷ heard 0 0 (stamp 0 2 1)
-      ∷ heard 3 (stamp 1 1 0) (stamp 2 1 0)
-      ∷ heard 0 0 (stamp 0 2 1)
-      ∷ heard 0 (stamp 1 2 1) (stamp 2 1 0)
-      ∷ heard 0 (stamp 1 2 1) (stamp 2 1 0)
-      ∷ []
-  -- what its commands show
-  pub shows :
-      map (λ (e : Event). take (e .answer .length) (e .reply)) (reverse (systemAfter singleCard story .store .trace))
-      ≡ [] ∷ [] ∷ [] ∷ text205 ∷ [] ∷ [] ∷ [] ∷ [] ∷ text401 ∷ []
+  -- the answers of queues and store, and what its commands show
+  pub ends :
+      runEnd (systemAfter singleCard story)
+      ≡ record {
+        version = V1;
+        whole = [];
+        answers =
+            heard 0 (stamp 0 1 0) 0
+            ∷ heard 0 (stamp 0 1 0) 0
+            ∷ heard 11 (stamp 0 1 0) 0
+            ∷ heard 0 (stamp 0 1 0) (stamp 1 2 0)
+            ∷ heard 0 (stamp 0 1 0) (stamp 1 2 0)
+            ∷ heard 0 (stamp 0 1 0) (stamp 1 2 0)
+            ∷ heard 3 (stamp 0 1 0) (stamp 1 2 0)
+            ∷ heard 0 (stamp 0 1 0) (stamp 1 2 0)
+            ∷ heard 0 (stamp 1 1 0) (stamp 1 2 0)
+            ∷ heard 0 (stamp 1 1 0) (stamp 1 2 0)
+            ∷ heard 1 0 0
+            ∷ heard 0 (stamp 1 1 0) (stamp 2 1 0)
+            ∷ heard 0 (stamp 1 1 0) (stamp 2 1 0)
+            ∷ heard 1 0 0
+            ∷ heard 3 (stamp 1 1 0) (stamp 2 1 0)
+            ∷ heard 0 0 (stamp 0 2 1)
+            ∷ heard 3 (stamp 1 1 0) (stamp 2 1 0)
+            ∷ heard 0 0 (stamp 0 2 1)
+            ∷ heard 0 (stamp 1 2 1) (stamp 2 1 0)
+            ∷ heard 0 (stamp 1 2 1) (stamp 2 1 0)
+            ∷ [];
+        shows = [] ∷ [] ∷ [] ∷ text205 ∷ [] ∷ [] ∷ [] ∷ [] ∷ text401 ∷ [];
+      }
   -- the premise has something to say of it: a shared command carries the stamp of an exclusive one
   pub carried : carries (fieldsOf V1 (readUnder (stamp 1 1 0) (stamp 1 2 0) .command)) ≡ true
   pub below : under (stamp 1 2 0) (fieldsOf V1 (writeOriginal (stamp 0 1 0) (stamp 1 2 0) text205 .command)) ≡ true
@@ -249,28 +269,30 @@ longStory =
 
 pub record LongStory : Type 0 where
   pub rules : byRules singleCard longStory ≡ true
-  pub version : systemAfter singleCard longStory .store .version ≡ V2
   -- the answers, in order: an ask; three writes of recovery, the last malformed; a leave and three lapses; two asks;
-  -- three commands of version 2
-  pub answers :
-      reverse (systemAfter singleCard longStory .desks .told)
-      ≡ heard 0 0 (stamp 0 1 0)
-      ∷ heard 0 0 (stamp 0 1 0)
-      ∷ heard 0 0 (stamp 0 1 0)
-      ∷ heard 1 0 0
-      ∷ heard 15 0 (stamp 0 1 0)
-      ∷ heard 21 0 (stamp 0 1 0)
-      ∷ heard 25 0 (stamp 0 1 0)
-      ∷ heard 0 0 (stamp 0 1 0)
-      ∷ heard 0 0 (stamp 0 1 0)
-      ∷ heard 10 0 0
-      ∷ heard 0 0 (stamp 0 2 0)
-      ∷ heard 3 0 (stamp 0 2 0)
-      ∷ heard 0 0 (stamp 0 2 0)
-      ∷ []
-  -- the read after the conversion shows what the recovery wrote before it
-  pub shows :
-      map (λ (e : Event). take (e .answer .length) (e .reply)) (reverse (systemAfter singleCard longStory .store .trace)) ≡ [] ∷ [] ∷ [] ∷ text205 ∷ [] ∷ [] ∷ []
+  -- three commands of version 2. The read after the conversion shows what the recovery wrote before it
+  pub ends :
+      runEnd (systemAfter singleCard longStory)
+      ≡ record {
+        version = V2;
+        whole = [];
+        answers =
+            heard 0 0 (stamp 0 1 0)
+            ∷ heard 0 0 (stamp 0 1 0)
+            ∷ heard 0 0 (stamp 0 1 0)
+            ∷ heard 1 0 0
+            ∷ heard 15 0 (stamp 0 1 0)
+            ∷ heard 21 0 (stamp 0 1 0)
+            ∷ heard 25 0 (stamp 0 1 0)
+            ∷ heard 0 0 (stamp 0 1 0)
+            ∷ heard 0 0 (stamp 0 1 0)
+            ∷ heard 10 0 0
+            ∷ heard 0 0 (stamp 0 2 0)
+            ∷ heard 3 0 (stamp 0 2 0)
+            ∷ heard 0 0 (stamp 0 2 0)
+            ∷ [];
+        shows = [] ∷ [] ∷ [] ∷ text205 ∷ [] ∷ [] ∷ [];
+      }
   -- a recovery under a pair that nobody proposed is not by the rules, nor under one that was proposed shared
   pub not-proposed : allowed (systemAfter singleCard (begin deskOne ∷ [])) (recoverWith (pairsFor 0 (stamp 0 1 0)) committed 0) ≡ false
   pub not-exclusive :
