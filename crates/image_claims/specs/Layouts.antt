@@ -268,6 +268,6 @@ pub record LayoutCases : Type 0 where
   pub places1 : entryPlace V1 2 ∷ bodyPlace V1 3 32 2 0 ∷ bodyPlace V1 3 32 2 1 ∷ [] ≡ 80 ∷ 240 ∷ 272 ∷ []
   pub places2 : entryPlace V2 2 ∷ map (bodyPlace V2 3 32 2) (0 ∷ 1 ∷ 2 ∷ 3 ∷ 4 ∷ []) ≡ 112 ∷ 480 ∷ 512 ∷ 544 ∷ 576 ∷ 608 ∷ []
 
--- All worked cases of images: limits, changed bytes, layouts and conversions (rules 1.1, 2.2 to 2.7, 3.1, 3.4, 15.2 to 15.6 and 15.10).
+-- One table of the worked cases of images: limits of both versions, changed bytes, layouts and conversions.
 abbrev pub ImageCases : Type 0
 ImageCases = Limits × (SecondLimits × (ByteChanges × (LayoutCases × ConvertCases)))

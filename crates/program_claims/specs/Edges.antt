@@ -30,6 +30,6 @@ pub record LinesCases : Type 0 where
       ≡ 0 ∷ 4295032832 ∷ 4295032832 ∷ 0 ∷ 0 ∷ 1 ∷ 0 ∷ 0
       ∷ 6 ∷ 4295032832 ∷ 4295032832 ∷ 0 ∷ 0 ∷ 1 ∷ 0 ∷ 0 ∷ []
 
--- All worked cases of the program (rules 8.2 to 8.7).
+-- One table of the worked cases of the program: case P, inputs without a line for a command, runs, decimals and lines.
 abbrev pub ProgramCases : Type 0
 ProgramCases = CaseP × (ShortCases × (RunCases × (Decimals × LinesCases)))
