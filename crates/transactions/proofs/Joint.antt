@@ -47,8 +47,8 @@ use Rattle.transactions.specs.System.{
   renew,
   noOrder,
   commandIn,
-  expects,
-  leaves,
+  expectsMark,
+  leavesMark,
   lawful,
   meantAfter,
   meantLogged,
@@ -225,7 +225,7 @@ module _ (ruled : ℕ → Bool) (y : Desks) (j : Joint ruled y) (s : Sent) where
     good-out = subst (GoodCards V1) (sym decode-then) good-then
 
   -- For a desk under the rules whose mark it neither expects nor leaves it is somebody else's.
-  side-other : (b : SentBytes s) (e : ℕ) → ruled e ≡ true → (formed V1 (s .command) ≡ true → (expects e c ≡ false) × (leaves e c ≡ false)) → Side e
+  side-other : (b : SentBytes s) (e : ℕ) → ruled e ≡ true → (formed V1 (s .command) ≡ true → (expectsMark e c ≡ false) × (leavesMark e c ≡ false)) → Side e
       (out .image) (partOf (afterStep e (seenBy e y) (other s)))
   unfolding afterStep
   side-other b e r f = side-of e (afterStep e (alone e y) (other s)) (kept-other e (alone e y) (kept-alone ruled y j e r) s b (rule (cases (formed V1 (s .command)))))
@@ -233,7 +233,7 @@ module _ (ruled : ℕ → Bool) (y : Desks) (j : Joint ruled y) (s : Sent) where
       rule : (formed V1 (s .command) ≡ true) ⊎ (formed V1 (s .command) ≡ false) → lawful e (alone e y) (other s) ≡ true
       rule (inl q) = or-right (not (formed V1 (s .command))) (both (f q))
         where
-          both : (expects e c ≡ false) × (leaves e c ≡ false) → (not (expects e c) && not (leaves e c)) ≡ true
+          both : (expectsMark e c ≡ false) × (leavesMark e c ≡ false) → (not (expectsMark e c) && not (leavesMark e c)) ≡ true
           both w = rw (w .0, w .1)
       rule (inr q) = rw q
 
@@ -626,16 +626,16 @@ module _ (ruled : ℕ → Bool) (y : Desks) (j : Joint ruled y) (d : ℕ) (r : r
         go (preparing p f) = (
           inl (eqb-true (cmd-o .expected .desk) 0
               (and-right (not (isWrite cmd-o)) (eqb (cmd-o .expected .desk) 0)
-              (and-left (not (isWrite cmd-o) && eqb (cmd-o .expected .desk) 0) (leaves d cmd-o) p))),
-          inr (eqb-true (cmd-o .next .desk) d (and-right (not (isWrite cmd-o) && eqb (cmd-o .expected .desk) 0) (leaves d cmd-o) p)),
+              (and-left (not (isWrite cmd-o) && eqb (cmd-o .expected .desk) 0) (leavesMark d cmd-o) p))),
+          inr (eqb-true (cmd-o .next .desk) d (and-right (not (isWrite cmd-o) && eqb (cmd-o .expected .desk) 0) (leavesMark d cmd-o) p)),
         )
         go (releasing p f) = (
-          inr (eqb-true (cmd-o .expected .desk) d (and-right (not (isWrite cmd-o)) (expects d cmd-o) (and-left (not (isWrite cmd-o) && expects d cmd-o) (eqb (cmd-o .next .desk) 0) p))),
-          inl (eqb-true (cmd-o .next .desk) 0 (and-right (not (isWrite cmd-o) && expects d cmd-o) (eqb (cmd-o .next .desk) 0) p)),
+          inr (eqb-true (cmd-o .expected .desk) d (and-right (not (isWrite cmd-o)) (expectsMark d cmd-o) (and-left (not (isWrite cmd-o) && expectsMark d cmd-o) (eqb (cmd-o .next .desk) 0) p))),
+          inl (eqb-true (cmd-o .next .desk) 0 (and-right (not (isWrite cmd-o) && expectsMark d cmd-o) (eqb (cmd-o .next .desk) 0) p)),
         )
         go (writing p f) = (
-          inr (eqb-true (cmd-o .expected .desk) d (and-right (isWrite cmd-o) (expects d cmd-o) (and-left (isWrite cmd-o && expects d cmd-o) (leaves d cmd-o) p))),
-          inr (eqb-true (cmd-o .next .desk) d (and-right (isWrite cmd-o && expects d cmd-o) (leaves d cmd-o) p)),
+          inr (eqb-true (cmd-o .expected .desk) d (and-right (isWrite cmd-o) (expectsMark d cmd-o) (and-left (isWrite cmd-o && expectsMark d cmd-o) (leavesMark d cmd-o) p))),
+          inr (eqb-true (cmd-o .next .desk) d (and-right (isWrite cmd-o && expectsMark d cmd-o) (leavesMark d cmd-o) p)),
         )
 
     landed : Kept d (afterStep d (alone d y) (arrive i))

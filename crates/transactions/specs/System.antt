@@ -110,22 +110,22 @@ abbrev pub storedX : List ℕ → ℕ → ℕ
 storedX image k = getD (decode V1 image .cards) k (noCard V1) .pair .x
 
 -- A command expects, or leaves, a mark of desk d.
-abbrev pub expects : ℕ → Command → Bool
-expects d c = eqb (c .expected .desk) d
+abbrev pub expectsMark : ℕ → Command → Bool
+expectsMark d c = eqb (c .expected .desk) d
 
-abbrev pub leaves : ℕ → Command → Bool
-leaves d c = eqb (c .next .desk) d
+abbrev pub leavesMark : ℕ → Command → Bool
+leavesMark d c = eqb (c .next .desk) d
 
 -- Rule 16.3, the three kinds of orders: one prepares a card that bears no mark, one writes to a card under the desk's
 -- mark, one takes the mark off.
 abbrev pub prepares : ℕ → Command → Bool
-prepares d c = not (isWrite c) && eqb (c .expected .desk) 0 && leaves d c
+prepares d c = not (isWrite c) && eqb (c .expected .desk) 0 && leavesMark d c
 
 abbrev pub writesOut : ℕ → Command → Bool
-writesOut d c = isWrite c && expects d c && leaves d c
+writesOut d c = isWrite c && expectsMark d c && leavesMark d c
 
 abbrev pub releases : ℕ → Command → Bool
-releases d c = not (isWrite c) && expects d c && eqb (c .next .desk) 0
+releases d c = not (isWrite c) && expectsMark d c && eqb (c .next .desk) 0
 
 -- Line i of the log is an update of card k that is due.
 abbrev pub dueFor : List LogRecord → ℕ → ℕ → Bool
@@ -217,7 +217,7 @@ nothingDue rs = every (λ i. not (due rs i)) (length rs)
 
 abbrev pub lawful : ℕ → OneDesk → Step → Bool
 -- rule 16.3: nobody else names the desk in a mark; malformed bytes may be any
-lawful d y (other s) = not (formed V1 (s .command)) || not (expects d (commandIn s)) && not (leaves d (commandIn s))
+lawful d y (other s) = not (formed V1 (s .command)) || not (expectsMark d (commandIn s)) && not (leavesMark d (commandIn s))
 lawful d y (order s line from) =
     ltb from (length (y .shown))
     && opensAbove (commandIn s) (getD (y .shown) from noShown)

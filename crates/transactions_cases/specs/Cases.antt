@@ -295,13 +295,13 @@ second =
     ∷ logs (commitOf 2)
     ∷ []
 
-abbrev pub renewing : List (List Step)
-renewing = begins ∷ preparesBoth ∷ commits ∷ writesOut0 ∷ releases0 ∷ syncs0 ∷ finishes1 ∷ renewsLog ∷ second ∷ []
+abbrev pub aroundRenewal : List (List Step)
+aroundRenewal = begins ∷ preparesBoth ∷ commits ∷ writesOut0 ∷ releases0 ∷ syncs0 ∷ finishes1 ∷ renewsLog ∷ second ∷ []
 
 pub record Renewed : Type 0 where
-  pub rules : inOrder atFirst renewing ≡ true
-  pub sees : see (afterAll atFirst renewing) ≡ seeing text205 text401 text210 text401
-  pub lines : length (records (afterAll atFirst renewing .log)) ≡ 3
+  pub rules : inOrder atFirst aroundRenewal ≡ true
+  pub sees : see (afterAll atFirst aroundRenewal) ≡ seeing text205 text401 text210 text401
+  pub lines : length (records (afterAll atFirst aroundRenewal .log)) ≡ 3
 
 -- ---- one rule broken (rule 16.15)
 

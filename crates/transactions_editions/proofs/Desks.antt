@@ -23,7 +23,7 @@ use Rattle.store_model.proofs.Machine.{numberOn}
 use Rattle.redo_log.specs.Log.{LogRecord, commitKind, recordTransaction, records}
 use Rattle.redo_log.specs.Append.{appendNumber}
 use Rattle.redo_recovery_model.specs.Recovery.{Pairs, FitsPairs, recovering}
-use Rattle.transactions.specs.System.{OneDesk, Order, Shown, Step, other, order, arrive, append, crash, recover, renew, noOrder, commandIn, expects, leaves, lawful, afterStep}
+use Rattle.transactions.specs.System.{OneDesk, Order, Shown, Step, other, order, arrive, append, crash, recover, renew, noOrder, commandIn, expectsMark, leavesMark, lawful, afterStep}
 use Rattle.transactions.specs.Claims.{StepBytes}
 use Rattle.transactions.specs.Desks.{
   Part,
@@ -263,7 +263,7 @@ module _ (ruled : ℕ → Bool) (y : Desks) (j : Joint ruled y) (c : ℕ → Boo
   abbrev got : Outcome
   got = serve V1 (y .image) (s .command) (s .lent)
 
-  side-met : (e : ℕ) → ruled e ≡ true → (formed V1 (s .command) ≡ true → (expects e (commandIn s) ≡ false) × (leaves e (commandIn s) ≡ false))
+  side-met : (e : ℕ) → ruled e ≡ true → (formed V1 (s .command) ≡ true → (expectsMark e (commandIn s) ≡ false) × (leavesMark e (commandIn s) ≡ false))
       → SideTurned e (got .image) (partOf (afterStep e (seenBy e y) (other s)))
   unfolding afterStep
   side-met e r f =
@@ -274,7 +274,7 @@ module _ (ruled : ℕ → Bool) (y : Desks) (j : Joint ruled y) (c : ℕ → Boo
       rule : (formed V1 (s .command) ≡ true) ⊎ (formed V1 (s .command) ≡ false) → lawful e (alone e y) (other s) ≡ true
       rule (inl q) = or-right (not (formed V1 (s .command))) (both (f q))
         where
-          both : (expects e (commandIn s) ≡ false) × (leaves e (commandIn s) ≡ false) → (not (expects e (commandIn s)) && not (leaves e (commandIn s))) ≡ true
+          both : (expectsMark e (commandIn s) ≡ false) × (leavesMark e (commandIn s) ≡ false) → (not (expectsMark e (commandIn s)) && not (leavesMark e (commandIn s))) ≡ true
           both x = rw (x .0, x .1)
       rule (inr q) = rw q
 
