@@ -23,7 +23,7 @@ use Rattle.image.specs.Image.{Card, noCard, encode, fresh, freshCards}
 use Rattle.image.specs.Convert.{converted, convertNumber}
 use Rattle.image_claims.proofs.Claims.{goodEncodes}
 use Rattle.store_model.specs.Words.{Sent, Received, Event, commandOf, imageAfter, traceFrom, traceOf, formedFor, carries, under, commandsIn}
-use Rattle.store_model.specs.Claims.{AllBytes, Claim}
+use Rattle.store_model.specs.Claims.{Claim}
 use Rattle.store_model.specs.Conversion.{traceAcross}
 use Rattle.store_model.specs.Meaning.{Among, Ordered}
 use Rattle.store_model.proofs.Conversion.{demand3-across}

@@ -4,11 +4,10 @@ use native.Mathlib.Omega.{arith}
 use mathlib.Core.Path.{_≡_, refl, sym, ap, subst, _∙_}
 use mathlib.Core.Logic.{_⊎_, inl, inr}
 use mathlib.Core.List.{List, [], _∷_}
-use mathlib.Core.Bool.{Bool, true, false, cond, not, _&&_, _||_}
-use borrow.Author.Tests.{eqb-true, eqb-false, eq-eqb, ne-eqb, ltb-true, ltb-false, not-true, not-false}
+use mathlib.Core.Bool.{Bool, true, false, cond, not, _&&_}
+use borrow.Author.Tests.{eqb-true, eq-eqb, ne-eqb, ltb-true, not-true, not-false}
 use lib.Dec.{eqb, ltb}
-use lib.ListN.{length, drop, getD, set, length-map, List·getD-eq-default}
-use lib.Seq.{getD-set-same, getD-set-other}
+use lib.ListN.{drop, getD}
 use Rattle.formats.specs.Format.{Format, V1, V2}
 use Rattle.lists.specs.Parts.{Bytes}
 use Rattle.lists.specs.Search.{any}
@@ -19,17 +18,14 @@ use Rattle.stamps.specs.declared.Pair.{Pair}
 use Rattle.stamps.proofs.Stamp.{stamp-desk-start, stamp-valid}
 use Rattle.commands.specs.Command.{update}
 use Rattle.commands.specs.declared.Command.{Command}
-use Rattle.commands.specs.Bytes.{fieldsOf, payload, formed}
-use Rattle.guard.specs.Judge.{raise}
-use Rattle.guard.specs.Replies.{blankReply, replied}
+use Rattle.commands.specs.Bytes.{fieldsOf, formed}
 use Rattle.image.specs.Image.{Card, Cards, noCard, encode, GoodCards}
-use Rattle.image.specs.Convert.{widened, widenedCards, converted, convertNumber}
-use Rattle.image_claims.proofs.Conversion.{getD-map}
-use Rattle.store_model.specs.Serve.{stepped, serve}
+use Rattle.image.specs.Convert.{converted, convertNumber}
+use Rattle.store_model.specs.Serve.{serve}
 use Rattle.store_model.specs.Words.{Sent, Event, eventOf, commandOf}
 use Rattle.store_model.specs.Claims.{SentBytes, AllBytes}
 use Rattle.store_model.specs.Meaning.{Among}
-use Rattle.store_model.proofs.Machine.{numberOn, eventBy, cardsBy, passed}
+use Rattle.store_model.proofs.Machine.{numberOn, eventBy, passed}
 use Rattle.store_model.proofs.Meaning.{among-here, among-later, any-means}
 use Rattle.store_model.proofs.Simulation.{same-event}
 use Rattle.redo_log.specs.Log.{LogRecord}

@@ -8,7 +8,6 @@ use Rattle.lists.specs.Parts.{Bytes}
 use Rattle.lists.specs.Table.{settled}
 use Rattle.lists.specs.Runs.{foldl}
 use Rattle.commands.specs.Command.{Language}
-use Rattle.image.specs.Image.{encode}
 use Rattle.image.specs.Convert.{converted, convertNumber}
 use Rattle.image_claims.proofs.Claims.{goodEncodes}
 use Rattle.store_model.specs.Words.{Sent}
@@ -52,7 +51,7 @@ use Rattle.desk_system.specs.System.{
   AllFit,
 }
 use Rattle.desk_system.specs.Claims.{finally}
-use Rattle.desk_system.specs.OneHistory.{SystemHolds, GoodLog, OneHistory, LogsFollow}
+use Rattle.desk_system.specs.OneHistory.{GoodLog, OneHistory, LogsFollow}
 use Rattle.desk_system.proofs.Backing.{with-all}
 use Rattle.desk_system.proofs.Store.{Held}
 use Rattle.desk_system.proofs.Claims.{store-follows, held-finally, claimed, desks-isolated}

@@ -6,14 +6,14 @@ use mathlib.Core.Path.{_≡_, refl, sym, ap, subst, _∙_}
 use mathlib.Core.Logic.{_⊎_, inl, inr}
 use mathlib.Core.List.{List, [], _∷_}
 use mathlib.Core.Bool.{Bool, true, false, cond, not, _&&_, _||_}
-use borrow.Author.Tests.{eqb-true, eq-eqb, not-true}
-use lib.Dec.{T, eqb, ltb, ltb→lt}
+use borrow.Author.Tests.{eqb-true, eq-eqb}
+use lib.Dec.{T, eqb, ltb→lt}
 use lib.ListN.{length, getD}
 use Rattle.formats.specs.Format.{Format, V1, V2}
 use Rattle.lists.specs.Search.{any, filter}
 use Rattle.lists.specs.Table.{first, settled}
-use Rattle.lists.proofs.Tests.{and-in, and-left, and-right, or-cases, from-T}
-use Rattle.stamps.specs.Stamp.{stamp, stampT, shared, exclusive, own, mostAhead, largerOfEach, noPair}
+use Rattle.lists.proofs.Tests.{and-left, and-right, or-cases}
+use Rattle.stamps.specs.Stamp.{stampT, shared, exclusive, own, mostAhead, largerOfEach, noPair}
 use Rattle.stamps.specs.declared.Pair.{Pair}
 use Rattle.stamps.proofs.Stamp.{near-raises}
 use Rattle.commands.specs.Command.{update}
@@ -30,11 +30,10 @@ use Rattle.store_model.proofs.Pairs.{no-card}
 use Rattle.store_model.proofs.Simulation.{same-event}
 use Rattle.image.specs.Image.{freshCards, fresh}
 use Rattle.image.specs.Layout.{shapeOk}
-use Rattle.lock_queue.specs.declared.Waiting.{Waiting}
 use Rattle.desk_proposals.specs.declared.Known.{Known}
 use Rattle.desk_proposals.specs.Propose.{learnt, nextT, ownAbove, lastT, pairFor, proposalRows, proposed}
 use Rattle.desk_proposal_claims.proofs.Claims.{each-proposal}
-use Rattle.desk_system.specs.System.{System, Move, samePair, opening, knows}
+use Rattle.desk_system.specs.System.{samePair, opening, knows}
 use Rattle.desk_system.specs.Claims.{finally}
 use Rattle.desk_system.specs.Progress.{proposalsFor, StampsLast, Listening, hears, makes, knownBy, shownFor, heardIn, acceptedFor, ownMade, GuardSpends}
 use Rattle.desk_system.proofs.Backing.{among-none, among-cases, next-most, Dated, Backed}

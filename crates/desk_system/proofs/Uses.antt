@@ -5,7 +5,6 @@ use Prim.Native.Nat.{ℕ}
 use mathlib.Core.Path.{_≡_, refl}
 use mathlib.Core.List.{List, [], _∷_}
 use mathlib.Core.Bool.{true}
-use lib.Dec.{T}
 use lib.ListN.{replicate}
 use Rattle.formats.specs.Format.{V1}
 use Rattle.lists.specs.Table.{all, allFrom}
@@ -16,7 +15,7 @@ use Rattle.store_model.specs.Words.{premise, commandsIn}
 use Rattle.lock_queue.specs.Queue.{noWaiting}
 use Rattle.lock_queue.specs.Requests.{leaves}
 use Rattle.lock_queue.specs.declared.Waiting.{Waiting}
-use Rattle.desk_system.specs.System.{Move, atQueue, byRules}
+use Rattle.desk_system.specs.System.{Move, atQueue}
 use Rattle.desk_system.specs.Claims.{ByRules, finally}
 use Rattle.desk_system.proofs.Claims.{premise-kept}
 

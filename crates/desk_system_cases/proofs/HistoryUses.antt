@@ -11,10 +11,9 @@ use Rattle.commands.specs.Bytes.{commandBytes}
 use Rattle.image.specs.Layout.{shapeOk}
 use Rattle.redo_log.specs.Log.{goodLog, records}
 use Rattle.lock_queue.specs.Good.{good}
-use Rattle.desk_proposals.specs.Propose.{proposed}
 use Rattle.store_model.proofs.ByTest.{bytes-by, sent-bytes}
 use Rattle.redo_log_claims.specs.Cases.{beginOf, emptyLog}
-use Rattle.desk_system.specs.System.{Move, send, appendTo, renewLog, byRules, AllFit}
+use Rattle.desk_system.specs.System.{Move, send, appendTo, renewLog, AllFit}
 use Rattle.desk_system.specs.Claims.{ByRules, finally}
 use Rattle.desk_system.specs.OneHistory.{GoodLog}
 use Rattle.desk_system_cases.specs.Trials.{twoPlaces, blankLogs, readUnder}

@@ -25,7 +25,7 @@ use Rattle.lock_queue.specs.Queue.{stands, firstPlace, noExclusive, holdsAt, ho
 use Rattle.lock_queue.specs.Good.{distinct, good}
 use Rattle.lock_queue.specs.Requests.{joined, removed, without, upgrading, queueJoined, answered, number, after, answer}
 use Rattle.desk_proposals.specs.Propose.{learnt, nextT, pairFor, proposed}
-use Rattle.desk_system.specs.System.{sendSteps, stepTo, systemAfter, byRules, send}
+use Rattle.desk_system.specs.System.{sendSteps, stepTo, systemAfter, send}
 use Rattle.desk_system_cases.specs.Trials.{Story, LongStory, ManyManagers, RulesNeeded, singleCard}
 use native.Mathlib.Omega.{arith}
 use mathlib.Core.List.{map}

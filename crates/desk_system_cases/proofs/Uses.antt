@@ -8,7 +8,7 @@ use mathlib.Core.Logic.{_⊎_, inl, inr}
 use mathlib.Core.List.{List, [], _∷_}
 use mathlib.Core.Bool.{true}
 use lib.Dec.{T, lit<}
-use lib.ListN.{getD, replicate}
+use lib.ListN.{getD}
 use Rattle.formats.specs.Format.{V1}
 use Rattle.lists.specs.Le.{le, toLe}
 use Rattle.lists.specs.Parts.{part, splice, tabulate, concatMap, every, zeros, Bytes}
@@ -32,12 +32,11 @@ use Rattle.redo_log.specs.Append.{stored, puts, lineBytes, stores, appended}
 use Rattle.redo_log_claims.specs.Claims.{appendedAll}
 use Rattle.redo_recovery_model.specs.Recovery.{FitsPairs, recoveryPair}
 use Rattle.lock_queue.specs.Queue.{noWaiting, emptyQueue}
-use Rattle.lock_queue.specs.Requests.{asks, leaves, number}
+use Rattle.lock_queue.specs.Requests.{asks, number}
 use Rattle.lock_queue_claims.specs.Traces.{queueAfter, granted}
-use Rattle.lock_queue.specs.declared.Waiting.{Waiting}
 use Rattle.desk_proposals.specs.Propose.{learnt, nextT, pairFor, proposed}
 use Rattle.store_model.specs.Cases.{writeOriginal, text205, text401, long}
-use Rattle.desk_system.specs.System.{Move, Made, begin, propose, atQueue, send, recoverWith, isMade, knows, allowed, stepTo, systemAfter, byRules, AllFit}
+use Rattle.desk_system.specs.System.{Move, Made, begin, propose, send, recoverWith, isMade, knows, allowed, stepTo, AllFit}
 use Rattle.desk_system.specs.Claims.{ByRules, finally, StoreOf}
 use Rattle.desk_system_cases.specs.Trials.{deskOne, deskThree, twoPlaces, blankLogs, readUnder, longStory, committed, pairsFor, send2}
 use Rattle.desk_system.proofs.Claims.{premise-kept, desks-isolated, store-follows, stamps-once, desks-valid, recovery-allowed}

@@ -6,7 +6,7 @@ use mathlib.Core.Path.{_≡_}
 use mathlib.Core.List.{List, [], _∷_, map}
 use mathlib.Core.Bool.{true, false}
 use Rattle.formats.specs.Format.{V1}
-use Rattle.stamps.specs.Stamp.{stamp, shared, exclusive}
+use Rattle.stamps.specs.Stamp.{stamp, exclusive}
 use Rattle.lock_queue.specs.Queue.{waiting}
 use Rattle.image.specs.Image.{fresh}
 use Rattle.store_model.specs.Serve.{serve}
@@ -16,7 +16,7 @@ use Rattle.desk_proposals.specs.declared.Known.{Known}
 use Rattle.desk_proposals.specs.Propose.{lastT, proposed}
 use Rattle.desk_system.specs.System.{Move, begin, learn, allowed, knows, stepTo, systemAfter, byRules}
 use Rattle.desk_system.specs.Progress.{imageLeft, proposalsFor, Spends}
-use Rattle.desk_system_cases.specs.Trials.{deskOne, deskTwo, singleCard, ask, writeOpening}
+use Rattle.desk_system_cases.specs.Trials.{deskOne, singleCard, ask, writeOpening}
 
 -- ---- a command on the word of a reply
 

@@ -14,10 +14,10 @@ use Rattle.lock_queue.specs.Queue.{noWaiting, waiting, standing, holds}
 use Rattle.lock_queue.specs.Requests.{asks, leaves, lapses}
 use Rattle.lock_queue.specs.declared.LeaseExpiry.{LeaseExpiry}
 use Rattle.lock_queue.specs.declared.Waiting.{Waiting}
-use Rattle.commands.specs.Bytes.{fieldsOf, commandBytes}
+use Rattle.commands.specs.Bytes.{fieldsOf}
 use Rattle.store_model.specs.Serve.{serve}
 use Rattle.store_model.specs.Words.{Sent, Event, carries, under, premise, commandsIn}
-use Rattle.store_model.specs.Cases.{pair, request, writeOriginal, requestOpening, text205, text401, long}
+use Rattle.store_model.specs.Cases.{pair, request, requestOf2, writeOriginal, requestOpening, text205, text401, long}
 use Rattle.redo_log.specs.Log.{LogRecord}
 use Rattle.redo_log_claims.specs.Claims.{appendedAll}
 use Rattle.redo_log_claims.specs.Cases.{beginOf, updateOf, commitOf, emptyLog}
@@ -212,25 +212,7 @@ pairsFor s x = record { s = s ∷ []; x = x ∷ [] }
 
 -- A command of version 2 for card 0 under a pair: a read of the original, and a write of a translation in a language.
 abbrev pub send2 : ℕ → ℕ → ℕ → ℕ → ℕ → List ℕ → List ℕ → Sent
-send2 act language s x edition text lent =
-    record {
-      command =
-          commandBytes V2
-          (record {
-            act = act;
-            mode = exclusive;
-            language = language;
-            card = 0;
-            verifier = pair s x;
-            opened = noPair;
-            expected = record { desk = 0; transaction = 0 };
-            next = record { desk = 0; transaction = 0 };
-            edition = edition;
-            length = length text;
-          })
-          text;
-      lent = lent;
-    }
+send2 act language s x edition text lent = requestOf2 act language (pair s x) noPair edition text lent
 
 abbrev pub longStory : List Move
 longStory =

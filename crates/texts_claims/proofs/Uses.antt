@@ -10,7 +10,7 @@ use lib.Dec.{T, lit<}
 use lib.ListN.{length, take}
 use Rattle.lists.specs.Table.{listed}
 use Rattle.text_drops.specs.Drop.{near, dropOf, celsius, fahrenheit}
-use Rattle.texts.specs.Text.{TextStep, Section, words, done, _then_, stepCount, stepsBytes, Says, WellFormedText, SectionWithin, StepsWithin}
+use Rattle.texts.specs.Text.{Section, words, done, _then_, stepCount, stepsBytes, Says, WellFormedText, SectionWithin, StepsWithin}
 use Rattle.texts.specs.Agree.{agreeSteps, unmatched, Compared, verdict}
 use Rattle.texts_claims.specs.Claims.{Agreed, Disagreed, BeginsThere, EndsThere, compareNumbers}
 use Rattle.texts_claims.specs.Cases.{holding, c205, f401, f402, sample, Each}

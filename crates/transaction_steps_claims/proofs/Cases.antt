@@ -18,9 +18,9 @@ use Rattle.redo_log.specs.Append.{stored, puts, lineBytes, stores, appended}
 use Rattle.redo_log_claims.specs.Claims.{appendedAll}
 use Rattle.redo_recovery_model.specs.Recovery.{due}
 use Rattle.redo_recovery_model.specs.Claims.{rewritten}
-use Rattle.transactions.specs.System.{withUpdates, afterStep, afterSteps}
+use Rattle.transactions.specs.System.{withUpdates, afterStep}
 use Rattle.transaction_steps.specs.Steps.{firstDue, lastDue, nextStep, nextOf}
-use Rattle.transaction_steps_claims.specs.Follower.{afterDoing, allAsTold}
+use Rattle.transaction_steps_claims.specs.Follower.{afterDoing}
 use Rattle.transaction_steps_claims.specs.AgainCases.{AgainCases}
 use Rattle.transaction_steps_claims.specs.Cases.{StepRows, FollowerRuns, NextStepCases}
 

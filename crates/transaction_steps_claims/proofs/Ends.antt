@@ -1,32 +1,28 @@
 -- The steps for a card end. Assumes nothing.
-use Prim.Native.Nat.{ℕ, zero, suc, _+_, _-_, _≤_, _<_}
+use Prim.Native.Nat.{ℕ, zero, suc, _+_, _≤_, _<_}
 use native.Mathlib.Omega.{arith}
 use mathlib.Core.Path.{_≡_, refl, sym, ap, _∙_, subst}
 use mathlib.Core.Logic.{_⊎_, inl, inr}
 use mathlib.Core.List.{List, [], _∷_, _++_}
-use mathlib.Core.Bool.{Bool, true, false, cond, not, _&&_, _||_, or-true, and-false}
+use mathlib.Core.Bool.{Bool, true, false, cond, not, _&&_, _||_}
 use borrow.Author.Tests.{eqb-true, eq-eqb, ne-eqb, ltb-true, ltb-false, le-leb, not-true}
 use lib.ListN.{length}
-use lib.Dec.{eqb, ltb, leb}
-use Rattle.lists.specs.Parts.{every}
+use lib.Dec.{eqb, ltb}
 use Rattle.lists.specs.Search.{any}
 use Rattle.lists.proofs.Every.{every-in, every-out}
 use Rattle.lists.proofs.Tests.{cases, never-both, and-in, and-left, and-right, or-right, or-cases}
-use Rattle.redo_log.specs.Log.{LogRecord, mostRecords, updateKind, commitKind, syncedKind, recordCard, recordTransaction, records}
+use Rattle.redo_log.specs.Log.{LogRecord, mostRecords, updateKind, syncedKind, recordCard, recordTransaction, records}
 use Rattle.redo_log.proofs.Records.{good-out}
 use Rattle.redo_log.proofs.ReadBack.{length-records}
 use Rattle.redo_recovery_model.specs.Recovery.{recordIn, transactionIn, commitsTo, syncsFrom, due}
-use Rattle.transactions.specs.System.{OneDesk, markIn, dueFor, writtenOut}
-use Rattle.transactions.specs.Claims.{Moment}
+use Rattle.transactions.specs.System.{markIn, dueFor, writtenOut}
 use Rattle.transactions.proofs.Records.{Ordered, any-more, length-more, in-old, in-new, transaction-old, due-past}
-use Rattle.transactions.proofs.Kept.{Kept}
 use Rattle.transactions.proofs.Claims.{kept-always}
 use Rattle.transaction_steps.specs.declared.LastSeen.{LastSeen}
-use Rattle.transaction_steps.specs.declared.ToldStep.{ToldStep}
-use Rattle.transaction_steps.specs.Steps.{plainStep, nothingStep, lookStep, writeStep, releaseStep, noteStep, seenUpon, firstDue, lastDue, nextStep}
+use Rattle.transaction_steps.specs.Steps.{firstDue, lastDue, nextStep}
 use Rattle.transaction_steps_claims.specs.Follower.{noMind}
-use Rattle.transaction_steps_claims.specs.Ends.{Course, Notes, taking, courseAfter, Ended, EndsSoon, StepsEnd}
-use Rattle.transaction_steps_claims.proofs.Next.{out-from, Found, line-at, no-line, found}
+use Rattle.transaction_steps_claims.specs.Ends.{Course, Notes, taking, courseAfter, Ended, StepsEnd}
+use Rattle.transaction_steps_claims.proofs.Next.{Found, line-at, no-line, found}
 
 -- No line of a card that is written out is due.
 pub idle-at : (rs : List LogRecord) (k n i : ℕ) → writtenOut rs k 0 n ≡ true → i < n → dueFor rs k i ≡ false

@@ -37,21 +37,18 @@ use Rattle.transactions.specs.System.{
   writtenOut,
   writesLine,
   opensAbove,
-  orderly,
   updateIn,
   isHeld,
   isFree,
   appendable,
   lawful,
-  outcome,
   afterStep,
   afterSteps,
   lawfulAll,
 }
 use Rattle.transactions.specs.Claims.{StepBytes, AllSteps, Moment}
-use Rattle.transactions.proofs.Kept.{Clear, Kept}
+use Rattle.transactions.proofs.Kept.{Kept}
 use Rattle.transactions.proofs.Claims.{kept-opening, kept-next}
-use Rattle.transaction_steps.specs.declared.LastSeen.{LastSeen}
 use Rattle.transaction_steps.specs.declared.ToldStep.{ToldStep}
 use Rattle.transaction_steps.specs.Steps.{prepareStep, readyStep, writeStep, releaseStep, noteStep, lastDue, nextStep}
 use Rattle.transaction_steps_claims.specs.Follower.{

@@ -1,5 +1,5 @@
 -- What each next step stands on. Assumes nothing.
-use Prim.Native.Nat.{ℕ, zero, suc, _≤_, _<_}
+use Prim.Native.Nat.{ℕ, zero, suc, _≤_}
 use native.Mathlib.Omega.{arith}
 use mathlib.Core.Path.{_≡_, refl, sym, ap, _∙_, subst}
 use mathlib.Core.Logic.{_⊎_, inl, inr}
@@ -10,32 +10,17 @@ use lib.ListN.{length}
 use lib.Dec.{eqb, ltb, leb}
 use Rattle.lists.specs.Parts.{every}
 use Rattle.lists.specs.Search.{any}
-use Rattle.lists.proofs.Every.{every-in, every-out, every-fails}
-use Rattle.lists.proofs.Tests.{cases, never-both, and-left, and-right, and-in, and-fails, or-left, or-right, or-cases, or-fails}
-use Rattle.commands.specs.Command.{Language, original, translation}
+use Rattle.lists.proofs.Every.{every-in, every-out}
+use Rattle.lists.proofs.Tests.{cases, never-both, and-left, and-right, and-in, and-fails, or-left, or-right, or-cases}
+use Rattle.commands.specs.Command.{original, translation}
 use Rattle.redo_log.specs.Log.{LogRecord, updateKind, mostRecords, recordCard, recordSide}
 use Rattle.redo_recovery_model.specs.Recovery.{recordIn, transactionIn, commitsTo, syncsFrom, due}
-use Rattle.redo_recovery_model.specs.Claims.{sideIs, rewrites}
+use Rattle.redo_recovery_model.specs.Claims.{sideIs}
 use Rattle.transactions.specs.System.{dueFor, writtenOut}
 use Rattle.transactions.proofs.Kept.{Clear}
 use Rattle.transaction_steps.specs.declared.LastSeen.{LastSeen}
 use Rattle.transaction_steps.specs.declared.ToldStep.{ToldStep}
-use Rattle.transaction_steps.specs.Steps.{
-  plainStep,
-  nothingStep,
-  lookStep,
-  prepareStep,
-  readyStep,
-  writeStep,
-  releaseStep,
-  noteStep,
-  waitStep,
-  firstOf,
-  firstDue,
-  lastDue,
-  wants,
-  nextStep,
-}
+use Rattle.transaction_steps.specs.Steps.{plainStep, nothingStep, lookStep, prepareStep, readyStep, writeStep, releaseStep, noteStep, waitStep, firstDue, lastDue, wants, nextStep}
 
 -- ---- the lines of a card
 

@@ -1,20 +1,20 @@
 -- What a desk has seen of a card stays true until it acts on the card: held is held, and free is free as long as
 -- something is due there. Assumes nothing.
-use Prim.Native.Nat.{ℕ, zero, suc, _≤_, _<_}
+use Prim.Native.Nat.{ℕ, zero, suc, _<_}
 use native.Mathlib.Omega.{arith}
 use mathlib.Core.Path.{_≡_, refl, sym, ap, _∙_, subst}
 use mathlib.Core.Logic.{_⊎_, inl, inr}
 use mathlib.Core.List.{List, []}
-use mathlib.Core.Bool.{Bool, true, false, cond, not, _&&_, _||_}
+use mathlib.Core.Bool.{Bool, true, false, cond, not, _&&_}
 use borrow.Author.Tests.{eqb-true, eq-eqb, ltb-true, not-true}
 use lib.ListN.{length, getD}
 use lib.Dec.{eqb}
 use Rattle.formats.specs.Format.{V1}
-use Rattle.lists.specs.Table.{first, settled}
-use Rattle.lists.proofs.Tests.{cases, never-both, and-left, and-right, or-left, or-right}
+use Rattle.lists.specs.Table.{settled}
+use Rattle.lists.proofs.Tests.{cases, never-both, and-left, and-right}
 use Rattle.stamps.specs.declared.Mark.{Mark}
 use Rattle.commands.specs.declared.Command.{Command}
-use Rattle.commands.specs.Command.{Language, isWrite}
+use Rattle.commands.specs.Command.{isWrite}
 use Rattle.commands.specs.Bytes.{formed}
 use Rattle.guard.specs.declared.Answer.{Answer}
 use Rattle.image.specs.Image.{Card, Cards}
@@ -57,7 +57,7 @@ use Rattle.transactions.specs.Claims.{StepBytes}
 use Rattle.transactions.proofs.Records.{more}
 use Rattle.transactions.proofs.Due.{no-more, same-commit}
 use Rattle.transactions.proofs.Serving.{at, then, Taken, taken, kept, shown-mark}
-use Rattle.transactions.proofs.Kept.{bears, Clear, cardFor, relies, Fine, preparing, releasing, writing, Safe, Held, Kept, all-at}
+use Rattle.transactions.proofs.Kept.{bears, Clear, cardFor, relies, Fine, preparing, releasing, writing, Safe, Kept, all-at}
 use Rattle.transactions.proofs.Requests.{if-so, outcome-is, number-now, mark-shown}
 use Rattle.transactions.proofs.Orders.{past-none}
 use Rattle.transactions.proofs.Logged.{held-of, follow, uncounted}

@@ -2,11 +2,10 @@
 use Prim.Native.Nat.{ℕ}
 use native.Mathlib.Omega.{arith}
 use mathlib.Core.Path.{_≡_, refl, sym, _∙_, subst}
-use mathlib.Core.List.{List}
-use mathlib.Core.Bool.{Bool, true, false, _&&_, _||_, and-false}
+use mathlib.Core.Bool.{Bool, true, false, _&&_, and-false}
 use borrow.Author.Tests.{eqb-true, eq-eqb, leb-true, le-leb, le-ltb, not-true}
 use lib.ListN.{length}
-use lib.Dec.{eqb, ltb, leb}
+use lib.Dec.{eqb}
 use Rattle.formats.specs.Format.{V1}
 use Rattle.lists.specs.Table.{all}
 use Rattle.lists.proofs.Tests.{and-in, or-none, all-out}
@@ -19,7 +18,7 @@ use Rattle.store_model.specs.Serve.{entryOf}
 use Rattle.store_model.specs.Words.{Sent}
 use Rattle.store_model.proofs.Machine.{numberOn}
 use Rattle.transactions.specs.System.{commandIn}
-use Rattle.transactions.proofs.Kept.{Kept, decoded}
+use Rattle.transactions.proofs.Kept.{decoded}
 use Rattle.transactions.proofs.Requests.{number-now}
 use Rattle.transactions.proofs.Claims.{kept-always}
 use Rattle.transactions_progress.proofs.Taken.{taken-by}

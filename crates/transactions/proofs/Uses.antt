@@ -32,7 +32,7 @@ use Rattle.redo_log.specs.Append.{stored, puts, lineBytes, stores, appended}
 use Rattle.redo_log_claims.specs.Cases.{beginOf, commitOf, emptyLog}
 use Rattle.transactions.specs.System.{OneDesk, Step, other, order, arrive, append, crash, recover, renew, oneDeskOpening, withUpdates, outcome, afterStep, afterSteps, lawfulAll}
 use Rattle.transactions.specs.Claims.{AllSteps, Clean, Blank, Moment, ShowsAll}
-use Rattle.transactions.specs.Desks.{Desks, outside, own, desksOpening, afterDeskStep, afterDeskSteps, lawfulDeskSteps, DesksMoment, DesksOnlyThen}
+use Rattle.transactions.specs.Desks.{Desks, outside, own, desksOpening, afterDeskStep, DesksMoment, DesksOnlyThen}
 use Rattle.transactions.proofs.Claims.{fresh-clean, zeros-blank, orders-once, reads-meant, never-half}
 use Rattle.transactions.proofs.Joint.{desks-reads-meant, desks-meant-only-then}
 

@@ -17,8 +17,8 @@ use Rattle.redo_log.specs.Log.{shaped, lastBegun, opened, follows, total, start
 use Rattle.redo_log.specs.Append.{stored, puts, lineBytes, stores, appended}
 use Rattle.redo_recovery_model.specs.Recovery.{due}
 use Rattle.redo_recovery_model.specs.Claims.{rewritten}
-use Rattle.transactions.specs.System.{withUpdates, afterStep, afterSteps, lawfulAll}
-use Rattle.transactions.specs.Desks.{afterDeskStep, afterDeskSteps, lawfulDeskSteps}
+use Rattle.transactions.specs.System.{withUpdates, afterStep}
+use Rattle.transactions.specs.Desks.{afterDeskStep}
 use Rattle.transactions_editions.specs.Editions.{currentWith, currentBy, currentAlong}
 use Rattle.transactions_editions.specs.Desks.{desksCurrentAlong}
 use Rattle.transactions_editions.specs.Cases.{DropsChanged}

@@ -4,12 +4,12 @@ use native.Mathlib.Omega.{arith}
 use mathlib.Core.Path.{_≡_, refl, sym, ap, _∙_, subst}
 use mathlib.Core.Logic.{_⊎_, inl, inr}
 use mathlib.Core.List.{List, [], _∷_}
-use mathlib.Core.Bool.{Bool, true, false, cond, not, _&&_, _||_, and-false}
-use borrow.Author.Tests.{eqb-true, eqb-false, eq-eqb, ne-eqb, not-true}
+use mathlib.Core.Bool.{Bool, true, false, cond, not, _&&_}
+use borrow.Author.Tests.{eqb-true, eq-eqb, ne-eqb}
 use lib.ListN.{length, getD}
 use lib.Dec.{eqb}
 use Rattle.formats.specs.Format.{V1}
-use Rattle.lists.proofs.Tests.{cases, never-both, and-left, and-right, or-left, or-right}
+use Rattle.lists.proofs.Tests.{cases, never-both, and-left, and-right, or-right}
 use Rattle.lists.specs.Runs.{foldl, everyAlong}
 use Rattle.stamps.specs.declared.Mark.{Mark}
 use Rattle.commands.specs.declared.Command.{Command}
@@ -23,7 +23,7 @@ use Rattle.store_model.proofs.Machine.{numberOn}
 use Rattle.redo_log.specs.Log.{LogRecord, commitKind, recordTransaction, records}
 use Rattle.redo_log.specs.Append.{appendNumber}
 use Rattle.redo_recovery_model.specs.Recovery.{Pairs, FitsPairs, recovering}
-use Rattle.transactions.specs.System.{OneDesk, Order, Shown, Step, other, order, arrive, append, crash, recover, renew, noOrder, commandIn, expectsMark, leavesMark, lawful, afterStep}
+use Rattle.transactions.specs.System.{Order, Shown, Step, other, order, arrive, append, crash, recover, renew, noOrder, commandIn, expectsMark, leavesMark, lawful, afterStep}
 use Rattle.transactions.specs.Claims.{StepBytes}
 use Rattle.transactions.specs.Desks.{
   Part,
@@ -51,7 +51,7 @@ use Rattle.transactions.proofs.Joint.{Joint, alone, kept-alone, number-then, de
 use Rattle.transactions_editions.specs.Editions.{currentIn, currentBy, currentWith, currentAfter}
 use Rattle.transactions_editions.specs.Desks.{desksCurrentAfter, desksCurrentAlong, desksMeantCurrent, DesksEditionsAtOnce, DesksTranslationsRead}
 use Rattle.transactions_editions.proofs.Current.{cur, cur-then}
-use Rattle.transactions_editions.proofs.Steps.{Done, Tells, Turned, Holds, Moved, still, up, sent-moved, told-moved, holds-other}
+use Rattle.transactions_editions.proofs.Steps.{Done, Tells, Holds, Moved, still, up, sent-moved, told-moved, holds-other}
 use Rattle.transactions_editions.proofs.Appends.{unborne-current}
 use Rattle.transactions_editions.proofs.Claims.{holds-next, accepted, behind-then}
 

@@ -31,15 +31,15 @@ use Rattle.redo_log.specs.Append.{stored, puts, lineBytes, stores, appended}
 use Rattle.redo_log_claims.specs.Cases.{emptyLog}
 use Rattle.redo_recovery_model.specs.Recovery.{due}
 use Rattle.redo_recovery_model.specs.Claims.{rewritten}
-use Rattle.transactions.specs.System.{OneDesk, Step, markIn, withUpdates, outcome, afterStep, afterSteps, lawfulAll}
+use Rattle.transactions.specs.System.{OneDesk, Step, markIn, withUpdates, outcome, afterStep, afterSteps}
 use Rattle.transactions.specs.Claims.{Moment}
 use Rattle.transactions.proofs.Claims.{fresh-clean, zeros-blank}
 use Rattle.transactions_cases.specs.Cases.{atFirst, five, command, both}
 use Rattle.transactions_cases.proofs.Cases.{belowTest, sentTest, stepTest, stepsTest, steps-tested}
 use Rattle.transactions_editions.specs.Editions.{currentIn, currentBy, meantCurrent}
 use Rattle.transactions_editions.specs.Cases.{writtenTwice, makesReady, commitsIt}
-use Rattle.transactions.specs.Desks.{Desks, desksOpening, afterDeskSteps, lawfulDeskSteps, DesksMoment}
-use Rattle.transactions_editions.specs.Desks.{desksCurrentAlong, desksMeantCurrent}
+use Rattle.transactions.specs.Desks.{Desks, desksOpening, DesksMoment}
+use Rattle.transactions_editions.specs.Desks.{desksMeantCurrent}
 use Rattle.transactions_editions.proofs.Claims.{editions-at-once, translations-read}
 use Rattle.transactions_editions.proofs.Desks.{desks-editions-at-once, desks-translations-read}
 

@@ -12,7 +12,30 @@ use Rattle.redo_log.specs.Log.{LogRecord}
 use Rattle.redo_log_claims.specs.Cases.{beginOf, updateOf, commitOf, syncedOf}
 use Rattle.transactions.specs.System.{OneDesk, Step, other, order, arrive, outcome, afterSteps}
 use Rattle.transactions.specs.Desks.{Desks, DeskStep, outside, own, seenBy, afterDeskSteps, lawfulDeskSteps}
-use Rattle.transactions_cases.specs.Cases.{atFirst, text190, text380, text210, one, five, six, theirs, bothRuled, twoDesks, command, writes1, ours, prepare, writeOut, release, logs, logsAll, inOrder, Shows, both, single}
+use Rattle.transactions_cases.specs.Cases.{
+  atFirst,
+  text190,
+  text380,
+  text210,
+  one,
+  five,
+  six,
+  theirs,
+  bothRuled,
+  twoDesks,
+  command,
+  writes1,
+  ours,
+  prepare,
+  writeOut,
+  release,
+  logs,
+  logsAll,
+  inOrder,
+  Shows,
+  both,
+  single,
+}
 use Rattle.transactions_editions.specs.Editions.{currentIn, currentAlong}
 use Rattle.transactions_editions.specs.Desks.{desksCurrentAlong}
 

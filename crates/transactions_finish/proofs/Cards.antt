@@ -5,19 +5,16 @@ use mathlib.Core.Path.{_≡_, refl, sym, ap, _∙_, subst}
 use mathlib.Core.Logic.{_⊎_, inl, inr}
 use mathlib.Core.List.{List, []}
 use mathlib.Core.Bool.{Bool, true, false, cond, not, _&&_, _||_}
-use borrow.Author.Tests.{eqb-true, eq-eqb, ne-eqb, ltb-true, ltb-false, leb-true, not-true}
+use borrow.Author.Tests.{eqb-true, eq-eqb, ne-eqb, ltb-true, ltb-false, not-true}
 use lib.ListN.{length, length-drop}
-use lib.Dec.{eqb, ltb, leb, lit<}
-use Rattle.formats.specs.Format.{V1}
+use lib.Dec.{eqb, ltb, lit<}
 use Rattle.lists.specs.Parts.{every}
-use Rattle.lists.specs.Table.{all}
 use Rattle.lists.proofs.Bytes.{Bytes-nil, Bytes-drop}
-use Rattle.lists.proofs.Tests.{cases, never-both, and-left, and-right, or-cases, all-out, from-T}
+use Rattle.lists.proofs.Tests.{cases, never-both, and-left, and-right, or-cases}
 use Rattle.stamps.specs.Stamp.{stampT}
 use Rattle.stamps.specs.declared.Mark.{Mark}
 use Rattle.commands.specs.Command.{original}
-use Rattle.image.specs.Layout.{shapeOk}
-use Rattle.image.specs.Image.{Card, Cards, GoodCards}
+use Rattle.image.specs.Image.{Card, Cards}
 use Rattle.redo_log.specs.Log.{LogRecord, mostRecords, recordCard, recordSide, recordText, records}
 use Rattle.redo_log.proofs.Records.{good-out}
 use Rattle.redo_log.proofs.ReadBack.{length-records}
@@ -28,19 +25,14 @@ use Rattle.transactions.specs.System.{dueFor, writtenOut}
 use Rattle.transactions.proofs.Records.{due-past}
 use Rattle.transactions.proofs.Serving.{at}
 use Rattle.transactions_progress.specs.Progress.{originalsDue}
-use Rattle.transaction_steps.specs.declared.ToldStep.{ToldStep}
 use Rattle.transaction_steps.specs.Steps.{firstDue, nextStep}
 use Rattle.transaction_steps_claims.specs.Follower.{Follower}
 use Rattle.transaction_steps_claims.proofs.Follower.{Going}
 use Rattle.transaction_steps_claims.proofs.Next.{Found, line-at, no-line, found}
 use Rattle.transactions_finish.specs.Finish.{linesDue}
-use Rattle.transactions_finish.proofs.Requests.{good-cards}
-use Rattle.transactions_finish.proofs.Commands.{Deed, releasing, writing, Fit, above-next}
+use Rattle.transactions_finish.proofs.Commands.{releasing, writing, Fit, above-next}
 use Rattle.transactions_finish.proofs.Walks.{
   cardsOf,
-  Path,
-  path-none,
-  path-join,
   Moved,
   moved-join,
   saw,
@@ -52,7 +44,6 @@ use Rattle.transactions_finish.proofs.Walks.{
   look-unmarked,
   telling,
   Carrying,
-  editionAfter,
   ordered,
   order-moved,
   mark-order,

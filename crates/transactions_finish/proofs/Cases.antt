@@ -22,12 +22,12 @@ use Rattle.redo_log.specs.Append.{stored, puts, lineBytes, stores, appended}
 use Rattle.redo_log_claims.specs.Cases.{emptyLog}
 use Rattle.redo_recovery_model.specs.Recovery.{due}
 use Rattle.redo_recovery_model.specs.Claims.{rewritten}
-use Rattle.transactions.specs.System.{oneDeskOpening, withUpdates, afterStep, afterSteps, lawfulAll}
+use Rattle.transactions.specs.System.{oneDeskOpening, withUpdates, afterStep, lawfulAll}
 use Rattle.transactions.proofs.Claims.{fresh-clean, zeros-blank}
 use Rattle.transactions_cases.proofs.Cases.{belowTest, sentTest, pairsTest, stepTest, stepsTest, steps-tested}
 use Rattle.transactions_progress.specs.Progress.{originalsDue}
 use Rattle.transaction_steps.specs.Steps.{firstDue, lastDue, nextStep}
-use Rattle.transaction_steps_claims.specs.Follower.{afterDoing, afterDoings, allAsTold}
+use Rattle.transaction_steps_claims.specs.Follower.{afterDoing}
 use Rattle.transactions_finish.specs.Finish.{linesDue, cardsDue, ownDoings}
 use Rattle.transactions_finish.specs.Cases.{halfDone, halfDoneIn, outlookIn, outlook, FinishRuns}
 

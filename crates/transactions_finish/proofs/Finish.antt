@@ -18,9 +18,8 @@ use Rattle.stamps.specs.Stamp.{stampT}
 use Rattle.commands.specs.Command.{Language, isWrite}
 use Rattle.guard.specs.Judge.{lastEdition}
 use Rattle.image.specs.Layout.{mostCards, shapeOk}
-use Rattle.image.specs.Image.{Card, Cards, noCard, decode}
+use Rattle.image.specs.Image.{Card, noCard, decode}
 use Rattle.redo_log.specs.Log.{LogRecord, mostRecords, commitKind, syncedKind, recordCard, recordSide, recordText, recordTransaction, recordCount, startAt, records}
-use Rattle.redo_log.proofs.ReadBack.{length-records}
 use Rattle.redo_log_claims.specs.Cases.{syncedOf}
 use Rattle.redo_recovery_model.specs.Recovery.{recordIn, due}
 use Rattle.redo_recovery_model.proofs.Sending.{fits-log}
@@ -31,7 +30,6 @@ use Rattle.transactions.proofs.Serving.{at}
 use Rattle.transactions.proofs.Requests.{if-so}
 use Rattle.transactions.proofs.Claims.{kept-always, refines, meant-only-then}
 use Rattle.transactions_progress.specs.Progress.{originalsDue, editionBefore, canWrite}
-use Rattle.transaction_steps.specs.declared.LastSeen.{LastSeen}
 use Rattle.transaction_steps.specs.declared.ToldStep.{ToldStep}
 use Rattle.transaction_steps.specs.Steps.{noteStep, lastDue, nextStep}
 use Rattle.transaction_steps_claims.specs.Follower.{
@@ -54,10 +52,10 @@ use Rattle.transaction_steps_claims.proofs.Next.{clear-out}
 use Rattle.transaction_steps_claims.proofs.Ends.{more-lines, idle-at, idle-all, was-due, noted-done}
 use Rattle.transactions_finish.specs.Finish.{linesDue, cardsDue, lineLeft, stampsLeft, ownDoing, ownDoings, startsAgain, Finished, Finishes, CanAlwaysFinish}
 use Rattle.transactions_finish.proofs.Requests.{good-cards}
-use Rattle.transactions_finish.proofs.Walks.{cardsOf, Path, path-none, path-more, path-join, Moved, saw}
+use Rattle.transactions_finish.proofs.Walks.{cardsOf, Path, path-none, path-more, path-join, saw}
 use Rattle.transactions_finish.proofs.Cards.{Writable, Settled, CardDone, card-done}
 use Rattle.transactions_finish.proofs.Inside.{bare-always}
-use Rattle.transactions_finish.proofs.Notes.{last-fits, note-card, note-transaction, note-bytes, noteStores, noted, note-number, note-records, note-length, note-count, note-end}
+use Rattle.transactions_finish.proofs.Notes.{last-fits, note-card, note-transaction, note-bytes, noteStores, noted, note-records, note-length, note-count, note-end}
 
 -- ---- the desk's own steps leave what is meant
 

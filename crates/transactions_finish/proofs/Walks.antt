@@ -1,11 +1,10 @@
 -- A desk that takes its own steps: a look, and an order that is accepted at once. Assumes nothing.
-use Prim.Native.Nat.{ℕ, zero, suc, _+_, _≤_, _<_, max}
+use Prim.Native.Nat.{ℕ, zero, suc, _+_, _<_, max}
 use native.Mathlib.Omega.{arith}
 use mathlib.Core.Path.{_≡_, refl, sym, ap, _∙_, subst}
-use mathlib.Core.Logic.{_⊎_, inl, inr}
 use mathlib.Core.List.{List, [], _∷_}
-use mathlib.Core.Bool.{Bool, true, false, cond, not, _&&_, _||_}
-use borrow.Author.Tests.{eqb-true, eqb-false, eq-eqb, ne-eqb, lt-ltb}
+use mathlib.Core.Bool.{Bool, true, false, cond, not, _&&_}
+use borrow.Author.Tests.{eqb-true, eq-eqb, ne-eqb, lt-ltb}
 use lib.ListN.{length, getD}
 use lib.Dec.{eqb, ltb}
 use Rattle.formats.specs.Format.{V1}
@@ -13,11 +12,11 @@ use Rattle.lists.specs.Parts.{Bytes}
 use Rattle.lists.specs.Table.{settled}
 use Rattle.lists.proofs.Tests.{and-in, and-left, and-right, or-left, or-right, eqb-comm}
 use Rattle.lists.specs.Runs.{foldl, everyAlong}
-use Rattle.stamps.specs.Stamp.{stampT, largerOfEach}
+use Rattle.stamps.specs.Stamp.{stampT}
 use Rattle.stamps.specs.declared.Pair.{Pair}
 use Rattle.stamps.specs.declared.Mark.{Mark}
 use Rattle.commands.specs.declared.Command.{Command}
-use Rattle.commands.specs.Command.{original, isWrite, writes, verifier, update}
+use Rattle.commands.specs.Command.{original, isWrite, writes, update}
 use Rattle.commands.specs.Bytes.{formed, payload}
 use Rattle.guard.specs.declared.Answer.{Answer}
 use Rattle.guard.specs.Judge.{raise}
@@ -28,7 +27,7 @@ use Rattle.store_model.specs.Claims.{SentBytes}
 use Rattle.store_model.proofs.Machine.{numberOn}
 use Rattle.redo_log.specs.Log.{LogRecord, recordSide, recordText, records}
 use Rattle.redo_recovery_model.specs.Recovery.{recordIn}
-use Rattle.transactions.specs.System.{OneDesk, Shown, noShown, commandIn, markIn, sameBytes, prepares, writesOut, releases, opensAbove, outcome, afterStep, reachOf}
+use Rattle.transactions.specs.System.{Shown, noShown, commandIn, sameBytes, prepares, writesOut, releases, opensAbove, outcome, afterStep, reachOf}
 use Rattle.transactions.proofs.Serving.{at, then, taken, kept, stepped-here}
 use Rattle.transaction_steps.specs.declared.LastSeen.{LastSeen}
 use Rattle.transaction_steps.specs.declared.ToldStep.{ToldStep}
@@ -56,7 +55,27 @@ use Rattle.transaction_steps_claims.specs.Follower.{
 use Rattle.transaction_steps_claims.proofs.Follower.{Going, one}
 use Rattle.transactions_finish.specs.Finish.{ownDoing, ownDoings}
 use Rattle.transactions_finish.proofs.Requests.{shows-entry, good-cards, number-on, cards-on, pair-on, mark-on, others-then, count-then, room-then}
-use Rattle.transactions_finish.proofs.Commands.{sends, above, above-more, above-next, looking, look-formed, look-fields, look-bytes, Deed, releasing, writing, nextOf, orderOf, Fit, order-update, order-formed, order-fields, order-payload, order-bytes, order-taken}
+use Rattle.transactions_finish.proofs.Commands.{
+  sends,
+  above,
+  above-more,
+  looking,
+  look-formed,
+  look-fields,
+  look-bytes,
+  Deed,
+  releasing,
+  writing,
+  nextOf,
+  orderOf,
+  Fit,
+  order-update,
+  order-formed,
+  order-fields,
+  order-payload,
+  order-bytes,
+  order-taken,
+}
 
 abbrev pub cardsOf : Follower → Cards
 cardsOf z = decode V1 (z .desk .image)

@@ -20,7 +20,7 @@ use Rattle.redo_recovery_model.specs.Recovery.{due, recoverySent, recoveryStep,
 use Rattle.redo_recovery_model.specs.Claims.{rewritten}
 use Rattle.transactions.specs.System.{withUpdates, afterStep}
 use Rattle.transactions_progress.specs.Progress.{originalsDue}
-use Rattle.transactions_progress.specs.Holders.{afterActing, afterActings, lawfulActings}
+use Rattle.transactions_progress.specs.Holders.{afterActing}
 use Rattle.transactions_progress.specs.Cases.{FinishCases, HandoverCases, ProgressRuns}
 
 finish-cases : FinishCases

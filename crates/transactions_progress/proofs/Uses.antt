@@ -30,13 +30,13 @@ use Rattle.redo_log_claims.specs.Claims.{appendedAll}
 use Rattle.redo_log_claims.specs.Cases.{beginOf, updateOf, emptyLog}
 use Rattle.redo_recovery_model.specs.Recovery.{Pairs, due, recovered}
 use Rattle.redo_recovery_model.specs.Claims.{textIn, rewritten}
-use Rattle.transactions.specs.System.{OneDesk, order, arrive, recover, withUpdates, afterStep, afterSteps, lawfulAll}
+use Rattle.transactions.specs.System.{OneDesk, order, arrive, recover, withUpdates, afterStep, afterSteps}
 use Rattle.transactions.specs.Claims.{Clean, Blank, Moment}
 use Rattle.transactions.proofs.Claims.{fresh-clean, zeros-blank}
 use Rattle.transactions_cases.specs.Cases.{atFirst, text190, one, five, writes1, prepare, logs, upToCommit}
 use Rattle.transactions_cases.proofs.Cases.{belowTest, bytes-tested, sentTest, pairsTest, pairs-tested, stepTest, step-tested, stepsTest, steps-tested}
 use Rattle.transactions_progress.specs.Progress.{originalsDue, canFinish, goodPairs}
-use Rattle.transactions_progress.specs.Holders.{seenAs, ActingBytes, holdersOpening, afterActings, lawfulActings}
+use Rattle.transactions_progress.specs.Holders.{seenAs, ActingBytes, holdersOpening}
 use Rattle.transactions_progress.specs.Cases.{loggedOnce, eachUnder, handedOver, afterHandover}
 use Rattle.transactions_progress.proofs.Claims.{recovery-taken, one-step-finishes}
 use Rattle.transactions_progress.proofs.Holders.{holders-are-one}

@@ -24,9 +24,9 @@ use Rattle.redo_log.specs.Append.{stored, puts, lineBytes, stores, appended}
 use Rattle.redo_recovery_model.specs.Recovery.{due, recoverySent, recoveryStep, recovering}
 use Rattle.redo_recovery_model.specs.Claims.{rewritten}
 use Rattle.desk_proposals.specs.Propose.{learnt, nextT, pairFor, proposed}
-use Rattle.desk_system.specs.System.{stepTo, systemAfter, byRules}
+use Rattle.desk_system.specs.System.{stepTo}
 use Rattle.transactions.specs.System.{withUpdates, shownBy, afterStep}
-use Rattle.transactions.specs.Desks.{DeskStep, outside, own, afterDeskStep, afterDeskSteps, lawfulDeskSteps, AllDeskSteps}
+use Rattle.transactions.specs.Desks.{DeskStep, outside, own, afterDeskStep, AllDeskSteps}
 use Rattle.transactions.proofs.Claims.{zeros-blank}
 use Rattle.transactions_cases.proofs.Cases.{belowTest, sentTest, sent-tested, pairsTest, stepTest, step-tested}
 use Rattle.transactions_system.specs.Together.{movesIn, stepsIn, sendsAlong}

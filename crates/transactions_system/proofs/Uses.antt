@@ -23,11 +23,11 @@ use Rattle.store_model.specs.Cases.{pair}
 use Rattle.redo_log_claims.specs.Cases.{emptyLog}
 use Rattle.redo_recovery_model.specs.Claims.{textIn}
 use Rattle.desk_proposals.specs.Propose.{learnt, nextT, pairFor, proposed}
-use Rattle.desk_system.specs.System.{System, propose, learn, send, opening, allowed, stepTo, systemAfter, byRules}
+use Rattle.desk_system.specs.System.{System, propose, learn, send, opening, allowed, stepTo, systemAfter}
 use Rattle.desk_system.specs.Claims.{ByRules, finally}
 use Rattle.desk_system_cases.specs.Trials.{twoPlaces}
 use Rattle.transactions.specs.System.{commandIn, opensAbove, markIn}
-use Rattle.transactions.specs.Desks.{Desks, desksOpening, afterDeskSteps, lawfulDeskSteps, DesksMoment}
+use Rattle.transactions.specs.Desks.{Desks, desksOpening, afterDeskSteps, DesksMoment}
 use Rattle.transactions.proofs.Claims.{zeros-blank}
 use Rattle.transactions_cases.specs.Cases.{command, ours}
 use Rattle.transactions_system.specs.Together.{movesIn, stepsIn, sendsAlong, ByBoth, OneRun, Proposes, MayOrder}

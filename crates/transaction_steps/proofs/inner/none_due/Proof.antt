@@ -2,7 +2,7 @@
 use native.Mathlib.Omega.{arith}
 use Prim.Native.Nat.{ℕ, _-_, _≤_, _<_}
 use mathlib.Core.Path.{_≡_, sym, ap, _∙_, subst}
-use mathlib.Core.Bool.{Bool, true, not}
+use mathlib.Core.Bool.{true, not}
 use Rattle.lists.specs.Parts.{every}
 use Rattle.lists.proofs.Every.{every-none, every-more, every-fail}
 use Rattle.redo_log.specs.Log.{recordCount, recordAt, lastBegun, records}
