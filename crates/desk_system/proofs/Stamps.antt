@@ -35,7 +35,7 @@ use Rattle.desk_proposals.specs.Propose.{learnt, nextT, ownAbove, lastT, pairFo
 use Rattle.desk_proposal_claims.proofs.Claims.{each-proposal}
 use Rattle.desk_system.specs.System.{samePair, opening, knows}
 use Rattle.desk_system.specs.Claims.{finally}
-use Rattle.desk_system.specs.Progress.{proposalsFor, StampsLast, Listening, hears, makes, knownBy, shownFor, heardIn, acceptedFor, ownMade, GuardSpends}
+use Rattle.desk_system.specs.Progress.{proposalsFor, StampsLast, Listening, hears, makesPair, knownBy, shownFor, heardIn, acceptedFor, ownMade, GuardSpends}
 use Rattle.desk_system.proofs.Backing.{among-none, among-cases, next-most, Dated, Backed}
 use Rattle.desk_system.proofs.Kept.{pair-is}
 use Rattle.desk_system.proofs.Store.{Held, stored-pairs, reply-pair, widened-pairs, held-fresh, held-send, held-convert}
@@ -248,7 +248,7 @@ module _ (desk start : ℕ) (d : desk < 65536) (i : start < 65536) (commands : �
       hears-within (ownMade before) (knownBy desk start before) p
       (known-within log card from before (and-right (any (shownFor card p) log) (heardIn log card before) h))
       (from p (and-left (any (shownFor card p) log) (heardIn log card before) h))
-  known-within log card from (makes mode ∷ before) h = makes-within (ownMade before) (knownBy desk start before) mode (known-within log card from before h)
+  known-within log card from (makesPair mode ∷ before) h = makes-within (ownMade before) (knownBy desk start before) mode (known-within log card from before h)
 
 -- A pair that a reply for the card showed.
 heard-within : {v : Format} {n c : ℕ} {f : Format} {image : List ℕ} {log : List Event} → Raised v n c f image log

@@ -40,7 +40,7 @@ use Rattle.desk_system.specs.System.{Move, Made, begin, propose, send, recoverW
 use Rattle.desk_system.specs.Claims.{ByRules, finally, StoreOf}
 use Rattle.desk_system_cases.specs.Trials.{deskOne, deskThree, twoPlaces, blankLogs, readUnder, longStory, committed, pairsFor, send2}
 use Rattle.desk_system.proofs.Claims.{premise-kept, desks-isolated, store-follows, stamps-once, desks-valid, recovery-allowed}
-use Rattle.desk_system.specs.Progress.{ownEntry, Listening, hears, makes, knownBy, heardIn, acceptedFor, ownMade}
+use Rattle.desk_system.specs.Progress.{ownEntry, Listening, hears, makesPair, knownBy, heardIn, acceptedFor, ownMade}
 use Rattle.desk_system.proofs.Stamps.{stamps-last, guard-spends}
 use Rattle.desk_system.proofs.Progress.{own-pairs}
 use Rattle.desk_system_cases.proofs.Runs.{desk-runs}
@@ -200,7 +200,7 @@ abbrev unruled : List Move
 unruled = send (writeOriginal 0 (stamp 1000000 9 0) text205) ∷ []
 
 abbrev listens : List Listening
-listens = makes exclusive ∷ hears (record { s = 0; x = stamp 1000000 9 0 }) ∷ []
+listens = makesPair exclusive ∷ hears (record { s = 0; x = stamp 1000000 9 0 }) ∷ []
 
 heard-unruled : heardIn (finally V1 1 16 twoPlaces blankLogs unruled .store .trace) 0 listens ≡ true
 unfolding heardIn foldl stepTo serve serveBy stepped sound headerSound cardSound translationSound tailZero decode cardAt entryAt readEntry encode bodies

@@ -1,7 +1,7 @@
 // Asking, leaving and leaving by lease over places by value.
 ghost use Rattle.lock_queue.specs.Queue.{state};
 ghost use Rattle.lock_queue.specs.Requests.{asks, leaves, lapses, Turns};
-ghost use Rattle.lock_queue_lent.specs.Slice.{held};
+ghost use Rattle.lock_queue_lent.specs.Slice.{lentState};
 use crate::Kept;
 use lock_queue::LeaseExpiry;
 use lock_queue::LockOutcome;
@@ -11,7 +11,7 @@ use lock_queue::Waiting;
 
 // Asking, by value.
 pub fn asked(places: Places, kept: Kept, lent: usize, new: Waiting) -> LockOutcome
-    ensures { λ r. ⌜ Turns lent (held (places .at) kept) (asks new) (r .answer) (state (r .queue)) ⌝ }
+    ensures { λ r. ⌜ Turns lent (lentState (places .at) kept) (asks new) (r .answer) (state (r .queue)) ⌝ }
 {
     let largest = kept.largest;
     let queue = Queue {
@@ -24,7 +24,7 @@ pub fn asked(places: Places, kept: Kept, lent: usize, new: Waiting) -> LockOutco
 
 // Leaving, by value.
 pub fn left(places: Places, kept: Kept, lent: usize, desk: u32) -> LockOutcome
-    ensures { λ r. ⌜ Turns lent (held (places .at) kept) (leaves desk) (r .answer) (state (r .queue)) ⌝ }
+    ensures { λ r. ⌜ Turns lent (lentState (places .at) kept) (leaves desk) (r .answer) (state (r .queue)) ⌝ }
 {
     let largest = kept.largest;
     let queue = Queue {
@@ -37,7 +37,7 @@ pub fn left(places: Places, kept: Kept, lent: usize, desk: u32) -> LockOutcome
 
 // Leaving by lease, by value.
 pub fn lapsed(places: Places, kept: Kept, lent: usize, expiry: LeaseExpiry) -> LockOutcome
-    ensures { λ r. ⌜ Turns lent (held (places .at) kept) (lapses expiry) (r .answer) (state (r .queue)) ⌝ }
+    ensures { λ r. ⌜ Turns lent (lentState (places .at) kept) (lapses expiry) (r .answer) (state (r .queue)) ⌝ }
 {
     let largest = kept.largest;
     let queue = Queue {
