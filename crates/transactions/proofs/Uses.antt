@@ -32,7 +32,7 @@ use Rattle.redo_log.specs.Append.{stored, puts, lineBytes, stores, appended}
 use Rattle.redo_log_claims.specs.Cases.{beginOf, commitOf, emptyLog}
 use Rattle.transactions.specs.System.{OneDesk, Step, other, order, arrive, append, crash, recover, renew, oneDeskOpening, withUpdates, outcome, afterStep, afterSteps, lawfulAll}
 use Rattle.transactions.specs.Claims.{AllSteps, Clean, Blank, Moment, ShowsAll}
-use Rattle.transactions.specs.Desks.{Desks, outside, own, desksOpening, afterDeskStep, DesksMoment, DesksOnlyThen}
+use Rattle.transactions.specs.Desks.{Desks, outside, byDesk, desksOpening, afterDeskStep, DesksMoment, DesksOnlyThen}
 use Rattle.transactions.proofs.Claims.{fresh-clean, zeros-blank, orders-once, reads-meant, never-half}
 use Rattle.transactions.proofs.Joint.{desks-reads-meant, desks-meant-only-then}
 
@@ -157,24 +157,24 @@ unwritten-then : afterDeskStep nowhere (outside read) .meant ≡ nowhere .meant
 unfolding fieldsOf commandBytes le toLe part
 unwritten-then = only-then .unwritten read refl
 
-ordered-then : afterDeskStep nowhere (own 0 (order read 7 8)) .meant ≡ nowhere .meant
+ordered-then : afterDeskStep nowhere (byDesk 0 (order read 7 8)) .meant ≡ nowhere .meant
 ordered-then = only-then .ordered 0 read 7 8
 
-arrived-then : afterDeskStep nowhere (own 0 (arrive 9)) .meant ≡ nowhere .meant
+arrived-then : afterDeskStep nowhere (byDesk 0 (arrive 9)) .meant ≡ nowhere .meant
 arrived-then = only-then .arrived 0 9
 
-uncounted-then : afterDeskStep nowhere (own 70000 (append 99 (commitOf 1))) .meant ≡ nowhere .meant
+uncounted-then : afterDeskStep nowhere (byDesk 70000 (append 99 (commitOf 1))) .meant ≡ nowhere .meant
 unfolding goodLog shaped
 uncounted-then = only-then .uncounted 70000 99 (commitOf 1) 22 refl
 
-uncommitted-then : afterDeskStep nowhere (own 0 (append 99 (beginOf 1))) .meant ≡ nowhere .meant
+uncommitted-then : afterDeskStep nowhere (byDesk 0 (append 99 (beginOf 1))) .meant ≡ nowhere .meant
 uncommitted-then = only-then .uncommitted 0 99 (beginOf 1) refl
 
-crashed-then : afterDeskStep nowhere (own 0 crash) .meant ≡ nowhere .meant
+crashed-then : afterDeskStep nowhere (byDesk 0 crash) .meant ≡ nowhere .meant
 crashed-then = only-then .crashed 0
 
-recovered-then : afterDeskStep nowhere (own 0 (recover (record { s = []; x = [] }) 9)) .meant ≡ nowhere .meant
+recovered-then : afterDeskStep nowhere (byDesk 0 (recover (record { s = []; x = [] }) 9)) .meant ≡ nowhere .meant
 recovered-then = only-then .recovered 0 (record { s = []; x = [] }) 9
 
-renewed-then : afterDeskStep nowhere (own 0 renew) .meant ≡ nowhere .meant
+renewed-then : afterDeskStep nowhere (byDesk 0 renew) .meant ≡ nowhere .meant
 renewed-then = only-then .renews 0

@@ -35,7 +35,7 @@ use Rattle.redo_recovery_model.specs.Recovery.{Pairs, FitsPairs, due, recoveryS
 use Rattle.redo_recovery_model.specs.Claims.{rewritten}
 use Rattle.transactions.specs.System.{OneDesk, Step, other, order, arrive, append, crash, recover, renew, lawful, withUpdates, shownBy, afterStep, afterSteps, lawfulAll}
 use Rattle.store_model.specs.Cases.{text205, text401}
-use Rattle.transactions.specs.Desks.{Desks, DeskStep, own, lawfulDeskStep, afterDeskStep, afterDeskSteps, lawfulDeskSteps}
+use Rattle.transactions.specs.Desks.{Desks, DeskStep, byDesk, lawfulDeskStep, afterDeskStep, afterDeskSteps, lawfulDeskSteps}
 use Rattle.transactions_cases.specs.Cases.{
   begins,
   preparesBoth,
@@ -378,7 +378,7 @@ desksVerdict =
     let a = walkedDesks twoDesks bothBegin in
     let b = walkedDesks (a .left) sixCommits in
     let c = walkedDesks (b .left) (sixFinishes ++ fiveCommits) in
-    (a .passed, (lawfulDeskStep bothRuled (a .left) (own 5 (logs (commitOf 1))), (b .passed, (c .passed, (seeDesks (b .left), seeDesks (c .left))))))
+    (a .passed, (lawfulDeskStep bothRuled (a .left) (byDesk 5 (logs (commitOf 1))), (b .passed, (c .passed, (seeDesks (b .left), seeDesks (c .left))))))
 
 desks-verdict : desksVerdict ≡ (true, (false, (true, (true, (seeing text190 text380 text190 text210, seeing text190 text210 text205 text401)))))
 unfolding everyAlong foldl afterStep withUpdates rewritten due stored puts lineBytes stores appended shaped lastBegun opened follows total startAt
@@ -412,7 +412,7 @@ two-desks =
           rules-more twoDesks bothBegin (sixCommits ++ (sixFinishes ++ fiveCommits))
           ∙ and-in (sym (a .1) ∙ ap (λ (v : DesksVerdict). v .0) desks-verdict)
           (ap (λ (w : Desks). lawfulDeskSteps bothRuled w (sixCommits ++ (sixFinishes ++ fiveCommits))) here ∙ last);
-      early = ap (λ (w : Desks). lawfulDeskStep bothRuled w (own 5 (logs (commitOf 1)))) here ∙ ap (λ (v : DesksVerdict). v .1 .0) desks-verdict;
+      early = ap (λ (w : Desks). lawfulDeskStep bothRuled w (byDesk 5 (logs (commitOf 1)))) here ∙ ap (λ (v : DesksVerdict). v .1 .0) desks-verdict;
       first = ap seeDesks mid ∙ ap (λ (v : DesksVerdict). v .1 .1 .1 .1 .0) desks-verdict;
       last = ap seeDesks end ∙ ap (λ (v : DesksVerdict). v .1 .1 .1 .1 .1) desks-verdict;
     }

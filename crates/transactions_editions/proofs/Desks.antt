@@ -33,7 +33,7 @@ use Rattle.transactions.specs.Desks.{
   desksOpening,
   DeskStep,
   outside,
-  own,
+  byDesk,
   ownStep,
   lawfulDeskStep,
   afterDeskStep,
@@ -165,7 +165,7 @@ module _ (ruled : ℕ → Bool) (y : Desks) (j : Joint ruled y) (c : ℕ → Boo
       → currentBy (records (new p f d)) k (length (records (new p f d))) (cur (at (decode V1 image) k)) ≡ a k
   by-log p f image a k e = subst (λ (g : List ℕ). currentBy (records g) k (length (records g)) (cur (at (decode V1 image) k)) ≡ a k) (sym (new-here p f)) e
 
-  turned-order : (s : Sent) (line from : ℕ) → SentBytes s → lawful d (seenBy d y) (order s line from) ≡ true → JointTurned ruled (afterDeskStep y (own d (order s line from))) c
+  turned-order : (s : Sent) (line from : ℕ) → SentBytes s → lawful d (seenBy d y) (order s line from) ≡ true → JointTurned ruled (afterDeskStep y (byDesk d (order s line from))) c
   unfolding afterDeskStep afterStep
   turned-order s line from b h =
       let p = partOf (afterStep d (seenBy d y) (order s line from)) in
@@ -177,7 +177,7 @@ module _ (ruled : ℕ → Bool) (y : Desks) (j : Joint ruled y) (c : ℕ → Boo
         side = by-desk ruled y j d r (λ (n : ℕ) (q : Part). ruled n ≡ true → SideTurned n (y .image) q) p (y .part) (λ q. record { sent = hold .sent; told = hold .told }) (λ n x q. w .side n q);
       }
 
-  turned-crash : JointTurned ruled (afterDeskStep y (own d crash)) c
+  turned-crash : JointTurned ruled (afterDeskStep y (byDesk d crash)) c
   unfolding afterDeskStep afterStep
   turned-crash =
       let p = partOf (afterStep d (seenBy d y) crash) in
@@ -189,7 +189,7 @@ module _ (ruled : ℕ → Bool) (y : Desks) (j : Joint ruled y) (c : ℕ → Boo
         side = by-desk ruled y j d r (λ (n : ℕ) (q : Part). ruled n ≡ true → SideTurned n (y .image) q) p (y .part) (λ q. record { sent = hold .sent; told = hold .told }) (λ n x q. w .side n q);
       }
 
-  turned-renew : lawful d (seenBy d y) renew ≡ true → JointTurned ruled (afterDeskStep y (own d renew)) c
+  turned-renew : lawful d (seenBy d y) renew ≡ true → JointTurned ruled (afterDeskStep y (byDesk d renew)) c
   unfolding afterDeskStep afterStep
   turned-renew h =
       let p = partOf (afterStep d (seenBy d y) renew) in
@@ -202,7 +202,7 @@ module _ (ruled : ℕ → Bool) (y : Desks) (j : Joint ruled y) (c : ℕ → Boo
       }
 
   turned-append : (budget : ℕ) (q : LogRecord) → StepBytes (append budget q) → lawful d (seenBy d y) (append budget q) ≡ true
-      → JointTurned ruled (afterDeskStep y (own d (append budget q))) (currentAfter d (seenBy d y) c (append budget q))
+      → JointTurned ruled (afterDeskStep y (byDesk d (append budget q))) (currentAfter d (seenBy d y) c (append budget q))
   unfolding afterDeskStep afterStep
   turned-append budget q b h =
       let p = partOf (afterStep d (seenBy d y) (append budget q)) in
@@ -220,7 +220,7 @@ module _ (ruled : ℕ → Bool) (y : Desks) (j : Joint ruled y) (c : ℕ → Boo
         side = by-desk ruled y j d r (λ (n : ℕ) (x : Part). ruled n ≡ true → SideTurned n (y .image) x) p (y .part) (λ x. record { sent = hold .sent; told = hold .told }) (λ n x z. w .side n z);
       }
 
-  turned-recover : (pairs : Pairs) (lines : ℕ) → FitsPairs pairs → lawful d (seenBy d y) (recover pairs lines) ≡ true → JointTurned ruled (afterDeskStep y (own d (recover pairs lines))) c
+  turned-recover : (pairs : Pairs) (lines : ℕ) → FitsPairs pairs → lawful d (seenBy d y) (recover pairs lines) ≡ true → JointTurned ruled (afterDeskStep y (byDesk d (recover pairs lines))) c
   unfolding afterDeskStep afterStep
   turned-recover pairs lines b h =
       let p = partOf (afterStep d (seenBy d y) (recover pairs lines)) in
@@ -346,7 +346,7 @@ module _ (ruled : ℕ → Bool) (y : Desks) (j : Joint ruled y) (c : ℕ → Boo
               on-own ruled y j c w d r image (new ruled y j c w d r p met) c (aloneCurrent d y c) there plainly
               (λ n q. by-log ruled y j c w d r p met image (aloneCurrent d y c) n (marking n q)) k last-now (own-value ruled y j c w d r k first)
 
-  turned-arrive : JointTurned ruled (afterDeskStep y (own d (arrive i))) c
+  turned-arrive : JointTurned ruled (afterDeskStep y (byDesk d (arrive i))) c
   unfolding afterDeskStep afterStep
   turned-arrive =
       record {
@@ -427,7 +427,7 @@ module _ (ruled : ℕ → Bool) (y : Desks) (j : Joint ruled y) (c : ℕ → Boo
 
 turned-own : (ruled : ℕ → Bool) (y : Desks) (j : Joint ruled y) (c : ℕ → Bool) (w : JointTurned ruled y c) (d : ℕ) (m : Step)
     → StepBytes m → ruled d ≡ true → ownStep m ≡ true → lawful d (seenBy d y) m ≡ true
-    → JointTurned ruled (afterDeskStep y (own d m)) (desksCurrentAfter y c (own d m))
+    → JointTurned ruled (afterDeskStep y (byDesk d m)) (desksCurrentAfter y c (byDesk d m))
 turned-own ruled y j c w d (other s) b r o h = absurd (never-both refl (sym o))
 turned-own ruled y j c w d (order s line from) b r o h = turned-order ruled y j c w d r s line from b h
 turned-own ruled y j c w d (arrive i) b r o h = turned-arrive ruled y j c w d r i h
@@ -439,7 +439,7 @@ turned-own ruled y j c w d renew b r o h = turned-renew ruled y j c w d r h
 turned-next : (ruled : ℕ → Bool) (y : Desks) (m : DeskStep) (c : ℕ → Bool) → Joint ruled y → JointTurned ruled y c → DeskStepBytes m → lawfulDeskStep ruled y m ≡ true
     → JointTurned ruled (afterDeskStep y m) (desksCurrentAfter y c m)
 turned-next ruled y (outside s) c j w b h = turned-outside ruled y j c w s b h
-turned-next ruled y (own d m) c j w b h =
+turned-next ruled y (byDesk d m) c j w b h =
     let two = and-left (ruled d && ownStep m) (lawful d (seenBy d y) m) h in
     turned-own ruled y j c w d m b (and-left (ruled d) (ownStep m) two) (and-right (ruled d) (ownStep m) two) (and-right (ruled d && ownStep m) (lawful d (seenBy d y) m) h)
 

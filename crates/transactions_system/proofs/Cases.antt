@@ -26,7 +26,7 @@ use Rattle.redo_recovery_model.specs.Claims.{rewritten}
 use Rattle.desk_proposals.specs.Propose.{learnt, nextT, pairFor, proposed}
 use Rattle.desk_system.specs.System.{stepTo}
 use Rattle.transactions.specs.System.{withUpdates, shownBy, afterStep}
-use Rattle.transactions.specs.Desks.{DeskStep, outside, own, afterDeskStep, AllDeskSteps}
+use Rattle.transactions.specs.Desks.{DeskStep, outside, byDesk, afterDeskStep, AllDeskSteps}
 use Rattle.transactions.proofs.Claims.{zeros-blank}
 use Rattle.transactions_cases.proofs.Cases.{belowTest, sentTest, sent-tested, pairsTest, stepTest, step-tested}
 use Rattle.transactions_system.specs.Together.{movesIn, stepsIn, sendsAlong}
@@ -35,13 +35,13 @@ use Rattle.transactions_system.specs.Cases.{dealt, Dealt}
 deskStepsTest : List DeskStep → Bool
 deskStepsTest [] = true
 deskStepsTest (outside s ∷ steps) = sentTest s && deskStepsTest steps
-deskStepsTest (own d m ∷ steps) = stepTest m && deskStepsTest steps
+deskStepsTest (byDesk d m ∷ steps) = stepTest m && deskStepsTest steps
 
 desk-steps-tested : (steps : List DeskStep) → deskStepsTest steps ≡ true → AllDeskSteps steps
 unfolding deskStepsTest
 desk-steps-tested [] e = tt
 desk-steps-tested (outside s ∷ steps) e = (sent-tested s (and-left (sentTest s) (deskStepsTest steps) e), desk-steps-tested steps (and-right (sentTest s) (deskStepsTest steps) e))
-desk-steps-tested (own d m ∷ steps) e = (step-tested m (and-left (stepTest m) (deskStepsTest steps) e), desk-steps-tested steps (and-right (stepTest m) (deskStepsTest steps) e))
+desk-steps-tested (byDesk d m ∷ steps) e = (step-tested m (and-left (stepTest m) (deskStepsTest steps) e), desk-steps-tested steps (and-right (stepTest m) (deskStepsTest steps) e))
 
 are-bytes : deskStepsTest (stepsIn dealt) ≡ true
 unfolding deskStepsTest stepTest sentTest pairsTest belowTest commandBytes toLe stepsIn

@@ -66,7 +66,7 @@ use Rattle.transactions.specs.Desks.{
   Desks,
   DeskStep,
   outside,
-  own,
+  byDesk,
   ownStep,
   seenBy,
   desksOpening,
@@ -169,7 +169,7 @@ module _ (ruled : ℕ → Bool) (z : Desks) (j : Joint ruled z) where
       all-at (λ (o : Order). Safe d (traceOf d) (cardFor o) (at (decode V1 (z .image)) (cardFor o)) o) (z .part d .orders) i noOrder
       (ltb-true i (length (z .part d .orders)) h) (j .side d r .sent) .bytes
 
-  fit-own : (d : ℕ) (m : Step) → ruled d ≡ true → StepBytes m → lawful d (seenBy d z) m ≡ true → AllFit (movesOf z (own d m))
+  fit-own : (d : ℕ) (m : Step) → ruled d ≡ true → StepBytes m → lawful d (seenBy d z) m ≡ true → AllFit (movesOf z (byDesk d m))
   fit-own d (other s) r b h = tt
   fit-own d (order s line from) r b h = tt
   fit-own d (arrive i) r b h = (order-bytes d i r h, tt)
@@ -182,11 +182,11 @@ module _ (ruled : ℕ → Bool) (z : Desks) (j : Joint ruled z) where
 
   fit-step : (m : DeskStep) → DeskStepBytes m → lawfulDeskStep ruled z m ≡ true → AllFit (movesOf z m)
   fit-step (outside s) b h = (b, tt)
-  fit-step (own d m) b h =
+  fit-step (byDesk d m) b h =
       let two = and-left (ruled d && ownStep m) (lawful d (seenBy d z) m) h in
       fit-own d m (and-left (ruled d) (ownStep m) two) b (and-right (ruled d && ownStep m) (lawful d (seenBy d z) m) h)
 
-  has-own : (y : System) (d : ℕ) (m : Step) → ownStep m ≡ true → Has (z .image) y → Has (afterDeskStep z (own d m) .image) (systemAfter y (movesOf z (own d m)))
+  has-own : (y : System) (d : ℕ) (m : Step) → ownStep m ≡ true → Has (z .image) y → Has (afterDeskStep z (byDesk d m) .image) (systemAfter y (movesOf z (byDesk d m)))
   unfolding foldl afterDeskStep afterStep
   has-own y d (other s) e h = absurd (never-both refl (sym e))
   has-own y d (order s line from) e h = h
@@ -203,7 +203,7 @@ module _ (ruled : ℕ → Bool) (z : Desks) (j : Joint ruled z) where
   has-step : (y : System) (m : DeskStep) → lawfulDeskStep ruled z m ≡ true → Has (z .image) y → Has (afterDeskStep z m .image) (systemAfter y (movesOf z m))
   unfolding foldl afterDeskStep afterStep
   has-step y (outside s) h w = has-send (z .image) y s w
-  has-step y (own d m) h w = has-own y d m (and-right (ruled d) (ownStep m) (and-left (ruled d && ownStep m) (lawful d (seenBy d z) m) h)) w
+  has-step y (byDesk d m) h w = has-own y d m (and-right (ruled d) (ownStep m) (and-left (ruled d && ownStep m) (lawful d (seenBy d z) m) h)) w
 
 -- ---- a run
 

@@ -22,7 +22,7 @@ use Rattle.desk_system.specs.System.{System, Move, begin, propose, atQueue, los
 use Rattle.desk_system.specs.Claims.{ByRules, finally}
 use Rattle.transactions.specs.System.{Shown, other, order, arrive, append, crash, recover, renew, noOrder, commandIn, opensAbove}
 use Rattle.transactions.specs.Claims.{Blank}
-use Rattle.transactions.specs.Desks.{Desks, DeskStep, outside, own, desksOpening, afterDeskStep, afterDeskSteps, lawfulDeskSteps, AllDeskSteps, DesksMoment, DesksRefine}
+use Rattle.transactions.specs.Desks.{Desks, DeskStep, outside, byDesk, desksOpening, afterDeskStep, afterDeskSteps, lawfulDeskSteps, AllDeskSteps, DesksMoment, DesksRefine}
 
 -- ---- one run
 
@@ -40,13 +40,13 @@ sendEach = map send
 
 abbrev pub movesOf : Desks → DeskStep → List Move
 movesOf z (outside s) = send s ∷ []
-movesOf z (own d (other s)) = []
-movesOf z (own d (order s line from)) = []
-movesOf z (own d (arrive i)) = send (getD (z .part d .orders) i noOrder .sent) ∷ []
-movesOf z (own d (append budget r)) = []
-movesOf z (own d crash) = []
-movesOf z (own d renew) = []
-movesOf z (own d (recover pairs lines)) = sendEach (reverse (recovering pairs (records (z .part d .log)) (z .image) lines .sent))
+movesOf z (byDesk d (other s)) = []
+movesOf z (byDesk d (order s line from)) = []
+movesOf z (byDesk d (arrive i)) = send (getD (z .part d .orders) i noOrder .sent) ∷ []
+movesOf z (byDesk d (append budget r)) = []
+movesOf z (byDesk d crash) = []
+movesOf z (byDesk d renew) = []
+movesOf z (byDesk d (recover pairs lines)) = sendEach (reverse (recovering pairs (records (z .part d .log)) (z .image) lines .sent))
 
 -- The run as moves of section 10, and as steps of section 16.
 unfoldable pub movesIn : Desks → List Deal → List Move
