@@ -18,7 +18,8 @@ struct Turn {
 
 // One leaves, and then a desk asks, in 32 places that are lent.
 fn leave_then_ask(places: [Waiting; 32], kept: Kept, desk: u32, new: Waiting) -> Turn
-    ensures { λ r. ⌜ (r .left .answer ≡ answer mostPlaces (lentState places kept) (leaves desk)) × (r .asked .answer ≡ answer mostPlaces (after mostPlaces (lentState places kept) (leaves desk)) (asks new)) ⌝ }
+    ensures { λ r. ⌜ (r .left .answer ≡ answer mostPlaces (lentState places kept) (leaves desk))
+        × (r .asked .answer ≡ answer mostPlaces (after mostPlaces (lentState places kept) (leaves desk)) (asks new)) ⌝ }
 {
     let mut lent = places;
     let left = lock_queue_lent::leave(&mut lent, kept, desk);
