@@ -94,6 +94,6 @@ pub record DenialCases : Type 0 where
   pub shared-out : number 3 (queueAfter 3 heldByOne busy) (asks (record { mode = shared; pair = afresh shared .pair })) ≡ PAIR-DENIED
   pub exclusive-out : number 3 (queueAfter 3 heldByOne busy) (asks (record { mode = exclusive; pair = afresh exclusive .pair })) ≡ PAIR-DENIED
 
--- The worked cases of proposals and of a denial (rules 10.6, 10.10 and 10.16), as one table.
+-- The worked cases of proposals and of a denial, as one table.
 abbrev pub ProposalsWorked : Type 0
 ProposalsWorked = ProposalCases × DenialCases

@@ -110,6 +110,6 @@ pub record HistoryEdges : Type 0 where
   -- rules 14.2 and 14.7: beside 32,766 kept payload bytes a write of two is accepted, and one of three is not
   pub weights : map (λ (s : Sent). deduced 1 16 (weighing 32766 ∷ []) (s .command) [] .answer .number) (writesLong 2 ∷ writesLong 3 ∷ []) ≡ 0 ∷ 22 ∷ []
 
--- The worked cases of the history engine (rules 14.2 to 14.13), as one table.
+-- The worked cases of the history engine, as one table.
 abbrev pub HistoryWorked : Type 0
 HistoryWorked = KeptLimits × (TwoHundred × (WorkedBytes × (HistoryEdges × ApartCases)))

@@ -126,6 +126,6 @@ pub record EdgeCases : Type 0 where
   pub long : shaped (logRecord 2 (0 ∷ 0 ∷ 1 ∷ replicate 65532 0)) ≡ true
   pub over : shaped (logRecord 2 (0 ∷ 0 ∷ 1 ∷ replicate 65533 0)) ≡ false
 
--- The worked cases of a redo log (rules 11.1 to 11.13), as one table.
+-- The worked cases of a redo log, as one table.
 abbrev pub LogWorked : Type 0
 LogWorked = LogCases × (EdgeCases × LastLine)

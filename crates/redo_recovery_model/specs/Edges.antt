@@ -108,6 +108,6 @@ pub record RecoveryEdges : Type 0 where
       runLeft pairsOf0 (beginOf 1 ∷ updateOf 0 1 text205 ∷ updateOf 0 1 text401 ∷ commitOf 1 ∷ []) nearlyLast
       ≡ left 7 2 (pair stamp2 stamp2 ∷ noPair ∷ []) (65535 ∷ 0 ∷ []) (write 3 0 (pair stamp2 stamp2) 0 0 0 text401 ∷ write 3 0 (pair stamp2 stamp2) 0 0 0 text205 ∷ [])
 
--- The worked cases of recovery (rules 11.15 to 11.23), as one table.
+-- The worked cases of recovery, as one table.
 abbrev pub RecoveryWorked : Type 0
 RecoveryWorked = RecoveryCases × RecoveryEdges

@@ -152,6 +152,6 @@ pub record SampleWorked : Type 0 where
   pub cut : (k : ℕ) → k < 20 → Compared (take k sample) sample (verdict 18 0)
   pub cutSecond : (k : ℕ) → k < 20 → Compared sample (take k sample) (verdict 19 0)
 
--- The worked cases of comparisons (rules 12.1 to 12.11), as one table: pairs of texts, the sample, the places of five rows.
+-- The worked cases of comparisons, as one table: pairs of texts, the sample, the places of five rows.
 abbrev pub TextsWorked : Type 0
 TextsWorked = TwoTextsWorked × (SampleWorked × PlacesWorked)
