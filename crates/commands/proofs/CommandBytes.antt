@@ -15,7 +15,7 @@ use Rattle.lists.proofs.Bytes.{Bytes-cons, Bytes-nil, Bytes-append, Bytes-repli
 use Rattle.lists.proofs.Le.{le-toLe, toLe-le, le-part-bound, Bytes-toLe}
 use Rattle.lists.proofs.Parts.{length-part, drop-left}
 use Rattle.commands.specs.Command.{readsTranslation, writesTranslation, wellFormed, FitsCommand}
-use Rattle.commands.specs.Bytes.{markAt, pairAt, languageAt, markBytes, pairBytes, middleBytes, lastBytes, blanks, fieldsOf, payload, formed, parsed, commandBytes}
+use Rattle.commands.specs.Bytes.{markAt, pairAt, languageAt, markBytes, pairBytes, middleBytes, lastBytes, blanks, fieldsOf, payload, extent, formed, parsed, commandBytes}
 use Rattle.stamps.specs.Stamp.{FitsPair, FitsMark}
 use Rattle.formats.specs.Format.{Format, V1, V2, translations, fixed, updateAt}
 use Rattle.commands.specs.declared.Command.{Command}
@@ -36,7 +36,7 @@ parsed-malformed f bytes e = rw e
 -- Bytes fewer than a command's fixed part are none.
 pub formed-short : (f : Format) (bytes : List ℕ) → length bytes < fixed f → formed f bytes ≡ false
 unfolding formed
-formed-short f bytes h = rw (ne-eqb (length bytes) (fixed f + field 50 2 bytes) (λ e. omega arith))
+formed-short f bytes h = rw (ne-eqb (length bytes) (extent f bytes) (λ e. omega arith))
 
 -- The test of the bytes, for numbers and tests that were found in them.
 pub formed-by : (f : Format) (bytes : List ℕ) {count size : ℕ} {z w : Bool} → count ≡ field 50 2 bytes → size ≡ fixed f → z ≡ zeros (blanks f bytes)
@@ -66,13 +66,13 @@ pub formedness : (f : Format) (bytes : List ℕ) → formed f bytes ≡ true →
 unfolding formed fieldsOf
 formedness f bytes h =
     record {
-      whole = eqb-true (length bytes) (fixed f + field 50 2 bytes) (and-left (eqb (length bytes) (fixed f + field 50 2 bytes)) (zeros (blanks f bytes)) front);
-      blank = and-right (eqb (length bytes) (fixed f + field 50 2 bytes)) (zeros (blanks f bytes)) front;
-      rules = and-right (eqb (length bytes) (fixed f + field 50 2 bytes) && zeros (blanks f bytes)) (wellFormed (fieldsOf f bytes)) h;
+      whole = eqb-true (length bytes) (extent f bytes) (and-left (eqb (length bytes) (extent f bytes)) (zeros (blanks f bytes)) front);
+      blank = and-right (eqb (length bytes) (extent f bytes)) (zeros (blanks f bytes)) front;
+      rules = and-right (eqb (length bytes) (extent f bytes) && zeros (blanks f bytes)) (wellFormed (fieldsOf f bytes)) h;
     }
   where
-    front : (eqb (length bytes) (fixed f + field 50 2 bytes) && zeros (blanks f bytes)) ≡ true
-    front = and-left (eqb (length bytes) (fixed f + field 50 2 bytes) && zeros (blanks f bytes)) (wellFormed (fieldsOf f bytes)) h
+    front : (eqb (length bytes) (extent f bytes) && zeros (blanks f bytes)) ≡ true
+    front = and-left (eqb (length bytes) (extent f bytes) && zeros (blanks f bytes)) (wellFormed (fieldsOf f bytes)) h
 
 -- Their fixed part is whole.
 pub fixed-in : (f : Format) (bytes : List ℕ) → formed f bytes ≡ true → fixed f ≤ length bytes

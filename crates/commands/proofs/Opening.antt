@@ -8,7 +8,6 @@ use Rattle.stamps.specs.Stamp.{sessionChecks}
 use Rattle.stamps.specs.declared.Pair.{Pair}
 use Rattle.commands.specs.Command.{opensNone, update, verifierChecks, pairChecks}
 use Rattle.commands.specs.declared.Command.{Command}
-use Rattle.commands.specs.declared.Opened.{Opened}
 use Rattle.commands.specs.declared.Opened.the-variants.{Malformed, By}
 use Rattle.commands.proofs.Rules.{of-session, of-opened}
 

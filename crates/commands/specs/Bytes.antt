@@ -53,9 +53,13 @@ payload f bytes = drop (fixed f) bytes
 abbrev pub blanks : Format → List ℕ → List ℕ
 blanks f bytes = part (blankAt f) (36 - blankAt f) bytes
 
+-- How long the command is that begins these bytes, malformed or not (rule 8.1).
+abbrev pub extent : Format → List ℕ → ℕ
+extent f bytes = fixed f + field 50 2 bytes
+
 -- Lent bytes are a command (rule 3.3): as long as they say, zeros where they are to be, and numbers by the rules.
 unfoldable pub formed : Format → List ℕ → Bool
-formed f bytes = eqb (length bytes) (fixed f + field 50 2 bytes) && zeros (blanks f bytes) && wellFormed (fieldsOf f bytes)
+formed f bytes = eqb (length bytes) (extent f bytes) && zeros (blanks f bytes) && wellFormed (fieldsOf f bytes)
 
 unfoldable pub parsed : Format → List ℕ → Parsed
 parsed f bytes = cond (formed f bytes) (Formed (fieldsOf f bytes)) Malformed

@@ -7,9 +7,9 @@ use Rattle.lock_queue.specs.Requests.{joined, removed, without, upgrading, queu
 use Rattle.desk_proposals.specs.Propose.{learnt, nextT, pairFor, proposed}
 use Rattle.lock_queue_claims.specs.Traces.{queueAfter}
 use Rattle.desk_proposal_claims.specs.Claims.{quiet}
-use Rattle.desk_proposal_claims.specs.Cases.{ProposalCases, DenialCases}
+use Rattle.desk_proposal_claims.specs.Cases.{ProposalCases, DenialCases, ProposalsWorked}
 
-pub proposal-cases : ProposalCases
+proposal-cases : ProposalCases
 unfolding proposed learnt pairFor nextT
 proposal-cases =
     record {
@@ -34,7 +34,7 @@ proposal-cases =
       both-sides-again = refl;
     }
 
-pub denial-cases : DenialCases
+denial-cases : DenialCases
 unfolding queueAfter quiet proposed learnt pairFor nextT answered number after answer upgrading queueJoined firstPlace good distinct stands joined removed without all allFrom
 denial-cases =
     record {
@@ -48,3 +48,6 @@ denial-cases =
       shared-out = refl;
       exclusive-out = refl;
     }
+
+pub proposals-worked : ProposalsWorked
+proposals-worked = (proposal-cases, denial-cases)

@@ -8,7 +8,7 @@ use lib.Dec.{T}
 use lib.ListN.{length}
 use Rattle.lists.specs.Table.{all, allFrom, listed}
 use Rattle.stamps.specs.Stamp.{stamp, deskOf, shared, exclusive, noPair}
-use Rattle.lock_queue.specs.Queue.{stands, firstPlace}
+use Rattle.lock_queue.specs.Queue.{waiting, stands, firstPlace}
 use Rattle.lock_queue.specs.Good.{distinct, good}
 use Rattle.lock_queue.specs.Requests.{joined, removed, without, upgrading, queueJoined, answered, number, after, answer}
 use Rattle.lock_queue.specs.declared.Waiting.{Waiting}
@@ -21,7 +21,7 @@ use Rattle.desk_proposal_claims.proofs.Claims.{smallest, spent, proposa
 
 -- Desk 2's shared ask, which is denied; and a desk that knows exactly the pair of that denial, and no more.
 abbrev low : Waiting
-low = record { mode = shared; pair = record { s = stamp 0 2 0; x = 0 } }
+low = waiting shared (stamp 0 2 0) 0
 
 abbrev just : Known
 just = knowing 2 0 0 (stamp 5 1 0)

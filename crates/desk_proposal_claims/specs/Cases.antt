@@ -6,7 +6,7 @@ use mathlib.Core.List.{List, [], _∷_}
 use mathlib.Core.Bool.{true, false}
 use lib.ListN.{replicate}
 use Rattle.stamps.specs.Stamp.{stamp, shared, exclusive}
-use Rattle.lock_queue.specs.Queue.{State, noWaiting, emptyQueue}
+use Rattle.lock_queue.specs.Queue.{State, noWaiting, waiting, emptyQueue}
 use Rattle.numbers.specs.Numbers.{PAIR-DENIED}
 use Rattle.lock_queue.specs.Requests.{Request, asks, leaves, number, after, answer}
 use Rattle.desk_proposals.specs.declared.Known.{Known}
@@ -65,7 +65,7 @@ pub record ProposalCases : Type 0 where
 
 -- An empty queue of three places, in which desk 1 with start 0 then stands exclusive under (0, 5.1.0).
 abbrev pub askFor : ℕ → ℕ → ℕ → Request
-askFor mode s x = asks (record { mode = mode; pair = record { s = s; x = x } })
+askFor mode s x = asks (waiting mode s x)
 
 abbrev pub heldByOne : State
 heldByOne =
@@ -93,3 +93,7 @@ pub record DenialCases : Type 0 where
   pub passed-by : quiet 3 heldByOne busy ≡ false
   pub shared-out : number 3 (queueAfter 3 heldByOne busy) (asks (record { mode = shared; pair = afresh shared .pair })) ≡ PAIR-DENIED
   pub exclusive-out : number 3 (queueAfter 3 heldByOne busy) (asks (record { mode = exclusive; pair = afresh exclusive .pair })) ≡ PAIR-DENIED
+
+-- The worked cases of proposals and of a denial, as one table.
+abbrev pub ProposalsWorked : Type 0
+ProposalsWorked = ProposalCases × DenialCases

@@ -48,7 +48,8 @@ none-short = claims .prefix whole short 1 1 Original .refused
 
 -- ---- what the other buffer holds does not matter (rule 6.3)
 
-same-number : shownNumber (heldText (50 ∷ 48 ∷ 53 ∷ []) 3) (heldText (52 ∷ 48 ∷ 49 ∷ 0 ∷ []) 3) 2 1 Original ≡ shownNumber (heldText (50 ∷ 48 ∷ 53 ∷ []) 3) (heldText (57 ∷ 57 ∷ 57 ∷ 57 ∷ []) 3) 2 1 Original
+same-number : shownNumber (heldText (50 ∷ 48 ∷ 53 ∷ []) 3) (heldText (52 ∷ 48 ∷ 49 ∷ 0 ∷ []) 3) 2 1 Original
+    ≡ shownNumber (heldText (50 ∷ 48 ∷ 53 ∷ []) 3) (heldText (57 ∷ 57 ∷ 57 ∷ 57 ∷ []) 3) 2 1 Original
 same-number =
     claims .independent Original (heldText (50 ∷ 48 ∷ 53 ∷ []) 3) (heldText (52 ∷ 48 ∷ 49 ∷ 0 ∷ []) 3) (heldText (50 ∷ 48 ∷ 53 ∷ []) 3) (heldText (57 ∷ 57 ∷ 57 ∷ 57 ∷ []) 3) 2 1
     (alike-cases .originals) .number

@@ -26,16 +26,17 @@ pub record Prefix (o t : Text) (edition from : ℕ) (asked : Asked) : Type 0 whe
   pub shown : shownNumber o t edition from asked ≡ 0 → length (shownPart o t edition from asked) ≡ of asked o t .length
   pub refused : (shownNumber o t edition from asked ≡ 0 → ⊥) → shownPart o t edition from asked ≡ []
 
-abbrev pub other : Asked → Asked
-other Original = Translation
-other Translation = Original
+-- The language that is not asked for.
+abbrev pub otherLanguage : Asked → Asked
+otherLanguage Original = Translation
+otherLanguage Translation = Original
 
 -- Two desks' texts are alike where the text asked for is the same, and of the other the buffer's size and the length: nothing of what
 -- the other buffer holds.
 pub record Alike (asked : Asked) (o t o' t' : Text) : Type 0 where
   pub same : of asked o t ≡ of asked o' t'
-  pub size : length (of (other asked) o t .buffer) ≡ length (of (other asked) o' t' .buffer)
-  pub long : of (other asked) o t .length ≡ of (other asked) o' t' .length
+  pub size : length (of (otherLanguage asked) o t .buffer) ≡ length (of (otherLanguage asked) o' t' .buffer)
+  pub long : of (otherLanguage asked) o t .length ≡ of (otherLanguage asked) o' t' .length
 
 -- Rule 6.3: what is shown of one language does not depend on what the other buffer holds.
 pub record Independent (asked : Asked) (o t o' t' : Text) (edition from : ℕ) : Type 0 where

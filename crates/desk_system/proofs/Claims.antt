@@ -12,6 +12,7 @@ use Rattle.formats.specs.Format.{Format, V1, V2}
 use Rattle.lists.specs.Search.{none}
 use Rattle.lists.specs.Table.{settled}
 use Rattle.lists.proofs.Tests.{cases, and-in, and-left, and-right, or-left, or-right, not-in, never-both}
+use Rattle.lists.specs.Runs.{foldl, everyAlong}
 use Rattle.stamps.specs.Stamp.{exclusive, own}
 use Rattle.stamps.specs.declared.Pair.{Pair}
 use Rattle.commands.specs.Command.{update}
@@ -22,7 +23,7 @@ use Rattle.image.specs.Image.{Card, noCard, encode, fresh, freshCards}
 use Rattle.image.specs.Convert.{converted, convertNumber}
 use Rattle.image_claims.proofs.Claims.{goodEncodes}
 use Rattle.store_model.specs.Words.{Sent, Received, Event, commandOf, imageAfter, traceFrom, traceOf, formedFor, carries, under, commandsIn}
-use Rattle.store_model.specs.Claims.{AllBytes, Claim}
+use Rattle.store_model.specs.Claims.{Claim}
 use Rattle.store_model.specs.Conversion.{traceAcross}
 use Rattle.store_model.specs.Meaning.{Among, Ordered}
 use Rattle.store_model.proofs.Conversion.{demand3-across}
@@ -40,6 +41,7 @@ use Rattle.lock_queue.specs.declared.Waiting.{Waiting}
 use Rattle.desk_proposals.specs.Propose.{proposed}
 use Rattle.desk_proposal_claims.proofs.Claims.{well-proposed}
 use Rattle.desk_system.specs.System.{
+  TracedStore,
   System,
   Made,
   Move,
@@ -116,11 +118,11 @@ kept-next v n c y (recoverWith pairs log unsent) k f h = kept-recover v n c y k 
 kept-next v n c y (convert lent) k f h = kept-convert v n c y k lent
 kept-next v n c y (learn who card pair) k f h = kept-learn v n c y k who card pair h
 kept-next v n c y (appendTo desk budget r) k f h =
-    kept-log v n c y k desk (appended budget (y .redo desk) r) (settled (appendNumber budget (y .redo desk) r) (y .whole desk ++ r ∷ []) (y .whole desk))
-kept-next v n c y (renewLog desk) k f h = kept-log v n c y k desk (renewed (y .redo desk)) []
+    kept-log v n c y k desk (appended budget (y .logs desk .bytes) r) (settled (appendNumber budget (y .logs desk .bytes) r) (y .logs desk .whole ++ r ∷ []) (y .logs desk .whole))
+kept-next v n c y (renewLog desk) k f h = kept-log v n c y k desk (renewed (y .logs desk .bytes)) []
 
 kept-run : (v : Format) (n c : ℕ) (y : System) (steps : List Move) → Kept v n c y → AllFit steps → byRules y steps ≡ true → Kept v n c (systemAfter y steps)
-unfolding systemAfter byRules
+unfolding foldl everyAlong
 kept-run v n c y [] k f h = k
 kept-run v n c y (s ∷ steps) k f h =
     kept-run v n c (stepTo y s) steps
@@ -133,7 +135,7 @@ kept-finally v n c places logs steps r = kept-run v n c (opening v n c places lo
 
 -- ---- proposals stay, whatever the steps are
 
-made-next : (y : System) (s : Move) (m : Made) → Among m (y .made) → Among m (stepTo y s .made)
+made-next : (y : System) (s : Move) (m : Made) → Among m (y .desks .made) → Among m (stepTo y s .desks .made)
 unfolding stepTo
 made-next y (begin who) m a = a
 made-next y (propose who card mode) m a = go (proposed (knows y who card) mode .number)
@@ -141,35 +143,35 @@ made-next y (propose who card mode) m a = go (proposed (knows y who card) mode .
     new : Made
     new = record { card = card; mode = mode; pair = proposed (knows y who card) mode .pair }
 
-    go : (number : ℕ) → Among m (settled number (withMade new (nowKnows who card (proposed (knows y who card) mode .known .pair) y)) y .made)
+    go : (number : ℕ) → Among m (settled number (withMade new (nowKnows who card (proposed (knows y who card) mode .known .pair) y)) y .desks .made)
     go zero = among-later new a
     go (suc j) = a
 made-next y (atQueue card manager lent r) m a = a
 made-next y (lose card manager places) m a = a
 made-next y (send s) m a = a
-made-next y (recoverWith pairs log unsent) m a = subst (Among m) (sym (sends-made y (recoverySends (y .version) pairs log unsent (y .image)))) a
-made-next y (convert lent) m a = go (y .version)
+made-next y (recoverWith pairs log unsent) m a = subst (Among m) (sym (sends-made y (recoverySends (y .store .version) pairs log unsent (y .store .image)))) a
+made-next y (convert lent) m a = go (y .store .version)
   where
-    go : (g : Format) → Among m (convertStep g lent y .made)
+    go : (g : Format) → Among m (convertStep g lent y .desks .made)
     go V2 = a
-    go V1 = by-number (convertNumber (y .image) lent)
+    go V1 = by-number (convertNumber (y .store .image) lent)
       where
-        by-number : (number : ℕ) → Among m (settled number (withStore V2 (converted (y .image)) (y .log) y) y .made)
+        by-number : (number : ℕ) → Among m (settled number (withStore V2 (converted (y .store .image)) (y .store .trace) y) y .desks .made)
         by-number zero = a
         by-number (suc j) = a
 made-next y (learn who card pair) m a = a
 made-next y (appendTo desk budget r) m a = a
 made-next y (renewLog desk) m a = a
 
-pub made-run : (y : System) (steps : List Move) (m : Made) → Among m (y .made) → Among m (systemAfter y steps .made)
-unfolding systemAfter
+pub made-run : (y : System) (steps : List Move) (m : Made) → Among m (y .desks .made) → Among m (systemAfter y steps .desks .made)
+unfolding foldl
 made-run y [] m a = a
 made-run y (s ∷ steps) m a = made-run (stepTo y s) steps m (made-next y s m a)
 
 -- ---- the claims
 
 pub premise-kept : PremiseKept
-premise-kept v n c places logs steps r k = premise-means k (commandsIn (y .log)) .1 ordered
+premise-kept v n c places logs steps r k = premise-means k (commandsIn (y .store .trace)) .1 ordered
   where
     y : System
     y = finally v n c places logs steps
@@ -177,7 +179,7 @@ premise-kept v n c places logs steps r k = premise-means k (commandsIn (y .log))
     kept : Kept v n c y
     kept = kept-finally v n c places logs steps r
 
-    order : (a b : Event) → Among a (y .log) → Among b (y .log) → formedFor k (a .read) ≡ true → formedFor k (b .read) ≡ true
+    order : (a b : Event) → Among a (y .store .trace) → Among b (y .store .trace) → formedFor k (a .read) ≡ true → formedFor k (b .read) ≡ true
         → carries (commandOf a) ≡ true
         → under (update (commandOf a) .x) (commandOf b) ≡ true
         → update (commandOf b) .s < update (commandOf a) .s
@@ -200,10 +202,10 @@ premise-kept v n c places logs steps r k = premise-means k (commandsIn (y .log))
         subst (λ (p : Pair). update (commandOf b) .s < p .s) (pa .pair-same)
         (subst (λ (p : Pair). p .s < pa .m .pair .s) (pb .pair-same) below)
 
-    ordered : Ordered k (commandsIn (y .log))
+    ordered : Ordered k (commandsIn (y .store .trace))
     ordered a b ma mb =
-        let from-a = among-mapped (λ (e : Event). e .read) (y .log) ma in
-        let from-b = among-mapped (λ (e : Event). e .read) (y .log) mb in
+        let from-a = among-mapped (λ (e : Event). e .read) (y .store .trace) ma in
+        let from-b = among-mapped (λ (e : Event). e .read) (y .store .trace) mb in
         subst
         (λ (d : Received). formedFor k d ≡ true → formedFor k b ≡ true → carries (d .numbers) ≡ true → under (update (d .numbers) .x)
         (b .numbers) ≡ true → update (b .numbers) .s < update (d .numbers) .s)
@@ -214,7 +216,7 @@ premise-kept v n c places logs steps r k = premise-means k (commandsIn (y .log))
         (sym (from-b .is))
         (order (from-a .from) (from-b .from) (from-a .among) (from-b .among)))
 
-store-of : (v : Format) (n c : ℕ) (y : System) → Trace v n c (y .version) (y .image) (y .log) → StoreOf v n c y
+store-of : (v : Format) (n c : ℕ) (y : TracedStore) → Trace v n c (y .version) (y .image) (y .trace) → StoreOf v n c y
 unfolding traceOf traceAcross
 store-of v n c y (plain sent b e l i) =
     let turned = sym (reverse-reverse sent) in
@@ -230,11 +232,11 @@ store-of v n c y (across sent more b m o e ok l i) =
     (i ∙ ap (λ (a : List Sent). imageAfter V2 (base a) more) first ∙ ap (imageAfter V2 (base (reverse (reverse sent)))) second)
 
 pub held-finally : (v : Format) (n c : ℕ) (places : ℕ → ℕ → List Waiting) (logs : ℕ → List ℕ) (steps : List Move) → T (shapeOk v n c) → AllFit steps
-    → Held v n c (finally v n c places logs steps .version) (finally v n c places logs steps .image) (finally v n c places logs steps .log)
+    → Held v n c (finally v n c places logs steps .store .version) (finally v n c places logs steps .store .image) (finally v n c places logs steps .store .trace)
 held-finally v n c places logs steps shape f = carried-run v n c (Held v n c) (held-carried v n c) (opening v n c places logs) steps f (held-fresh v n c shape)
 
 pub store-follows : StoreFollows
-store-follows v n c places logs steps shape f = store-of v n c (finally v n c places logs steps) (held-finally v n c places logs steps shape f .trace)
+store-follows v n c places logs steps shape f = store-of v n c (finally v n c places logs steps .store) (held-finally v n c places logs steps shape f .trace)
 
 -- Demand 3's sentences hold of the log.
 pub claimed : (v : Format) (n c : ℕ) → T (shapeOk v n c) → (version : Format) (image : List ℕ) (log : List Event) → Trace v n c version image log → (sent : List Sent) × Claim n sent log
@@ -257,7 +259,7 @@ claimed v n c shape version image log (across sent more b m o e ok l i) =
 pub desks-isolated : DesksIsolated
 desks-isolated v n c places logs steps r k later b between a before split by-a by-b one =
     let y = finally v n c places logs steps in
-    claimed v n c (r .shape) (y .version) (y .image) (y .log) (held-finally v n c places logs steps (r .shape) (r .fits) .trace) .1
+    claimed v n c (r .shape) (y .store .version) (y .store .image) (y .store .trace) (held-finally v n c places logs steps (r .shape) (r .fits) .trace) .1
     .isolation k later b between a before (premise-kept v n c places logs steps r k) split by-a by-b one
 
 once-at : (later : List Made) (p : Made) (rest : List Made) → Once (later ++ p ∷ rest) → Once (p ∷ rest)
@@ -318,7 +320,7 @@ writes-made : (made : List Made) (pairs : Pairs) → Given made pairs → (sent 
 writes-made made pairs given [] u = refl
 writes-made made pairs given (s ∷ sent) u = and-in (write-made made pairs given s (u .0 .0) (u .0 .2)) (writes-made made pairs given sent (u .1))
 
-sends-image : (y : System) (sent : List Sent) → sendSteps y sent .image ≡ imageAfter (y .version) (y .image) sent
+sends-image : (y : System) (sent : List Sent) → sendSteps y sent .store .image ≡ imageAfter (y .store .version) (y .store .image) sent
 unfolding sendSteps imageAfter
 sends-image y [] = refl
 sends-image y (s ∷ earlier) = rw (sends-version y earlier, sends-image y earlier)
@@ -328,26 +330,26 @@ unfolding stepTo
 recovery-allowed v n c places logs steps r pairs log fp lb version given =
     record {
       allows = λ unsent.
-          subst (λ (f : Format). allMade f (y .made) (recoverySends f pairs log unsent (y .image)) ≡ true) (sym version)
-          (writes-made (y .made) pairs given (drop unsent (recovered pairs log (y .image) .sent)) (dropped-under unsent (recovered pairs log (y .image) .sent) under-all));
+          subst (λ (f : Format). allMade f (y .desks .made) (recoverySends f pairs log unsent (y .store .image)) ≡ true) (sym version)
+          (writes-made (y .desks .made) pairs given (drop unsent (recovered pairs log (y .store .image) .sent)) (dropped-under unsent (recovered pairs log (y .store .image) .sent) under-all));
       leaves =
-          sends-image y (recoverySends (y .version) pairs log 0 (y .image))
-          ∙ subst (λ (f : Format). imageAfter f (y .image) (recoverySends f pairs log 0 (y .image)) ≡ recovered pairs log (y .image) .image) (sym version)
-          (sym (recovers pairs log (y .image) .sends));
+          sends-image y (recoverySends (y .store .version) pairs log 0 (y .store .image))
+          ∙ subst (λ (f : Format). imageAfter f (y .store .image) (recoverySends f pairs log 0 (y .store .image)) ≡ recovered pairs log (y .store .image) .image) (sym version)
+          (sym (recovers pairs log (y .store .image) .sends));
     }
   where
     y : System
     y = finally v n c places logs steps
 
-    held : Held v n c V1 (y .image) (y .log)
-    held = subst (λ (f : Format). Held v n c f (y .image) (y .log)) version (held-finally v n c places logs steps (r .shape) (r .fits))
+    held : Held v n c V1 (y .store .image) (y .store .trace)
+    held = subst (λ (f : Format). Held v n c f (y .store .image) (y .store .trace)) version (held-finally v n c places logs steps (r .shape) (r .fits))
 
     dropped-under : (unsent : ℕ) (sent : List Sent) → AllUnder pairs sent → AllUnder pairs (drop unsent sent)
     dropped-under zero sent u = u
     dropped-under (suc i) [] u = u
     dropped-under (suc i) (s ∷ sent) u = dropped-under i sent (u .1)
 
-    under-all : AllUnder pairs (recovered pairs log (y .image) .sent)
+    under-all : AllUnder pairs (recovered pairs log (y .store .image) .sent)
     under-all =
         subst (λ (i : List ℕ). AllUnder pairs (recovered pairs log i .sent)) (sym (held .image-is))
         (under-pairs.under pairs log (encode V1 (held .cards)) fp lb (goodEncodes V1 (held .cards) (held .good) .bytes))

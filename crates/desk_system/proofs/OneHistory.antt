@@ -1,16 +1,13 @@
 -- The one theorem, from its parts: the store and demand 3, isolation, the logs, recovery. Assumes nothing.
 use Prim.Native.Nat.{ℕ, zero, suc}
 use mathlib.Core.Path.{_≡_, refl, sym, ap, subst, _∙_}
-use mathlib.Core.Logic.{_⊎_, inl, inr}
 use mathlib.Core.List.{List, [], _∷_, _++_}
-use mathlib.Core.Bool.{true, false}
-use lib.Dec.{eqb}
+use mathlib.Core.Bool.{true}
 use Rattle.formats.specs.Format.{Format, V1, V2}
 use Rattle.lists.specs.Parts.{Bytes}
 use Rattle.lists.specs.Table.{settled}
-use Rattle.lists.proofs.Tests.{cases}
+use Rattle.lists.specs.Runs.{foldl}
 use Rattle.commands.specs.Command.{Language}
-use Rattle.image.specs.Image.{encode}
 use Rattle.image.specs.Convert.{converted, convertNumber}
 use Rattle.image_claims.proofs.Claims.{goodEncodes}
 use Rattle.store_model.specs.Words.{Sent}
@@ -26,6 +23,7 @@ use Rattle.redo_recovery_model.proofs.Texts.{recovered-texts}
 use Rattle.lock_queue.specs.declared.Waiting.{Waiting}
 use Rattle.desk_proposals.specs.Propose.{proposed}
 use Rattle.desk_system.specs.System.{
+  DeskLog,
   System,
   Move,
   begin,
@@ -40,11 +38,11 @@ use Rattle.desk_system.specs.System.{
   renewLog,
   opening,
   recoverySends,
-  with,
   knows,
   nowKnows,
   withStore,
   withMade,
+  withLog,
   sendSteps,
   convertStep,
   stepTo,
@@ -53,7 +51,8 @@ use Rattle.desk_system.specs.System.{
   AllFit,
 }
 use Rattle.desk_system.specs.Claims.{finally}
-use Rattle.desk_system.specs.OneHistory.{SystemHolds, GoodLog, OneHistory, LogsFollow}
+use Rattle.desk_system.specs.OneHistory.{GoodLog, OneHistory, LogsFollow}
+use Rattle.desk_system.proofs.Backing.{with-all}
 use Rattle.desk_system.proofs.Store.{Held}
 use Rattle.desk_system.proofs.Claims.{store-follows, held-finally, claimed, desks-isolated}
 
@@ -66,16 +65,11 @@ record ReadsAs (log : List ℕ) (rs : List LogRecord) : Type 0 where
   back : records log ≡ rs
 
 abbrev Logs : System → Type 0
-Logs y = (d : ℕ) → ReadsAs (y .redo d) (y .whole d)
+Logs y = (d : ℕ) → ReadsAs (y .logs d .bytes) (y .logs d .whole)
 
 -- One desk's log is another.
-logs-with : (log : ℕ → List ℕ) (rs : ℕ → List LogRecord) → ((d : ℕ) → ReadsAs (log d) (rs d)) → (desk : ℕ) (l : List ℕ) (r : List LogRecord) → ReadsAs l r
-    → (d : ℕ) → ReadsAs (with desk l log d) (with desk r rs d)
-logs-with log rs h desk l r w d = go (cases (eqb d desk))
-  where
-    go : (eqb d desk ≡ true) ⊎ (eqb d desk ≡ false) → ReadsAs (with desk l log d) (with desk r rs d)
-    go (inl e) = rw e w
-    go (inr e) = rw e (h d)
+logs-with : (y : System) → Logs y → (desk : ℕ) (bytes : List ℕ) (whole : List LogRecord) → ReadsAs bytes whole → Logs (withLog desk bytes whole y)
+logs-with y h desk bytes whole w = with-all (λ (d : ℕ) (l : DeskLog). ReadsAs (l .bytes) (l .whole)) desk (record { bytes = bytes; whole = whole }) (y .logs) w h
 
 appended-reads : (budget : ℕ) (log : List ℕ) (rs : List LogRecord) (r : LogRecord) → Bytes (r .body) → ReadsAs log rs
     → ReadsAs (appended budget log r) (settled (appendNumber budget log r) (rs ++ r ∷ []) rs)
@@ -109,25 +103,24 @@ logs-next y (propose who card mode) f h = go (proposed (knows y who card) mode .
 logs-next y (atQueue card manager lent r) f h = h
 logs-next y (lose card manager places) f h = h
 logs-next y (send s) f h = h
-logs-next y (recoverWith pairs log unsent) f h = logs-sends y (recoverySends (y .version) pairs log unsent (y .image)) h
-logs-next y (convert lent) f h = go (y .version)
+logs-next y (recoverWith pairs log unsent) f h = logs-sends y (recoverySends (y .store .version) pairs log unsent (y .store .image)) h
+logs-next y (convert lent) f h = go (y .store .version)
   where
     go : (g : Format) → Logs (convertStep g lent y)
     go V2 = h
-    go V1 = by-number (convertNumber (y .image) lent)
+    go V1 = by-number (convertNumber (y .store .image) lent)
       where
-        by-number : (number : ℕ) → Logs (settled number (withStore V2 (converted (y .image)) (y .log) y) y)
+        by-number : (number : ℕ) → Logs (settled number (withStore V2 (converted (y .store .image)) (y .store .trace) y) y)
         by-number zero = h
         by-number (suc j) = h
 logs-next y (learn who card pair) f h = h
 logs-next y (appendTo desk budget r) f h =
-    logs-with (y .redo) (y .whole) h desk (appended budget (y .redo desk) r) (settled (appendNumber budget (y .redo desk) r) (y .whole desk ++ r ∷ []) (y .whole desk))
-    (appended-reads budget (y .redo desk) (y .whole desk) r f (h desk))
-logs-next y (renewLog desk) f h =
-    logs-with (y .redo) (y .whole) h desk (renewed (y .redo desk)) [] (renewed-reads (y .redo desk) (y .whole desk) (h desk))
+    logs-with y h desk (appended budget (y .logs desk .bytes) r) (settled (appendNumber budget (y .logs desk .bytes) r) (y .logs desk .whole ++ r ∷ []) (y .logs desk .whole))
+    (appended-reads budget (y .logs desk .bytes) (y .logs desk .whole) r f (h desk))
+logs-next y (renewLog desk) f h = logs-with y h desk (renewed (y .logs desk .bytes)) [] (renewed-reads (y .logs desk .bytes) (y .logs desk .whole) (h desk))
 
 logs-run : (y : System) (steps : List Move) → AllFit steps → Logs y → Logs (systemAfter y steps)
-unfolding systemAfter
+unfolding foldl
 logs-run y [] f h = h
 logs-run y (s ∷ steps) f h = logs-run (stepTo y s) steps (f .1) (logs-next y s (f .0) h)
 
@@ -156,20 +149,20 @@ one-history v n c places logs steps r good =
     y : System
     y = finally v n c places logs steps
 
-    held : Held v n c (y .version) (y .image) (y .log)
+    held : Held v n c (y .store .version) (y .store .image) (y .store .trace)
     held = held-finally v n c places logs steps (r .shape) (r .fits)
 
-    found : (sent : List Sent) × Claim n sent (y .log)
-    found = claimed v n c (r .shape) (y .version) (y .image) (y .log) (held .trace)
+    found : (sent : List Sent) × Claim n sent (y .store .trace)
+    found = claimed v n c (r .shape) (y .store .version) (y .store .image) (y .store .trace) (held .trace)
 
     logs-now : Logs y
     logs-now = logs-finally v n c places logs steps (r .fits) good
 
-    image-bytes : Bytes (y .image)
-    image-bytes = subst Bytes (sym (held .image-is)) (goodEncodes (y .version) (held .cards) (held .good) .bytes)
+    image-bytes : Bytes (y .store .image)
+    image-bytes = subst Bytes (sym (held .image-is)) (goodEncodes (y .store .version) (held .cards) (held .good) .bytes)
 
-    texts : y .version ≡ V1 → (d : ℕ) (pairs : Pairs) → FitsPairs pairs → recovered pairs (y .redo d) (y .image) .number ≡ 0 → (l : Language) (k : ℕ)
-        → textIn (recovered pairs (y .redo d) (y .image) .image) l k ≡ textOf (y .whole d) l k (textIn (y .image) l k)
+    texts : y .store .version ≡ V1 → (d : ℕ) (pairs : Pairs) → FitsPairs pairs → recovered pairs (y .logs d .bytes) (y .store .image) .number ≡ 0 → (l : Language) (k : ℕ)
+        → textIn (recovered pairs (y .logs d .bytes) (y .store .image) .image) l k ≡ textOf (y .logs d .whole) l k (textIn (y .store .image) l k)
     texts one d pairs fit zero-is l k =
-        recovered-texts pairs (y .redo d) (y .image) fit (logs-now d .bytes) image-bytes zero-is l k
-        ∙ ap (λ (rs : List LogRecord). textOf rs l k (textIn (y .image) l k)) (logs-now d .back)
+        recovered-texts pairs (y .logs d .bytes) (y .store .image) fit (logs-now d .bytes) image-bytes zero-is l k
+        ∙ ap (λ (rs : List LogRecord). textOf rs l k (textIn (y .store .image) l k)) (logs-now d .back)

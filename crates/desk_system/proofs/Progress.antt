@@ -5,12 +5,11 @@ use mathlib.Core.Path.{_≡_, refl, sym, ap, subst, _∙_}
 use mathlib.Core.Logic.{_⊎_, inl, inr}
 use mathlib.Core.List.{List, [], _∷_, _++_}
 use mathlib.Core.Bool.{Bool, true, false, cond, not, _&&_, _||_}
-use borrow.Author.Tests.{eqb-false, eq-eqb, ne-eqb, ltb-true, lt-ltb, le-ltb, le-leb, not-true}
+use borrow.Author.Tests.{eqb-false, ne-eqb, ltb-true, le-ltb, le-leb, not-true}
 use lib.Dec.{T, eqb, ltb, leb}
-use lib.ListN.{length, getD, set}
+use lib.ListN.{length, getD}
 use lib.Seq.{getD-set-same}
 use Rattle.formats.specs.Format.{Format}
-use Rattle.lists.specs.Parts.{Bytes}
 use Rattle.lists.specs.Search.{any, none}
 use Rattle.lists.specs.Table.{row, first, all, allFrom, listed}
 use Rattle.lists.proofs.Table.{first-all}
@@ -25,13 +24,12 @@ use Rattle.guard.specs.Judge.{wrongEdition, editionsSpent, replyShort, raise}
 use Rattle.guard.specs.Replies.{blankReply, replied}
 use Rattle.image.specs.Image.{Card, Cards, noCard, encode, decode, sound, GoodCards}
 use Rattle.image_claims.proofs.Claims.{soundReadsBack}
-use Rattle.store_model.specs.Serve.{stepped, serve, serveBy, storeRows, requestRows, entryOf}
+use Rattle.store_model.specs.Serve.{stepped, serve, serveBy, storeRows, entryOf}
 use Rattle.store_model.specs.Words.{Sent, Event, accepted, eventOf, imageAfter, traceFrom}
 use Rattle.store_model.specs.Claims.{SentBytes, AllBytes}
 use Rattle.store_model.proofs.Machine.{numberOn, eventBy, cardsBy, cardsFrom, eventsFrom, passed, accepted-at, count-kept}
 use Rattle.store_model.proofs.Simulation.{good-more, same-event, same-image, same-images, same-events, all-good}
 use Rattle.lock_queue.specs.Queue.{State, emptyQueue, desk, desks, standing, stands}
-use Rattle.lock_queue.specs.Good.{waitingFormed}
 use Rattle.lock_queue.specs.Requests.{Request, asks, number, upgrading}
 use Rattle.lock_queue.proofs.Removed.{absent-removed}
 use Rattle.lock_queue.proofs.Standing.{map-append, stands-append}
@@ -42,14 +40,13 @@ use Rattle.lock_queue_claims.proofs.Claims.{each-number}
 use Rattle.lock_queue.specs.declared.Waiting.{Waiting}
 use Rattle.desk_proposals.specs.declared.Known.{Known}
 use Rattle.desk_proposals.specs.Propose.{nextT, ownAbove, lastT, pairFor, proposed}
-use Rattle.desk_proposals.proofs.Propose.{made-pair, made-rules}
+use Rattle.desk_proposals.proofs.Propose.{made-pair}
 use Rattle.desk_proposal_claims.specs.Claims.{Fine}
 use Rattle.desk_proposal_claims.proofs.Claims.{reaches}
-use Rattle.desk_system.specs.System.{System, inUse, knows}
-use Rattle.desk_system.specs.Claims.{finally, KnowsValid}
-use Rattle.desk_system.specs.Progress.{replyPair, cardAsked, imageLeft, Resumes, guardNumbers, NotStale, ownEntry, OwnPair, OwnPairs}
+use Rattle.desk_system.specs.System.{System, knows}
+use Rattle.desk_system.specs.Claims.{finally}
+use Rattle.desk_system.specs.Progress.{replyPair, imageLeft, Resumes, guardNumbers, NotStale, ownEntry, OwnPair, OwnPairs}
 use Rattle.desk_system.proofs.Backing.{next-most}
-use Rattle.desk_system.proofs.Kept.{Kept}
 use Rattle.desk_system.proofs.Store.{stored-pairs}
 use Rattle.desk_system.proofs.Claims.{kept-finally, desks-valid}
 
@@ -278,7 +275,7 @@ proposal-or-spent k mode some which =
     fair (inl e) = rw (e, ne-eqb (k .desk) 0 some)
     fair (inr e) = rw (e, ne-eqb (k .desk) 0 some)
 
-module _ (y : System) (who card mode : ℕ) (width : who < 4294967296) (valid-s : stampValid (y .known who card .s) ≡ true) (valid-x : stampValid (y .known who card .x) ≡ true)
+module _ (y : System) (who card mode : ℕ) (width : who < 4294967296) (valid-s : stampValid (y .desks .known who card .s) ≡ true) (valid-x : stampValid (y .desks .known who card .x) ≡ true)
     (fine : proposed (knows y who card) mode .number ≡ 0 → Fine (knows y who card) mode) where
   own-pair : OwnPair y who card mode
   own-pair =
@@ -308,19 +305,20 @@ module _ (y : System) (who card mode : ℕ) (width : who < 4294967296) (valid-s 
       relied p q vs vx s x c is-p is-q = checks c is-p is-q vs vx (le-leb (p .s) (q .s) s) (le-leb (p .x) (q .x) x)
 
       formed-pairs : proposed (knows y who card) mode .number ≡ 0 → Fine (knows y who card) mode → (c : Command) → c .mode ≡ mode → update c ≡ proposed (knows y who card) mode .pair
-          → (verifier c ≡ proposed (knows y who card) mode .pair) ⊎ (verifier c ≡ y .known who card)
+          → (verifier c ≡ proposed (knows y who card) mode .pair) ⊎ (verifier c ≡ y .desks .known who card)
           → all (pairChecks c) ≡ true
       formed-pairs e g c mode-is pair-is relies =
           let session = subst (λ (m : ℕ). all (sessionChecks m (update c)) ≡ true) (sym mode-is) (subst (λ (p : Pair). all (sessionChecks mode p) ≡ true) (sym pair-is) (g .rules)) in
           let rules = session-rules mode (proposed (knows y who card) mode .pair) (g .rules) in
           all-append (sessionChecks (c .mode) (update c)) (verifierChecks c) ∙ and-in session (pick rules relies)
         where
-          pick : SessionRules mode (proposed (knows y who card) mode .pair) → (verifier c ≡ proposed (knows y who card) mode .pair) ⊎ (verifier c ≡ y .known who card) → all (verifierChecks c) ≡ true
+          pick : SessionRules mode (proposed (knows y who card) mode .pair) → (verifier c ≡ proposed (knows y who card) mode .pair) ⊎ (verifier c ≡ y .desks .known who card)
+              → all (verifierChecks c) ≡ true
           pick rules (inl own) = relied (proposed (knows y who card) mode .pair) (proposed (knows y who card) mode .pair) (rules .s) (rules .x) (omega arith) (omega arith) c own pair-is
           pick rules (inr knew) =
               let up = reaches (knows y who card) mode in
               let made = made-pair (knows y who card) mode e in
-              relied (y .known who card) (pairFor (knows y who card) mode) valid-s valid-x (up .0) (up .1) c knew (pair-is ∙ made)
+              relied (y .desks .known who card) (pairFor (knows y who card) mode) valid-s valid-x (up .0) (up .1) c knew (pair-is ∙ made)
 
 pub own-pairs : OwnPairs
 own-pairs v n c places logs steps r who card mode running =

@@ -6,14 +6,14 @@ use mathlib.Core.Path.{_≡_, refl, sym, ap, subst, _∙_}
 use mathlib.Core.Logic.{_⊎_, inl, inr}
 use mathlib.Core.List.{List, [], _∷_}
 use mathlib.Core.Bool.{Bool, true, false, cond, not, _&&_, _||_}
-use borrow.Author.Tests.{eqb-true, eq-eqb, not-true}
-use lib.Dec.{T, eqb, ltb, ltb→lt}
+use borrow.Author.Tests.{eqb-true, eq-eqb}
+use lib.Dec.{T, eqb, ltb→lt}
 use lib.ListN.{length, getD}
 use Rattle.formats.specs.Format.{Format, V1, V2}
 use Rattle.lists.specs.Search.{any, filter}
 use Rattle.lists.specs.Table.{first, settled}
-use Rattle.lists.proofs.Tests.{and-in, and-left, and-right, or-cases, from-T}
-use Rattle.stamps.specs.Stamp.{stamp, stampT, shared, exclusive, own, mostAhead, largerOfEach, noPair}
+use Rattle.lists.proofs.Tests.{and-left, and-right, or-cases}
+use Rattle.stamps.specs.Stamp.{stampT, shared, exclusive, own, mostAhead, largerOfEach, noPair}
 use Rattle.stamps.specs.declared.Pair.{Pair}
 use Rattle.stamps.proofs.Stamp.{near-raises}
 use Rattle.commands.specs.Command.{update}
@@ -30,13 +30,12 @@ use Rattle.store_model.proofs.Pairs.{no-card}
 use Rattle.store_model.proofs.Simulation.{same-event}
 use Rattle.image.specs.Image.{freshCards, fresh}
 use Rattle.image.specs.Layout.{shapeOk}
-use Rattle.lock_queue.specs.declared.Waiting.{Waiting}
 use Rattle.desk_proposals.specs.declared.Known.{Known}
 use Rattle.desk_proposals.specs.Propose.{learnt, nextT, ownAbove, lastT, pairFor, proposalRows, proposed}
 use Rattle.desk_proposal_claims.proofs.Claims.{each-proposal}
-use Rattle.desk_system.specs.System.{System, Move, samePair, opening, knows}
+use Rattle.desk_system.specs.System.{samePair, opening, knows}
 use Rattle.desk_system.specs.Claims.{finally}
-use Rattle.desk_system.specs.Progress.{proposalsFor, StampsLast, Listening, hears, makes, knownBy, shownFor, heardIn, acceptedFor, ownMade, GuardSpends}
+use Rattle.desk_system.specs.Progress.{proposalsFor, StampsLast, Listening, hears, makesPair, knownBy, shownFor, heardIn, acceptedFor, ownMade, GuardSpends}
 use Rattle.desk_system.proofs.Backing.{among-none, among-cases, next-most, Dated, Backed}
 use Rattle.desk_system.proofs.Kept.{pair-is}
 use Rattle.desk_system.proofs.Store.{Held, stored-pairs, reply-pair, widened-pairs, held-fresh, held-send, held-convert}
@@ -89,15 +88,15 @@ stamps-last v n c places logs steps r who card mode running e =
     let s = spent (knows y who card) mode e in
     go (s .which) (s .at-end) (kept-finally v n c places logs steps r .knowing who card)
   where
-    go : (mode ≡ shared) ⊎ (mode ≡ exclusive) → lastT ≤ stampT (own mode (finally v n c places logs steps .known who card))
-        → Backed (finally v n c places logs steps .made) card (finally v n c places logs steps .known who card)
-        → 4294967296 ≤ proposalsFor card mode (finally v n c places logs steps .made)
+    go : (mode ≡ shared) ⊎ (mode ≡ exclusive) → lastT ≤ stampT (own mode (finally v n c places logs steps .desks .known who card))
+        → Backed (finally v n c places logs steps .desks .made) card (finally v n c places logs steps .desks .known who card)
+        → 4294967296 ≤ proposalsFor card mode (finally v n c places logs steps .desks .made)
     go (inl m) h b =
-        subst (λ (d : ℕ). 4294967296 ≤ proposalsFor card d (finally v n c places logs steps .made)) (sym m)
-        (counted (b .dated-s) (subst (λ (d : ℕ). lastT ≤ stampT (own d (finally v n c places logs steps .known who card))) m h))
+        subst (λ (d : ℕ). 4294967296 ≤ proposalsFor card d (finally v n c places logs steps .desks .made)) (sym m)
+        (counted (b .dated-s) (subst (λ (d : ℕ). lastT ≤ stampT (own d (finally v n c places logs steps .desks .known who card))) m h))
     go (inr m) h b =
-        subst (λ (d : ℕ). 4294967296 ≤ proposalsFor card d (finally v n c places logs steps .made)) (sym m)
-        (counted (b .dated-x) (subst (λ (d : ℕ). lastT ≤ stampT (own d (finally v n c places logs steps .known who card))) m h))
+        subst (λ (d : ℕ). 4294967296 ≤ proposalsFor card d (finally v n c places logs steps .desks .made)) (sym m)
+        (counted (b .dated-x) (subst (λ (d : ℕ). lastT ≤ stampT (own d (finally v n c places logs steps .desks .known who card))) m h))
 
 -- ---- the guard's limit
 
@@ -249,7 +248,7 @@ module _ (desk start : ℕ) (d : desk < 65536) (i : start < 65536) (commands : �
       hears-within (ownMade before) (knownBy desk start before) p
       (known-within log card from before (and-right (any (shownFor card p) log) (heardIn log card before) h))
       (from p (and-left (any (shownFor card p) log) (heardIn log card before) h))
-  known-within log card from (makes mode ∷ before) h = makes-within (ownMade before) (knownBy desk start before) mode (known-within log card from before h)
+  known-within log card from (makesPair mode ∷ before) h = makes-within (ownMade before) (knownBy desk start before) mode (known-within log card from before h)
 
 -- A pair that a reply for the card showed.
 heard-within : {v : Format} {n c : ℕ} {f : Format} {image : List ℕ} {log : List Event} → Raised v n c f image log
@@ -266,7 +265,7 @@ pub guard-spends : GuardSpends
 guard-spends v n c places logs steps shape fits card desk start mode doings d i heard e =
     let y = finally v n c places logs steps in
     let r = carried-run v n c (Raised v n c) (raised-carried v n c) (opening v n c places logs) steps fits (raised-fresh v n c shape) in
-    let w = known-within desk start d i (acceptedFor card (y .log)) (y .log) card (heard-within r card) doings heard in
+    let w = known-within desk start d i (acceptedFor card (y .store .trace)) (y .store .trace) card (heard-within r card) doings heard in
     let s = spent (knownBy desk start doings) mode e in
-    let high = either (knownBy desk start doings .pair) mode (mostAhead * acceptedFor card (y .log) + ownMade doings) (s .which) (s .at-end) (w .s) (w .x) in
+    let high = either (knownBy desk start doings .pair) mode (mostAhead * acceptedFor card (y .store .trace) + ownMade doings) (s .which) (s .at-end) (w .s) (w .x) in
     record { raised = high; together = omega (arith, high) }

@@ -5,17 +5,17 @@ use Prim.Native.Nat.{ℕ}
 use mathlib.Core.Path.{_≡_, refl}
 use mathlib.Core.List.{List, [], _∷_}
 use mathlib.Core.Bool.{true}
-use lib.Dec.{T}
 use lib.ListN.{replicate}
 use Rattle.formats.specs.Format.{V1}
 use Rattle.lists.specs.Table.{all, allFrom}
+use Rattle.lists.specs.Runs.{everyAlong}
 use Rattle.stamps.specs.Stamp.{stamp}
 use Rattle.image.specs.Layout.{shapeOk}
 use Rattle.store_model.specs.Words.{premise, commandsIn}
 use Rattle.lock_queue.specs.Queue.{noWaiting}
 use Rattle.lock_queue.specs.Requests.{leaves}
 use Rattle.lock_queue.specs.declared.Waiting.{Waiting}
-use Rattle.desk_system.specs.System.{Move, atQueue, byRules}
+use Rattle.desk_system.specs.System.{Move, atQueue}
 use Rattle.desk_system.specs.Claims.{ByRules, finally}
 use Rattle.desk_system.proofs.Claims.{premise-kept}
 
@@ -29,8 +29,8 @@ abbrev stranger : List Move
 stranger = atQueue 0 7 33 (leaves (stamp 0 3 0)) ∷ []
 
 strange : ByRules V1 1 16 many noLogs stranger
-unfolding byRules shapeOk all allFrom
+unfolding everyAlong shapeOk all allFrom
 strange = record { shape = tt; fits = (tt, tt); rules = refl }
 
-strange-premise : premise 0 (commandsIn (finally V1 1 16 many noLogs stranger .log)) ≡ true
+strange-premise : premise 0 (commandsIn (finally V1 1 16 many noLogs stranger .store .trace)) ≡ true
 strange-premise = premise-kept V1 1 16 many noLogs stranger strange 0

@@ -22,20 +22,20 @@ use Rattle.desk_system.specs.Claims.{ByRules, finally, StoreOf, Isolated
 
 pub record SystemHolds (v : Format) (n c : ℕ) (y : System) : Type 0 where
   -- the store is the one that the requests leave, of a fresh one, over a conversion if there was one
-  pub store : StoreOf v n c y
+  pub store : StoreOf v n c (y .store)
   -- of these requests and their log every sentence of demand 3 holds (rules 9.2 to 9.4, 9.6 and 9.7)
   pub requests : List Sent
-  pub demand3 : Claim n requests (y .log)
+  pub demand3 : Claim n requests (y .store .trace)
   -- and sessions are isolated with no premise (rules 9.6 and 10.12)
-  pub isolated : Isolated (y .log)
+  pub isolated : Isolated (y .store .trace)
   -- each redo log is good, and reads back as the records that were wholly appended since it began (rule 11.14)
-  pub good-logs : (d : ℕ) → goodLog (y .redo d) ≡ true
-  pub read-back : (d : ℕ) → records (y .redo d) ≡ y .whole d
+  pub good-logs : (d : ℕ) → goodLog (y .logs d .bytes) ≡ true
+  pub read-back : (d : ℕ) → records (y .logs d .bytes) ≡ y .logs d .whole
   -- so a recovery from it, now, that answers 0 leaves the texts of the updates among them that are due (rule 11.21)
   pub recovers :
-      y .version ≡ V1 → (d : ℕ) (pairs : Pairs) → FitsPairs pairs → recovered pairs (y .redo d) (y .image) .number ≡ 0
+      y .store .version ≡ V1 → (d : ℕ) (pairs : Pairs) → FitsPairs pairs → recovered pairs (y .logs d .bytes) (y .store .image) .number ≡ 0
       → (l : Language) (k : ℕ)
-      → textIn (recovered pairs (y .redo d) (y .image) .image) l k ≡ textOf (y .whole d) l k (textIn (y .image) l k)
+      → textIn (recovered pairs (y .logs d .bytes) (y .store .image) .image) l k ≡ textOf (y .logs d .whole) l k (textIn (y .store .image) l k)
 
 -- A desk's log at the opening.
 pub record GoodLog (log : List ℕ) : Type 0 where
@@ -54,4 +54,4 @@ abbrev pub LogsFollow : Type 0
 LogsFollow =
     (v : Format) (n c : ℕ) (places : ℕ → ℕ → List Waiting) (logs : ℕ → List ℕ) (steps : List Move) →
     AllFit steps → ((d : ℕ) → GoodLog (logs d)) → (d : ℕ) →
-    (goodLog (finally v n c places logs steps .redo d) ≡ true) × (records (finally v n c places logs steps .redo d) ≡ finally v n c places logs steps .whole d)
+    (goodLog (finally v n c places logs steps .logs d .bytes) ≡ true) × (records (finally v n c places logs steps .logs d .bytes) ≡ finally v n c places logs steps .logs d .whole)

@@ -101,7 +101,7 @@ pub record OwnPair (y : System) (who card mode : ℕ) : Type 0 where
   pub sent :
       proposed (knows y who card) mode .number ≡ 0 → (c : Command) → c .mode ≡ mode
       → update c ≡ proposed (knows y who card) mode .pair
-      → (verifier c ≡ proposed (knows y who card) mode .pair) ⊎ (verifier c ≡ y .known who card)
+      → (verifier c ≡ proposed (knows y who card) mode .pair) ⊎ (verifier c ≡ y .desks .known who card)
       → all (pairChecks c) ≡ true
 
 abbrev pub OwnPairs : Type 0
@@ -125,18 +125,18 @@ StampsLast =
     (v : Format) (n c : ℕ) (places : ℕ → ℕ → List Waiting) (logs : ℕ → List ℕ) (steps : List Move) → ByRules v n c places logs steps →
     (who card mode : ℕ) → inUse (finally v n c places logs steps) who ≡ true →
     proposed (knows (finally v n c places logs steps) who card) mode .number ≡ NO-STAMP-LEFT →
-    4294967296 ≤ proposalsFor card mode (finally v n c places logs steps .made)
+    4294967296 ≤ proposalsFor card mode (finally v n c places logs steps .desks .made)
 
 -- What a desk does for one card that listens to the guard alone: it hears a pair, or proposes. Latest first.
 pub data Listening : Type 0 where
   hears : Pair → Listening
-  makes : (mode : ℕ) → Listening
+  makesPair : (mode : ℕ) → Listening
 
 -- What it knows then, having begun with nothing.
 unfoldable pub knownBy : ℕ → ℕ → List Listening → Known
 knownBy desk start [] = record { desk = desk; start = start; pair = noPair }
 knownBy desk start (hears p ∷ before) = learnt (knownBy desk start before) p
-knownBy desk start (makes mode ∷ before) = proposed (knownBy desk start before) mode .known
+knownBy desk start (makesPair mode ∷ before) = proposed (knownBy desk start before) mode .known
 
 -- Every pair that it heard stood in a reply for the card.
 abbrev pub shownFor : ℕ → Pair → Event → Bool
@@ -145,7 +145,7 @@ shownFor card pair e = eqb (commandOf e .card) card && samePair (e .answer .pair
 unfoldable pub heardIn : List Event → ℕ → List Listening → Bool
 heardIn log card [] = true
 heardIn log card (hears p ∷ before) = any (shownFor card p) log && heardIn log card before
-heardIn log card (makes mode ∷ before) = heardIn log card before
+heardIn log card (makesPair mode ∷ before) = heardIn log card before
 
 -- How many commands were accepted for the card, and how often the desk proposed.
 abbrev pub acceptedFor : ℕ → List Event → ℕ
@@ -154,7 +154,7 @@ acceptedFor card log = length (filter (accepted card) log)
 unfoldable pub ownMade : List Listening → ℕ
 ownMade [] = 0
 ownMade (hears p ∷ before) = ownMade before
-ownMade (makes mode ∷ before) = ownMade before + 1
+ownMade (makesPair mode ∷ before) = ownMade before + 1
 
 -- Rule 10.22: whatever anybody sends to the store, by the rules or not, a desk that listens to the guard has no stamp
 -- left only after so much: each accepted command for the card has raised the T by 1,000,000 at the most, each proposal
@@ -166,6 +166,6 @@ pub record Spends (commands proposals : ℕ) : Type 0 where
 abbrev pub GuardSpends : Type 0
 GuardSpends =
     (v : Format) (n c : ℕ) (places : ℕ → ℕ → List Waiting) (logs : ℕ → List ℕ) (steps : List Move) → T (shapeOk v n c) → AllFit steps →
-    (card desk start mode : ℕ) (doings : List Listening) → desk < 65536 → start < 65536 → heardIn (finally v n c places logs steps .log) card doings ≡ true →
+    (card desk start mode : ℕ) (doings : List Listening) → desk < 65536 → start < 65536 → heardIn (finally v n c places logs steps .store .trace) card doings ≡ true →
     proposed (knownBy desk start doings) mode .number ≡ NO-STAMP-LEFT →
-    Spends (acceptedFor card (finally v n c places logs steps .log)) (ownMade doings)
+    Spends (acceptedFor card (finally v n c places logs steps .store .trace)) (ownMade doings)

@@ -12,6 +12,7 @@ use lib.ListN.{drop}
 use Rattle.lists.specs.Parts.{Bytes}
 use Rattle.lists.specs.Search.{any}
 use Rattle.lists.specs.Table.{settled}
+use Rattle.lists.specs.Runs.{foldl, everyAlong}
 use Rattle.stamps.specs.Stamp.{noPair}
 use Rattle.stamps.specs.declared.Pair.{Pair}
 use Rattle.commands.specs.Command.{update}
@@ -19,7 +20,7 @@ use Rattle.commands.specs.Bytes.{fieldsOf, formed}
 use Rattle.formats.specs.Format.{Format, V1, V2}
 use Rattle.image.specs.Image.{fresh}
 use Rattle.image.specs.Convert.{converted, convertNumber}
-use Rattle.store_model.specs.Serve.{serve}
+use Rattle.store_model.specs.Serve.{Outcome, serve}
 use Rattle.store_model.specs.Words.{Sent, Event, eventOf}
 use Rattle.store_model.specs.Claims.{SentBytes}
 use Rattle.redo_log.specs.Log.{LogRecord, records}
@@ -48,37 +49,41 @@ pub record Told : Type 0 where
   pub number : ℕ
   pub pair : Pair
 
--- The version and the bytes of the store, and demand 3's log: the events of all that reached it, latest first; the
--- queues, by card and manager; each desk and start (a number of 32 bits, as in a stamp) that was ever used; what each of them knows
--- of each card; all proposals and answers so far, latest first; the bytes of each desk's redo log, by the number of
--- the desk, and the records that were wholly appended to it since it last began.
-pub record System : Type 0 where
+-- The store: its version, its bytes, and demand 3's trace, the events of all that reached it, latest first.
+pub record TracedStore : Type 0 where
   pub version : Format
   pub image : List ℕ
-  pub log : List Event
-  pub queues : ℕ → ℕ → State
+  pub trace : List Event
+
+-- The desks: each desk and start (a number of 32 bits, as in a stamp) that was ever used; what each of them knows of
+-- each card; all proposals and answers so far, latest first.
+pub record AllDesks : Type 0 where
   pub started : List ℕ
   pub known : ℕ → ℕ → Pair
   pub made : List Made
   pub told : List Told
-  pub redo : ℕ → List ℕ
-  pub whole : ℕ → List LogRecord
+
+-- A desk's redo log: its bytes, and the records that were wholly appended to it since it last began.
+pub record DeskLog : Type 0 where
+  pub bytes : List ℕ
+  pub whole : List LogRecord
+
+-- The queues go by card and manager, the redo logs by the number of the desk.
+pub record System : Type 0 where
+  pub store : TracedStore
+  pub queues : ℕ → ℕ → State
+  pub desks : AllDesks
+  pub logs : ℕ → DeskLog
 
 -- Rule 10.11: a fresh store of a version, of n cards with room c, empty queues over any places, nothing known, and these
 -- bytes as redo logs.
 abbrev pub opening : Format → ℕ → ℕ → (ℕ → ℕ → List Waiting) → (ℕ → List ℕ) → System
 opening v n c places logs =
     record {
-      version = v;
-      image = fresh v n c;
-      log = [];
+      store = record { version = v; image = fresh v n c; trace = [] };
       queues = λ k m. emptyQueue (places k m);
-      started = [];
-      known = λ who k. noPair;
-      made = [];
-      told = [];
-      redo = logs;
-      whole = λ d. records (logs d);
+      desks = record { started = []; known = λ who k. noPair; made = []; told = [] };
+      logs = λ d. record { bytes = logs d; whole = records (logs d) };
     }
 
 -- ---- what can happen
@@ -113,7 +118,7 @@ abbrev pub samePair : Pair → Pair → Bool
 samePair p q = eqb (p .s) (q .s) && eqb (p .x) (q .x)
 
 abbrev pub inUse : System → ℕ → Bool
-inUse y who = any (λ w. eqb w who) (y .started)
+inUse y who = any (λ w. eqb w who) (y .desks .started)
 
 -- This pair was proposed for that card in that mode.
 abbrev pub isMade : List Made → ℕ → ℕ → Pair → Bool
@@ -149,14 +154,14 @@ abbrev pub allowed : System → Move → Bool
 -- rule 10.9: a desk and start is used once
 allowed y (begin who) = ltb who 4294967296 && not (inUse y who)
 allowed y (propose who card mode) = inUse y who
-allowed y (atQueue card manager lent r) = asksMade (y .made) card r
+allowed y (atQueue card manager lent r) = asksMade (y .desks .made) card r
 allowed y (lose card manager places) = true
-allowed y (send s) = sendsMade (y .version) (y .made) s
+allowed y (send s) = sendsMade (y .store .version) (y .desks .made) s
 -- rule 10.8: recovery's writes are commands like others
-allowed y (recoverWith pairs log unsent) = allMade (y .version) (y .made) (recoverySends (y .version) pairs log unsent (y .image))
+allowed y (recoverWith pairs log unsent) = allMade (y .store .version) (y .desks .made) (recoverySends (y .store .version) pairs log unsent (y .store .image))
 allowed y (convert lent) = true
 -- rule 10.1: what a desk learns of a card was in an answer for that card, s and x together
-allowed y (learn who card pair) = inUse y who && wasTold (y .told) card pair
+allowed y (learn who card pair) = inUse y who && wasTold (y .desks .told) card pair
 allowed y (appendTo desk budget r) = true
 allowed y (renewLog desk) = true
 
@@ -169,73 +174,40 @@ module _ {A : Type 0} where
 
 -- A system with one thing changed, the others as they were.
 abbrev pub withStore : Format → List ℕ → List Event → System → System
-withStore version image log y =
-    record { version = version; image = image; log = log; queues = y .queues; started = y .started; known = y .known; made = y .made; told = y .told; redo = y .redo; whole = y .whole }
+withStore version image trace y =
+    record { store = record { version = version; image = image; trace = trace }; queues = y .queues; desks = y .desks; logs = y .logs }
 
 abbrev pub withQueue : ℕ → ℕ → State → System → System
 withQueue card manager q y =
-    record {
-      version = y .version;
-      image = y .image;
-      log = y .log;
-      queues = with card (with manager q (y .queues card)) (y .queues);
-      started = y .started;
-      known = y .known;
-      made = y .made;
-      told = y .told;
-      redo = y .redo;
-      whole = y .whole;
-    }
+    record { store = y .store; queues = with card (with manager q (y .queues card)) (y .queues); desks = y .desks; logs = y .logs }
 
-abbrev pub withKnown : ℕ → (ℕ → Pair) → System → System
-withKnown who pairs y =
-    record {
-      version = y .version;
-      image = y .image;
-      log = y .log;
-      queues = y .queues;
-      started = y .started;
-      known = with who pairs (y .known);
-      made = y .made;
-      told = y .told;
-      redo = y .redo;
-      whole = y .whole;
-    }
+abbrev pub withDesks : List ℕ → (ℕ → ℕ → Pair) → List Made → List Told → System → System
+withDesks started known made told y =
+    record { store = y .store; queues = y .queues; desks = record { started = started; known = known; made = made; told = told }; logs = y .logs }
 
 abbrev pub withStart : ℕ → System → System
-withStart who y =
-    record { version = y .version; image = y .image; log = y .log; queues = y .queues; started = who ∷ y .started; known = y .known; made = y .made; told = y .told; redo = y .redo; whole = y .whole }
+withStart who y = withDesks (who ∷ y .desks .started) (y .desks .known) (y .desks .made) (y .desks .told) y
+
+abbrev pub withKnown : ℕ → (ℕ → Pair) → System → System
+withKnown who pairs y = withDesks (y .desks .started) (with who pairs (y .desks .known)) (y .desks .made) (y .desks .told) y
 
 abbrev pub withMade : Made → System → System
-withMade m y =
-    record { version = y .version; image = y .image; log = y .log; queues = y .queues; started = y .started; known = y .known; made = m ∷ y .made; told = y .told; redo = y .redo; whole = y .whole }
+withMade m y = withDesks (y .desks .started) (y .desks .known) (m ∷ y .desks .made) (y .desks .told) y
 
 abbrev pub withTold : Told → System → System
-withTold t y =
-    record { version = y .version; image = y .image; log = y .log; queues = y .queues; started = y .started; known = y .known; made = y .made; told = t ∷ y .told; redo = y .redo; whole = y .whole }
+withTold t y = withDesks (y .desks .started) (y .desks .known) (y .desks .made) (t ∷ y .desks .told) y
 
 abbrev pub withLog : ℕ → List ℕ → List LogRecord → System → System
-withLog desk log read y =
-    record {
-      version = y .version;
-      image = y .image;
-      log = y .log;
-      queues = y .queues;
-      started = y .started;
-      known = y .known;
-      made = y .made;
-      told = y .told;
-      redo = with desk log (y .redo);
-      whole = with desk read (y .whole);
-    }
+withLog desk bytes whole y =
+    record { store = y .store; queues = y .queues; desks = y .desks; logs = with desk (record { bytes = bytes; whole = whole }) (y .logs) }
 
 -- What a desk and start knows of a card, as the operations `learn` and `propose` take it; and that it now knows this
 -- pair of the card.
 abbrev pub knows : System → ℕ → ℕ → Known
-knows y who card = record { desk = who / 65536; start = who % 65536; pair = y .known who card }
+knows y who card = record { desk = who / 65536; start = who % 65536; pair = y .desks .known who card }
 
 abbrev pub nowKnows : ℕ → ℕ → Pair → System → System
-nowKnows who card pair y = withKnown who (with card pair (y .known who)) y
+nowKnows who card pair y = withKnown who (with card pair (y .desks .known who)) y
 
 -- A request reaches a manager's queue of a card, which answers as a queue of `lent` places does.
 abbrev pub queueStep : ℕ → System → ℕ → ℕ → Request → System
@@ -243,19 +215,15 @@ queueStep lent y card manager r =
     withTold (record { card = card; number = answer lent (y .queues card manager) r .number; pair = answer lent (y .queues card manager) r .largest })
     (withQueue card manager (after lent (y .queues card manager) r) y)
 
--- A request reaches the store, which answers what `serve` answers, and that is what the operation `answer` does. Its
--- event joins the log.
+-- What the store answers to a request: what `serve` answers, and that is what the operation `answer` does.
+abbrev pub served : System → Sent → Outcome
+served y s = serve (y .store .version) (y .store .image) (s .command) (s .lent)
+
+-- A request reaches the store. Its event joins the trace.
 abbrev pub sendStep : System → Sent → System
 sendStep y s =
-    withTold
-    (record {
-      card = fieldsOf (y .version) (s .command) .card;
-      number = serve (y .version) (y .image) (s .command) (s .lent) .answer .number;
-      pair = serve (y .version) (y .image) (s .command) (s .lent) .answer .pair;
-    })
-    (withStore (y .version) (serve (y .version) (y .image) (s .command) (s .lent) .image)
-    (eventOf (y .version) s (serve (y .version) (y .image) (s .command) (s .lent)) ∷ y .log)
-    y)
+    withTold (record { card = fieldsOf (y .store .version) (s .command) .card; number = served y s .answer .number; pair = served y s .answer .pair })
+    (withStore (y .store .version) (served y s .image) (eventOf (y .store .version) s (served y s) ∷ y .store .trace) y)
 
 -- Requests, latest first, reach it one after the other.
 unfoldable pub sendSteps : System → List Sent → System
@@ -264,7 +232,7 @@ sendSteps y (s ∷ earlier) = sendStep (sendSteps y earlier) s
 
 -- A conversion (rule 15.10): what is refused changes nothing, and version 2 is converted no more.
 abbrev pub convertStep : Format → ℕ → System → System
-convertStep V1 lent y = settled (convertNumber (y .image) lent) (withStore V2 (converted (y .image)) (y .log) y) y
+convertStep V1 lent y = settled (convertNumber (y .store .image) lent) (withStore V2 (converted (y .store .image)) (y .store .trace) y) y
 convertStep V2 lent y = y
 
 unfoldable pub stepTo : System → Move → System
@@ -280,26 +248,24 @@ stepTo y (atQueue card manager lent r) = queueStep lent y card manager r
 stepTo y (lose card manager places) = withQueue card manager (emptyQueue places) y
 stepTo y (send s) = sendStep y s
 -- rule 11.18
-stepTo y (recoverWith pairs log unsent) = sendSteps y (recoverySends (y .version) pairs log unsent (y .image))
-stepTo y (convert lent) = convertStep (y .version) lent y
+stepTo y (recoverWith pairs log unsent) = sendSteps y (recoverySends (y .store .version) pairs log unsent (y .store .image))
+stepTo y (convert lent) = convertStep (y .store .version) lent y
 -- rule 10.2
 stepTo y (learn who card pair) = nowKnows who card (learnt (knows y who card) pair .pair) y
 -- rules 11.11 and 11.12: the stores that are made; the record is wholly appended if the answer is 0
 stepTo y (appendTo desk budget r) =
-    withLog desk (appended budget (y .redo desk) r) (settled (appendNumber budget (y .redo desk) r) (y .whole desk ++ r ∷ []) (y .whole desk)) y
+    withLog desk (appended budget (y .logs desk .bytes) r) (settled (appendNumber budget (y .logs desk .bytes) r) (y .logs desk .whole ++ r ∷ []) (y .logs desk .whole)) y
 -- rule 11.27
-stepTo y (renewLog desk) = withLog desk (renewed (y .redo desk)) [] y
+stepTo y (renewLog desk) = withLog desk (renewed (y .logs desk .bytes)) [] y
 
 -- ---- runs: steps in the order in which they happen
 
-unfoldable pub systemAfter : System → List Move → System
-systemAfter y [] = y
-systemAfter y (s ∷ steps) = systemAfter (stepTo y s) steps
+abbrev pub systemAfter : System → List Move → System
+systemAfter y moves = foldl stepTo y moves
 
 -- Each step is by the rules, in the system as the steps before it left it.
-unfoldable pub byRules : System → List Move → Bool
-byRules y [] = true
-byRules y (s ∷ steps) = allowed y s && byRules (stepTo y s) steps
+abbrev pub byRules : System → List Move → Bool
+byRules y moves = everyAlong allowed stepTo y moves
 
 -- What is sent and appended is bytes, and stamps that a recovery is given fit in 64 bits.
 abbrev pub Fits : Move → Type 0

@@ -1,4 +1,4 @@
-pub mod Trials
-pub mod ProgressCases
-pub mod HistoryCases
+pub mod Runs
+pub mod ProgressUses
+pub mod HistoryUses
 pub mod Uses

@@ -1,3 +1,4 @@
 pub mod Trials
 pub mod ProgressCases
 pub mod HistoryCases
+pub mod Runs

@@ -1,12 +1,13 @@
 -- Worked cases of desks that get on, and of what stops them: a command on the word of a reply, with something accepted in
--- between and without, by what its desk knows; and stamps that are used up. Proved in proofs/ProgressCases.antt.
+-- between and without, by what its desk knows; and stamps that are used up. Proved in proofs/Runs.antt.
 -- Assumes nothing.
 use Prim.Native.Nat.{ℕ}
 use mathlib.Core.Path.{_≡_}
 use mathlib.Core.List.{List, [], _∷_, map}
 use mathlib.Core.Bool.{true, false}
 use Rattle.formats.specs.Format.{V1}
-use Rattle.stamps.specs.Stamp.{stamp, shared, exclusive}
+use Rattle.stamps.specs.Stamp.{stamp, exclusive}
+use Rattle.lock_queue.specs.Queue.{waiting}
 use Rattle.image.specs.Image.{fresh}
 use Rattle.store_model.specs.Serve.{serve}
 use Rattle.store_model.specs.Words.{Sent, imageAfter}
@@ -15,7 +16,7 @@ use Rattle.desk_proposals.specs.declared.Known.{Known}
 use Rattle.desk_proposals.specs.Propose.{lastT, proposed}
 use Rattle.desk_system.specs.System.{Move, begin, learn, allowed, knows, stepTo, systemAfter, byRules}
 use Rattle.desk_system.specs.Progress.{imageLeft, proposalsFor, Spends}
-use Rattle.desk_system_cases.specs.Trials.{deskOne, deskTwo, singleCard, waits, ask, writeOpening}
+use Rattle.desk_system_cases.specs.Trials.{deskOne, singleCard, ask, writeOpening}
 
 -- ---- a command on the word of a reply
 
@@ -71,7 +72,7 @@ pub record GuardCases : Type 0 where
 -- Desk 9 asks with the last T, which nobody proposed: the queue takes it, and desk 1, which learns it, has no stamp left,
 -- though nothing was ever proposed. The guard refuses that stamp.
 abbrev pub lastAsk : Move
-lastAsk = ask 0 (waits exclusive 0 (stamp lastT 9 0))
+lastAsk = ask 0 (waiting exclusive 0 (stamp lastT 9 0))
 
 pub record SpendCases : Type 0 where
   pub refused : allowed (systemAfter singleCard (begin deskOne ∷ [])) lastAsk ≡ false
@@ -79,7 +80,7 @@ pub record SpendCases : Type 0 where
   pub spent :
       proposed (knows (systemAfter singleCard (begin deskOne ∷ lastAsk ∷ learn deskOne 0 (pair 0 (stamp lastT 9 0)) ∷ [])) deskOne 0) exclusive .number ≡ 16
   pub none-made :
-      proposalsFor 0 exclusive (systemAfter singleCard (begin deskOne ∷ lastAsk ∷ learn deskOne 0 (pair 0 (stamp lastT 9 0)) ∷ []) .made) ≡ 0
+      proposalsFor 0 exclusive (systemAfter singleCard (begin deskOne ∷ lastAsk ∷ learn deskOne 0 (pair 0 (stamp lastT 9 0)) ∷ []) .desks .made) ≡ 0
   pub guarded : serve V1 freshStore (writeOriginal 0 (stamp lastT 9 0) text205 .command) [] .answer .number ≡ 17
   -- 4,294 commands are not enough by themselves; with 967,295 proposals they are, and with one less they are not
   pub enough : Spends 4294 967295

@@ -1,5 +1,5 @@
 -- Desks by the rules in a computed story, and for each rule one run in which it alone is broken, and with it demand
--- 3's premise. Proved by computation in proofs/Trials.antt.
+-- 3's premise. Proved by computation in proofs/Runs.antt.
 -- Assumes nothing.
 use Prim.Native.Nat.{ℕ}
 use mathlib.Core.Path.{_≡_}
@@ -7,17 +7,18 @@ use mathlib.Core.List.{List, [], _∷_, _++_, map, reverse}
 use mathlib.Core.Bool.{true, false}
 use lib.ListN.{length, take, replicate}
 use lib.Ieee.{binary64, ofBits}
-use Rattle.formats.specs.Format.{V1, V2}
+use Rattle.formats.specs.Format.{Format, V1, V2}
 use Rattle.stamps.specs.Stamp.{stamp, shared, exclusive, noPair}
 use Rattle.stamps.specs.declared.Pair.{Pair}
-use Rattle.lock_queue.specs.Queue.{noWaiting, standing, holds}
+use Rattle.lock_queue.specs.Queue.{noWaiting, waiting, standing, holds}
 use Rattle.lock_queue.specs.Requests.{asks, leaves, lapses}
 use Rattle.lock_queue.specs.declared.LeaseExpiry.{LeaseExpiry}
 use Rattle.lock_queue.specs.declared.Waiting.{Waiting}
-use Rattle.commands.specs.Bytes.{fieldsOf, commandBytes}
+use Rattle.commands.specs.Bytes.{fieldsOf}
 use Rattle.store_model.specs.Serve.{serve}
 use Rattle.store_model.specs.Words.{Sent, Event, carries, under, premise, commandsIn}
-use Rattle.store_model.specs.Cases.{pair, request, writeOriginal, requestOpening, text205, text401, long}
+use Rattle.store_model.specs.Cases.{pair, request, requestOf2, writeOriginal, requestOpening, text205, text401, long}
+use Rattle.redo_log.specs.Log.{LogRecord}
 use Rattle.redo_log_claims.specs.Claims.{appendedAll}
 use Rattle.redo_log_claims.specs.Cases.{beginOf, updateOf, commitOf, emptyLog}
 use Rattle.redo_recovery_model.specs.Recovery.{Pairs}
@@ -75,8 +76,22 @@ leave card desk = atQueue card 0 2 (leaves desk)
 abbrev pub singleCard : System
 singleCard = opening V1 1 16 twoPlaces blankLogs
 
-abbrev pub waits : ℕ → ℕ → ℕ → Waiting
-waits mode s x = record { mode = mode; pair = pair s x }
+-- What a run leaves: the store's version, the records of desk 1's log, and in order the answers and what the commands
+-- show.
+pub record RunEnd : Type 0 where
+  pub version : Format
+  pub whole : List LogRecord
+  pub answers : List Told
+  pub shows : List (List ℕ)
+
+abbrev pub runEnd : System → RunEnd
+runEnd y =
+    record {
+      version = y .store .version;
+      whole = y .logs 1 .whole;
+      answers = reverse (y .desks .told);
+      shows = map (λ (e : Event). take (e .answer .length) (e .reply)) (reverse (y .store .trace));
+    }
 
 -- A read of card 0's original under a pair; a write of it is `writeOriginal`.
 abbrev pub readUnder : ℕ → ℕ → Sent
@@ -94,15 +109,15 @@ story =
     ∷ begin deskTwo
     -- desk 1 reads under (0.1.0, 0)
     ∷ propose deskOne 0 shared
-    ∷ ask 0 (waits shared (stamp 0 1 0) 0)
+    ∷ ask 0 (waiting shared (stamp 0 1 0) 0)
     ∷ send (readUnder (stamp 0 1 0) 0)
     -- desk 2 knows nothing, asks exclusive under (0, 0.2.0) and is denied; with the denial's pair it proposes (0.1.0,
     -- 1.2.0), and writes
     ∷ propose deskTwo 0 exclusive
-    ∷ ask 0 (waits exclusive 0 (stamp 0 2 0))
+    ∷ ask 0 (waiting exclusive 0 (stamp 0 2 0))
     ∷ learn deskTwo 0 (pair (stamp 0 1 0) 0)
     ∷ propose deskTwo 0 exclusive
-    ∷ ask 0 (waits exclusive (stamp 0 1 0) (stamp 1 2 0))
+    ∷ ask 0 (waiting exclusive (stamp 0 1 0) (stamp 1 2 0))
     ∷ leave 0 deskOne
     ∷ send (writeOriginal (stamp 0 1 0) (stamp 1 2 0) text205)
     -- desk 1's session is stale now; it learns, and reads under desk 2's exclusive stamp with a larger s
@@ -110,14 +125,14 @@ story =
     ∷ learn deskOne 0 (pair (stamp 0 1 0) (stamp 1 2 0))
     ∷ leave 0 deskTwo
     ∷ propose deskOne 0 shared
-    ∷ ask 0 (waits shared (stamp 1 1 0) (stamp 1 2 0))
+    ∷ ask 0 (waiting shared (stamp 1 1 0) (stamp 1 2 0))
     ∷ send (readUnder (stamp 1 1 0) (stamp 1 2 0))
     -- a malformed ask may carry anything; an old answer to desk 1 is learnt late, by desk 2
-    ∷ ask 0 (waits 3 0 0)
+    ∷ ask 0 (waiting 3 0 0)
     ∷ learn deskTwo 0 (pair (stamp 0 1 0) 0)
     -- desk 1 upgrades, and writes: the command relies on its shared session and opens the exclusive one
     ∷ propose deskOne 0 exclusive
-    ∷ ask 0 (waits exclusive (stamp 1 1 0) (stamp 2 1 0))
+    ∷ ask 0 (waiting exclusive (stamp 1 1 0) (stamp 2 1 0))
     ∷ send (writeOpening (pair (stamp 1 1 0) (stamp 1 2 0)) (pair (stamp 1 1 0) (stamp 2 1 0)) text401)
     -- malformed bytes are free too; desk 2's write comes again, late
     ∷ send (record { command = 1 ∷ 2 ∷ 0 ∷ []; lent = [] })
@@ -126,13 +141,13 @@ story =
     ∷ lose 0 0 (noWaiting ∷ noWaiting ∷ [])
     ∷ begin deskTwoAgain
     ∷ propose deskTwoAgain 0 exclusive
-    ∷ ask 0 (waits exclusive 0 (stamp 0 2 1))
+    ∷ ask 0 (waiting exclusive 0 (stamp 0 2 1))
     ∷ send (writeOriginal 0 (stamp 0 2 1) text205)
     -- it learns from the guard's reply, leaves, and reads what desk 1 wrote
     ∷ learn deskTwoAgain 0 (pair (stamp 1 1 0) (stamp 2 1 0))
     ∷ propose deskTwoAgain 0 shared
     ∷ leave 0 deskTwoAgain
-    ∷ ask 0 (waits shared (stamp 1 2 1) (stamp 2 1 0))
+    ∷ ask 0 (waiting shared (stamp 1 2 1) (stamp 2 1 0))
     ∷ send (readUnder (stamp 1 2 1) (stamp 2 1 0))
     ∷ []
 
@@ -142,34 +157,36 @@ heard number s x = record { card = 0; number = number; pair = pair s x }
 
 pub record Story : Type 0 where
   pub rules : byRules singleCard story ≡ true
-  -- the answers of the queue and of the store, in order
-  pub answers :
-      reverse (systemAfter singleCard story .told)
-      ≡ heard 0 (stamp 0 1 0) 0
-      ∷ heard 0 (stamp 0 1 0) 0
-      ∷ heard 11 (stamp 0 1 0) 0
-      ∷ heard 0 (stamp 0 1 0) (stamp 1 2 0)
-      ∷ heard 0 (stamp 0 1 0) (stamp 1 2 0)
-      ∷ heard 0 (stamp 0 1 0) (stamp 1 2 0)
-      ∷ heard 3 (stamp 0 1 0) (stamp 1 2 0)
-      ∷ heard 0 (stamp 0 1 0) (stamp 1 2 0)
-      ∷ heard 0 (stamp 1 1 0) (stamp 1 2 0)
-      ∷ heard 0 (stamp 1 1 0) (stamp 1 2 0)
-      ∷ heard 1 0 0
-      ∷ heard 0 (stamp 1 1 0) (stamp 2 1 0)
-      ∷ heard 0 (stamp 1 1 0) (stamp 2 1 0)
-      ∷ heard 1 0 0
-      ∷ heard 3 (stamp 1 1 0) (stamp 2 1 0)
-      ∷ heard 0 0 (stamp 0 2 1)
-      ∷ heard 3 (stamp 1 1 0) (stamp 2 1 0)
-      ∷ heard 0 0 (stamp 0 2 1)
-      ∷ heard 0 (stamp 1 2 1) (stamp 2 1 0)
-      ∷ heard 0 (stamp 1 2 1) (stamp 2 1 0)
-      ∷ []
-  -- what its commands show
-  pub shows :
-      map (λ (e : Event). take (e .answer .length) (e .reply)) (reverse (systemAfter singleCard story .log))
-      ≡ [] ∷ [] ∷ [] ∷ text205 ∷ [] ∷ [] ∷ [] ∷ [] ∷ text401 ∷ []
+  -- the answers of queues and store, and what its commands show
+  pub ends :
+      runEnd (systemAfter singleCard story)
+      ≡ record {
+        version = V1;
+        whole = [];
+        answers =
+            heard 0 (stamp 0 1 0) 0
+            ∷ heard 0 (stamp 0 1 0) 0
+            ∷ heard 11 (stamp 0 1 0) 0
+            ∷ heard 0 (stamp 0 1 0) (stamp 1 2 0)
+            ∷ heard 0 (stamp 0 1 0) (stamp 1 2 0)
+            ∷ heard 0 (stamp 0 1 0) (stamp 1 2 0)
+            ∷ heard 3 (stamp 0 1 0) (stamp 1 2 0)
+            ∷ heard 0 (stamp 0 1 0) (stamp 1 2 0)
+            ∷ heard 0 (stamp 1 1 0) (stamp 1 2 0)
+            ∷ heard 0 (stamp 1 1 0) (stamp 1 2 0)
+            ∷ heard 1 0 0
+            ∷ heard 0 (stamp 1 1 0) (stamp 2 1 0)
+            ∷ heard 0 (stamp 1 1 0) (stamp 2 1 0)
+            ∷ heard 1 0 0
+            ∷ heard 3 (stamp 1 1 0) (stamp 2 1 0)
+            ∷ heard 0 0 (stamp 0 2 1)
+            ∷ heard 3 (stamp 1 1 0) (stamp 2 1 0)
+            ∷ heard 0 0 (stamp 0 2 1)
+            ∷ heard 0 (stamp 1 2 1) (stamp 2 1 0)
+            ∷ heard 0 (stamp 1 2 1) (stamp 2 1 0)
+            ∷ [];
+        shows = [] ∷ [] ∷ [] ∷ text205 ∷ [] ∷ [] ∷ [] ∷ [] ∷ text401 ∷ [];
+      }
   -- the premise has something to say of it: a shared command carries the stamp of an exclusive one
   pub carried : carries (fieldsOf V1 (readUnder (stamp 1 1 0) (stamp 1 2 0) .command)) ≡ true
   pub below : under (stamp 1 2 0) (fieldsOf V1 (writeOriginal (stamp 0 1 0) (stamp 1 2 0) text205 .command)) ≡ true
@@ -195,25 +212,7 @@ pairsFor s x = record { s = s ∷ []; x = x ∷ [] }
 
 -- A command of version 2 for card 0 under a pair: a read of the original, and a write of a translation in a language.
 abbrev pub send2 : ℕ → ℕ → ℕ → ℕ → ℕ → List ℕ → List ℕ → Sent
-send2 act language s x edition text lent =
-    record {
-      command =
-          commandBytes V2
-          (record {
-            act = act;
-            mode = exclusive;
-            language = language;
-            card = 0;
-            verifier = pair s x;
-            opened = noPair;
-            expected = record { desk = 0; transaction = 0 };
-            next = record { desk = 0; transaction = 0 };
-            edition = edition;
-            length = length text;
-          })
-          text;
-      lent = lent;
-    }
+send2 act language s x edition text lent = requestOf2 act language (pair s x) noPair edition text lent
 
 abbrev pub longStory : List Move
 longStory =
@@ -221,7 +220,7 @@ longStory =
     ∷ begin deskTwo
     -- desk 1 asks exclusive under (0, 0.1.0) and recovers under it, twice
     ∷ propose deskOne 0 exclusive
-    ∷ atQueue 0 0 2 (asks (waits exclusive 0 (stamp 0 1 0)))
+    ∷ atQueue 0 0 2 (asks (waiting exclusive 0 (stamp 0 1 0)))
     ∷ recoverWith (pairsFor 0 (stamp 0 1 0)) committed 0
     ∷ recoverWith (pairsFor 0 (stamp 0 1 0)) committed 0
     -- no log at all, and no pair: nothing is sent, or what is malformed
@@ -234,9 +233,9 @@ longStory =
     ∷ atQueue 0 0 2 (lapses (expiry 1 0x3ff0_0000_0000_0000 0x3ff0_0000_0000_0000))
     -- the queue is lost and begins again with three places, then with 33, which are too many
     ∷ lose 0 0 (replicate 3 noWaiting)
-    ∷ atQueue 0 0 3 (asks (waits exclusive 0 (stamp 0 1 0)))
+    ∷ atQueue 0 0 3 (asks (waiting exclusive 0 (stamp 0 1 0)))
     ∷ lose 0 0 (replicate 33 noWaiting)
-    ∷ atQueue 0 0 33 (asks (waits exclusive 0 (stamp 0 1 0)))
+    ∷ atQueue 0 0 33 (asks (waiting exclusive 0 (stamp 0 1 0)))
     -- desk 2 learns from the guard's reply, the store is converted, into too few bytes and into enough, and once more
     ∷ learn deskTwo 0 (pair 0 (stamp 0 1 0))
     ∷ convert 143
@@ -252,28 +251,30 @@ longStory =
 
 pub record LongStory : Type 0 where
   pub rules : byRules singleCard longStory ≡ true
-  pub version : systemAfter singleCard longStory .version ≡ V2
   -- the answers, in order: an ask; three writes of recovery, the last malformed; a leave and three lapses; two asks;
-  -- three commands of version 2
-  pub answers :
-      reverse (systemAfter singleCard longStory .told)
-      ≡ heard 0 0 (stamp 0 1 0)
-      ∷ heard 0 0 (stamp 0 1 0)
-      ∷ heard 0 0 (stamp 0 1 0)
-      ∷ heard 1 0 0
-      ∷ heard 15 0 (stamp 0 1 0)
-      ∷ heard 21 0 (stamp 0 1 0)
-      ∷ heard 25 0 (stamp 0 1 0)
-      ∷ heard 0 0 (stamp 0 1 0)
-      ∷ heard 0 0 (stamp 0 1 0)
-      ∷ heard 10 0 0
-      ∷ heard 0 0 (stamp 0 2 0)
-      ∷ heard 3 0 (stamp 0 2 0)
-      ∷ heard 0 0 (stamp 0 2 0)
-      ∷ []
-  -- the read after the conversion shows what the recovery wrote before it
-  pub shows :
-      map (λ (e : Event). take (e .answer .length) (e .reply)) (reverse (systemAfter singleCard longStory .log)) ≡ [] ∷ [] ∷ [] ∷ text205 ∷ [] ∷ [] ∷ []
+  -- three commands of version 2. The read after the conversion shows what the recovery wrote before it
+  pub ends :
+      runEnd (systemAfter singleCard longStory)
+      ≡ record {
+        version = V2;
+        whole = [];
+        answers =
+            heard 0 0 (stamp 0 1 0)
+            ∷ heard 0 0 (stamp 0 1 0)
+            ∷ heard 0 0 (stamp 0 1 0)
+            ∷ heard 1 0 0
+            ∷ heard 15 0 (stamp 0 1 0)
+            ∷ heard 21 0 (stamp 0 1 0)
+            ∷ heard 25 0 (stamp 0 1 0)
+            ∷ heard 0 0 (stamp 0 1 0)
+            ∷ heard 0 0 (stamp 0 1 0)
+            ∷ heard 10 0 0
+            ∷ heard 0 0 (stamp 0 2 0)
+            ∷ heard 3 0 (stamp 0 2 0)
+            ∷ heard 0 0 (stamp 0 2 0)
+            ∷ [];
+        shows = [] ∷ [] ∷ [] ∷ text205 ∷ [] ∷ [] ∷ [];
+      }
   -- a recovery under a pair that nobody proposed is not by the rules, nor under one that was proposed shared
   pub not-proposed : allowed (systemAfter singleCard (begin deskOne ∷ [])) (recoverWith (pairsFor 0 (stamp 0 1 0)) committed 0) ≡ false
   pub not-exclusive :
@@ -295,8 +296,8 @@ manyManagers =
     ∷ propose deskOne 0 exclusive
     ∷ propose deskTwo 0 exclusive
     ∷ propose deskThree 0 exclusive
-    ∷ askOf 0 (waits exclusive 0 (stamp 0 1 0))
-    ∷ askOf 1 (waits exclusive 0 (stamp 0 2 0))
+    ∷ askOf 0 (waiting exclusive 0 (stamp 0 1 0))
+    ∷ askOf 1 (waiting exclusive 0 (stamp 0 2 0))
     ∷ send (writeOriginal 0 (stamp 0 1 0) text205)
     ∷ send (writeOriginal 0 (stamp 0 2 0) text401)
     -- desk 1 still holds at its manager, but its session is over
@@ -304,7 +305,7 @@ manyManagers =
     ∷ send (writeOriginal 0 (stamp 0 3 0) text205)
     ∷ send (writeOriginal 0 (stamp 0 2 0) text401)
     ∷ lose 0 1 (noWaiting ∷ noWaiting ∷ [])
-    ∷ askOf 1 (waits exclusive 0 (stamp 0 1 0))
+    ∷ askOf 1 (waiting exclusive 0 (stamp 0 1 0))
     -- what one manager tells is learnt as what another does
     ∷ learn deskOne 0 (pair 0 (stamp 0 2 0))
     ∷ []
@@ -313,7 +314,7 @@ manyManagers =
 pub record ManyManagers : Type 0 where
   pub rules : byRules singleCard manyManagers ≡ true
   pub answers :
-      reverse (systemAfter singleCard manyManagers .told)
+      reverse (systemAfter singleCard manyManagers .desks .told)
       ≡ heard 0 0 (stamp 0 1 0)
       ∷ heard 0 0 (stamp 0 2 0)
       ∷ heard 0 0 (stamp 0 1 0)
@@ -333,17 +334,17 @@ pub record BrokenBy (lead : List Move) (wrong : Move) (rest : List Move) : Type 
   pub before : byRules singleCard lead ≡ true
   pub refused : allowed (systemAfter singleCard lead) wrong ≡ false
   pub after : byRules (stepTo (systemAfter singleCard lead) wrong) rest ≡ true
-  pub broken : premise 0 (commandsIn (systemAfter singleCard (lead ++ wrong ∷ rest) .log)) ≡ false
+  pub broken : premise 0 (commandsIn (systemAfter singleCard (lead ++ wrong ∷ rest) .store .trace)) ≡ false
 
 -- The same with a change of the system that is no step.
 pub record BrokenWith (lead : List Move) (wrong : System → System) (rest : List Move) : Type 0 where
   pub before : byRules singleCard lead ≡ true
   pub after : byRules (wrong (systemAfter singleCard lead)) rest ≡ true
-  pub broken : premise 0 (commandsIn (systemAfter (wrong (systemAfter singleCard lead)) rest .log)) ≡ false
+  pub broken : premise 0 (commandsIn (systemAfter (wrong (systemAfter singleCard lead)) rest .store .trace)) ≡ false
 
 -- Desk 3 asks under (0.3.0, 0), so that a pair with an s and no x is told.
 abbrev pub threeAsks : List Move
-threeAsks = begin deskThree ∷ propose deskThree 0 shared ∷ ask 0 (waits shared (stamp 0 3 0) 0) ∷ []
+threeAsks = begin deskThree ∷ propose deskThree 0 shared ∷ ask 0 (waiting shared (stamp 0 3 0) 0) ∷ []
 
 -- Desk 1 writes under (0, 0.1.0).
 abbrev pub oneWrites : List Move
@@ -373,14 +374,14 @@ twoBelow = propose deskTwo 0 shared ∷ send (readUnder (stamp 0 2 0) (stamp 0 1
 
 -- Desk 1 proposes exclusive for card 1, which no command names, and asks there.
 abbrev pub oneElsewhere : List Move
-oneElsewhere = begin deskOne ∷ propose deskOne 1 exclusive ∷ ask 1 (waits exclusive 0 (stamp 0 1 0)) ∷ []
+oneElsewhere = begin deskOne ∷ propose deskOne 1 exclusive ∷ ask 1 (waiting exclusive 0 (stamp 0 1 0)) ∷ []
 
 -- Desk 3 asks for card 1, and desk 1 proposes (0.3.0, 0.1.0) for card 1.
 abbrev pub aboveElsewhere : List Move
 aboveElsewhere =
     begin deskThree
     ∷ propose deskThree 1 shared
-    ∷ ask 1 (waits shared (stamp 0 3 0) 0)
+    ∷ ask 1 (waiting shared (stamp 0 3 0) 0)
     ∷ learn deskOne 1 (pair (stamp 0 3 0) 0)
     ∷ propose deskOne 1 exclusive
     ∷ []
@@ -406,7 +407,7 @@ oneFarAbove =
     begin deskThree
     ∷ propose deskThree 0 shared
     ∷ propose deskThree 0 shared
-    ∷ ask 0 (waits shared (stamp 1 3 0) 0)
+    ∷ ask 0 (waiting shared (stamp 1 3 0) 0)
     ∷ begin deskOne
     ∷ learn deskOne 0 (pair (stamp 1 3 0) 0)
     ∷ propose deskOne 0 exclusive
@@ -428,7 +429,7 @@ pub record RulesNeeded : Type 0 where
   -- rule 10.8: an ask under a pair that nobody proposed, at a queue that was just lost: it is told, and learnt
   pub never-proposed-ask :
       BrokenBy (threeAsks ++ (begin deskOne ∷ begin deskTwo ∷ lose 0 0 (noWaiting ∷ noWaiting ∷ []) ∷ []))
-      (ask 0 (waits exclusive 0 (stamp 0 1 0)))
+      (ask 0 (waiting exclusive 0 (stamp 0 1 0)))
       (learn deskTwo 0 (pair 0 (stamp 0 1 0)) ∷ twoBelow ++ oneAbove)
   -- rule 10.1: desk 2 learns an x without the s beside it; a pair that was told for another card
   pub half-learnt :
@@ -454,9 +455,9 @@ pub record RulesNeeded : Type 0 where
       BrokenWith (threeAsks ++ (begin deskOne ∷ begin deskTwo ∷ [])) (withKnown deskTwo (λ k. pair 0 (stamp 0 1 0)))
       (twoBelow ++ oneAbove)
   pub stored :
-      BrokenWith [] (λ y. withStore V1 (serve V1 (y .image) (writeOriginal 0 (stamp 0 1 0) text205 .command) [] .image) (y .log) y)
+      BrokenWith [] (λ y. withStore V1 (serve V1 (y .store .image) (writeOriginal 0 (stamp 0 1 0) text205 .command) [] .image) (y .store .trace) y)
       (twoLearnsAt (send (readUnder (stamp 0 2 0) 0)) ++ oneFarAbove)
   pub queued :
       BrokenWith []
       (withQueue 0 0 (record { places = noWaiting ∷ noWaiting ∷ []; count = 0; largest = pair 0 (stamp 0 1 0) }))
-      (twoLearnsAt (ask 0 (waits shared (stamp 0 2 0) 0)) ++ (lose 0 0 (noWaiting ∷ noWaiting ∷ []) ∷ oneFarAbove))
+      (twoLearnsAt (ask 0 (waiting shared (stamp 0 2 0) 0)) ++ (lose 0 0 (noWaiting ∷ noWaiting ∷ []) ∷ oneFarAbove))

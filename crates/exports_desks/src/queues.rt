@@ -1,7 +1,8 @@
 // The lock queue of one card, for Rust and C.
 ghost use mathlib.Core.Path.{_≡_};
+ghost use Rattle.lock_queue.specs.Queue.{waiting};
 ghost use Rattle.lock_queue.specs.Requests.{asks, leaves, lapses};
-ghost use Rattle.lock_queue_lent.specs.Arrays.{waiting, queueOf, arrayTurn};
+ghost use Rattle.lock_queue_lent.specs.Arrays.{queueOf, arrayTurn};
 ghost use Rattle.exports_desks.specs.Expiries.{expiryOf};
 use lock_queue::Lease;
 use lock_queue::LeaseExpiry;

@@ -7,12 +7,11 @@ use mathlib.Core.Logic.{_⊎_, inl, inr}
 use lib.Dec.{T, T-not, eqb}
 use lib.ListN.{length}
 use borrow.Author.Tests.{ne-eqb}
-use Rattle.lists.specs.Le.{field}
 use Rattle.lists.proofs.Tests.{to-T, from-T, from-false, cases}
 use Rattle.stamps.specs.Stamp.{stampT, mostAhead}
 use Rattle.commands.specs.Command.{wellFormed}
-use Rattle.commands.specs.Bytes.{formed, fieldsOf}
-use Rattle.formats.specs.Format.{V2}
+use Rattle.commands.specs.Bytes.{extent, formed, fieldsOf}
+use Rattle.formats.specs.Format.{V1, V2}
 use Rattle.guard.specs.Entry.{entrySound, FitsEntry}
 use Rattle.guard.specs.Judge.{raise, judged}
 use Rattle.guard_claims.specs.Claims.{Judges, StaleStays, Parsing, Parses, CommandComesBack, BytesComeBack, OneCommandVersion}
@@ -80,6 +79,6 @@ bytes-come-back f bytes h t = command-fields f bytes h (from-T (formed f bytes) 
 pub oneCommandVersion : OneCommandVersion
 unfolding formed fieldsOf
 oneCommandVersion bytes holds =
-    let long : length bytes ≡ 68 + field 50 2 bytes = formedness V2 bytes (from-T (formed V2 bytes) holds) .whole in
-    let other : eqb (length bytes) (52 + field 50 2 bytes) ≡ false = ne-eqb (length bytes) (52 + field 50 2 bytes) (λ e. omega arith) in
+    let long : length bytes ≡ extent V2 bytes = formedness V2 bytes (from-T (formed V2 bytes) holds) .whole in
+    let other : eqb (length bytes) (extent V1 bytes) ≡ false = ne-eqb (length bytes) (extent V1 bytes) (λ e. omega arith) in
     rw other

@@ -12,9 +12,9 @@ use Rattle.formats.specs.Format.{V1, fixed}
 use Rattle.lists.specs.Parts.{concatMap}
 use Rattle.lists.specs.Search.{last}
 use Rattle.lists.proofs.Tests.{or-fails}
-use Rattle.commands.specs.Bytes.{fieldsOf, payload, formed}
+use Rattle.commands.specs.Bytes.{fieldsOf, payload, extent, formed}
 use Rattle.commands.proofs.CommandBytes.{length-payload}
-use Rattle.stream.specs.Stream.{extent, whole, commands, endOf}
+use Rattle.stream.specs.Stream.{whole, commands, endOf}
 use Rattle.stream.proofs.Place.{extent-fixed, extent-take, whole-out}
 use Rattle.stream.proofs.Commands.{along, commands-whole, commands-cut, end-whole, end-cut}
 use Rattle.stream.proofs.Walks as walk
@@ -41,7 +41,7 @@ sized-reverse [] kept h k = k
 sized-reverse (b ∷ l) kept h k = sized-reverse l (b ∷ kept) (h .1) (h .0, k)
 
 sized-first : (s : List ℕ) → whole V1 s ≡ true → length (payload V1 (take (extent V1 s) s)) ≡ fieldsOf V1 (take (extent V1 s) s) .length
-unfolding fieldsOf extent
+unfolding fieldsOf
 sized-first s h =
     let front = payload-first s h in
     let named = extent-take V1 (extent V1 s) s (extent-fixed V1 s) in

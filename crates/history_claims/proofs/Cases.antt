@@ -1,12 +1,12 @@
 -- The worked cases: by computation, and by the theorems where their hypotheses are met. Assumes nothing.
-use Prim.Native.Nat.{ℕ, zero, suc, _≤_}
+use Prim.Native.Nat.{ℕ, zero, suc, _+_, _≤_}
 use native.Mathlib.Omega.{arith}
 use mathlib.Core.Path.{_≡_, refl, sym, ap, _∙_}
-use mathlib.Core.List.{List, [], _∷_, reverse}
+use mathlib.Core.List.{List, [], _∷_, _++_, append-nil, map, reverse}
 use mathlib.Core.Bool.{Bool, true, false, cond, not, _||_}
 use borrow.Author.Tests.{le-ltb, ne-eqb}
 use lib.Dec.{T, ltb, eqb, lit≤}
-use lib.ListN.{length, replicate, length-replicate}
+use lib.ListN.{length, replicate, length-append, length-drop, length-replicate}
 use Rattle.formats.specs.Format.{V1, V2}
 use Rattle.lists.specs.Parts.{part, splice, tabulate, concatMap, every, zeros, Bytes}
 use Rattle.lists.specs.Le.{le, toLe}
@@ -20,7 +20,7 @@ use Rattle.guard.specs.Entry.{entrySound}
 use Rattle.guard.specs.Judge.{raise, entryRows}
 use Rattle.guard.specs.Replies.{replied}
 use Rattle.guard.specs.declared.Entry.{Entry}
-use Rattle.stream.specs.Stream.{extent, whole, commandsWithin, commands, endWithin, endOf}
+use Rattle.stream.specs.Stream.{whole, commandsWithin, commands, endWithin, endOf}
 use Rattle.image.specs.Layout.{shapeOk}
 use Rattle.image.specs.Bytes.{header, entryBytes, pad, readEntry, entryAt}
 use Rattle.image.specs.Image.{bodies, encode, cardAt, decode, tailZero, translationSound, cardSound, headerSound, sound, fresh}
@@ -34,7 +34,8 @@ use Rattle.history.specs.Lent.{historySize, keptIn, bytesBy, usedBy, historySer
 use Rattle.history.proofs.Raised.{entry-here}
 use Rattle.history_claims.specs.Claims.{keptAfter, engineEvent, engineEvents, engineTrace, gave22}
 use Rattle.history_claims.specs.Swaps.{swap, Apart, SameSequences}
-use Rattle.history_claims.specs.Cases.{KeptLimits, again, TwoHundred, wrote205, WorkedBytes, onCard, malformed, inLanguage3, gotLanguage3, ApartCases}
+use Rattle.history_claims.specs.Cases.{paying, KeptLimits, again, TwoHundred, wrote205, WorkedBytes, onCard, malformed, inLanguage3, gotLanguage3, ApartCases}
+use Rattle.history_claims.specs.Edges.{weighing, writesLong, HistoryEdges, HistoryWorked}
 use Rattle.store_model.proofs.ByTest.{bytes-by, sent-bytes}
 use Rattle.history_claims.proofs.Claims.{equals-guard, first-full}
 use Rattle.history_claims.proofs.Lent.{engine-over-bytes, lent-equals-guard}
@@ -42,13 +43,25 @@ use Rattle.history_claims.proofs.Swaps.{swapping}
 use Rattle.history_claims.proofs.Sequences.{sequences}
 use Rattle.numbers.specs.Numbers.{HISTORY-FULL}
 
-pub kept-limits : KeptLimits
-unfolding concatMap payload
-kept-limits = record { many = refl; too-many = refl; heavy = refl; too-heavy = refl }
+-- Payload bytes, by their number.
+paid : (n : ℕ) → length (payload V1 (paying n)) ≡ n
+unfolding payload
+paid n = length-drop 52 (paying n) ∙ rw (length-replicate {A = ℕ} (52 + n) 0) (omega arith)
 
-pub worked-bytes : WorkedBytes
+paid-behind : (n : ℕ) (command : List ℕ) → length (concatMap (payload V1) (command ∷ paying n ∷ [])) ≡ length (payload V1 command) + n
+unfolding concatMap
+paid-behind n command = rw (length-append (payload V1 command) (payload V1 (paying n) ++ []), append-nil (payload V1 (paying n)), paid n)
+
+over-behind : (m n : ℕ) → overLimits (paying m ∷ paying n ∷ []) ≡ ltb 32768 (m + n)
+over-behind m n = ap (λ (k : ℕ). ltb 32768 k) (paid-behind n (paying m) ∙ ap (λ (k : ℕ). k + n) (paid m))
+
+kept-limits : KeptLimits
+unfolding concatMap payload
+kept-limits = record { many = refl; too-many = refl; heavy = over-behind 32000 768; too-heavy = over-behind 32000 769 }
+
+worked-bytes : WorkedBytes
 unfolding historyServe keptIn bytesBy usedBy deduced deducedBy entryFrom textFrom highest timesWritten replied raise commands commandsWithin endOf
-    endWithin whole extent commandBytes formed payload fieldsOf wellFormed all allFrom le toLe part splice concatMap zeros
+    endWithin whole commandBytes formed payload fieldsOf wellFormed all allFrom le toLe part splice concatMap zeros
 worked-bytes =
     record {
       three = refl;
@@ -65,6 +78,47 @@ worked-bytes =
       told-second = refl;
       late-bytes = refl;
       late-reply = refl;
+    }
+
+-- Beside one kept command that weighs so many bytes, the number of a request goes by the sum.
+numberBeside : ℕ → List ℕ → ℕ
+numberBeside n command =
+    first (guardRows 1 16 (weighing n ∷ []) command 0 ++ (row (ltb 32768 (length (payload V1 command) + n)) HISTORY-FULL ∷ []))
+
+beside : (n : ℕ) (s : Sent) → deduced 1 16 (weighing n ∷ []) (s .command) [] .answer .number ≡ numberBeside n (s .command)
+unfolding deduced deducedBy replied numberBeside
+beside n s =
+    ap (λ (k : ℕ). first (guardRows 1 16 (weighing n ∷ []) (s .command) 0 ++ (row (ltb 32768 k) HISTORY-FULL ∷ []))) (paid-behind n (s .command))
+
+two-are : {a b c d : ℕ} → a ≡ c → b ≡ d → (a ∷ b ∷ []) ≡ (c ∷ d ∷ [])
+two-are {a} {b} {c} {d} p q = ap (λ (n : ℕ). n ∷ b ∷ []) p ∙ ap (λ (n : ℕ). c ∷ n ∷ []) q
+
+beside-two : numberBeside 32766 (writesLong 2 .command) ≡ 0
+unfolding numberBeside highest timesWritten entryFrom fieldsOf payload formed commandBytes wellFormed all allFrom le toLe part zeros
+beside-two = refl
+
+beside-three : numberBeside 32766 (writesLong 3 .command) ≡ 22
+unfolding numberBeside highest timesWritten entryFrom fieldsOf payload formed commandBytes wellFormed all allFrom le toLe part zeros
+beside-three = refl
+
+weights : map (λ (s : Sent). deduced 1 16 (weighing 32766 ∷ []) (s .command) [] .answer .number) (writesLong 2 ∷ writesLong 3 ∷ []) ≡ 0 ∷ 22 ∷ []
+weights = two-are (beside 32766 (writesLong 2) ∙ beside-two) (beside 32766 (writesLong 3) ∙ beside-three)
+
+-- What is worked out of the kept commands, field by field.
+history-edges : HistoryEdges
+unfolding highest timesWritten textFrom entryFrom deducedBy deduced replied fieldsOf payload formed commandBytes wellFormed all allFrom le toLe part splice concatMap zeros
+history-edges =
+    record {
+      entry0 = refl;
+      entry1 = refl;
+      entry2 = refl;
+      texts = refl;
+      translations = refl;
+      full = refl;
+      reply = refl;
+      untouched = refl;
+      two-cards = refl;
+      weights = weights;
     }
 
 -- ---- one command again and again
@@ -168,7 +222,7 @@ shape = tt
 zeros-long : length (replicate {A = ℕ} historySize 0) ≡ historySize
 zeros-long = length-replicate {A = ℕ} historySize 0
 
-pub two-hundred : TwoHundred
+two-hundred : TwoHundred
 unfolding engineTrace
 two-hundred =
     record {
@@ -270,7 +324,7 @@ unfolding run serve serveBy stepped sound headerSound cardSound translationSound
     header shapeOk fresh replied raise entrySound commandBytes formed payload fieldsOf wellFormed all allFrom le toLe part splice tabulate concatMap every zeros
 accepted-2 = refl
 
-pub apart-cases : ApartCases
+apart-cases : ApartCases
 unfolding swap commandBytes formed fieldsOf wellFormed all allFrom le toLe part splice zeros
 apart-cases =
     record {
@@ -290,3 +344,6 @@ apart-cases =
       languages-apart = swapping V2 (fresh V2 2 16) fresh-bytes-2 inLanguage3 all-bytes-2 0 apart-2;
       languages-accepted = accepted-2;
     }
+
+pub history-worked : HistoryWorked
+history-worked = (kept-limits, (two-hundred, (worked-bytes, (history-edges, apart-cases))))

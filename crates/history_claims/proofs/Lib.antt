@@ -7,5 +7,4 @@ pub mod Commute
 pub mod Swaps
 pub mod Sequences
 pub mod Cases
-pub mod Edges
 pub mod Uses

@@ -12,7 +12,28 @@ use Rattle.lists.specs.Search.{none}
 use Rattle.stamps.specs.Stamp.{shared, exclusive}
 use Rattle.image.specs.Image.{fresh}
 use Rattle.store_model.specs.Words.{Sent}
-use Rattle.store_model.specs.Cases.{pair, request, got, stamp1, stamp2, verify, verifyOpening, writeOriginal, writeTranslation, readOriginal, text205, text401, long, names, gotIn, letters, writesIn, readsIn, run, Got}
+use Rattle.store_model.specs.Cases.{
+  pair,
+  request,
+  got,
+  stamp1,
+  stamp2,
+  verify,
+  verifyOpening,
+  writeOriginal,
+  writeTranslation,
+  readOriginal,
+  text205,
+  text401,
+  long,
+  names,
+  gotIn,
+  letters,
+  writesIn,
+  readsIn,
+  run,
+  Got,
+}
 use Rattle.history.specs.Engine.{overLimits, deduced}
 use Rattle.history.specs.Lent.{historySize, keptIn, historyServe}
 use Rattle.history_claims.specs.Claims.{keptAfter, engineEvent, engineTrace, gave22, EqualSoFar, FirstRefusal}

@@ -1,5 +1,5 @@
 -- Worked cases of what the history engine works out of the kept commands, field by field, and of 22 behind every other
--- row (rules 14.5 to 14.9). Proved by computation in proofs/Edges.antt.
+-- row (rules 14.5 to 14.9). Proved by computation in proofs/Cases.antt.
 -- Assumes nothing.
 use Prim.Native.Nat.{ℕ, _+_}
 use mathlib.Core.Path.{_≡_}
@@ -12,6 +12,7 @@ use Rattle.store_model.specs.Words.{Sent}
 use Rattle.store_model.specs.Cases.{pair, stamp1, stamp2, stamp3, markOf, withPairs, sends, verify, text205, text401, request, long, got, Got}
 use Rattle.history.specs.WorkedOut.{entryFrom, textFrom}
 use Rattle.history.specs.Engine.{deduced}
+use Rattle.history_claims.specs.Cases.{KeptLimits, TwoHundred, WorkedBytes, ApartCases}
 
 -- A kept command by act, card, update pair, next mark, edition and text; its verifier and its expected mark are not
 -- looked at.
@@ -108,3 +109,7 @@ pub record HistoryEdges : Type 0 where
       ∷ []
   -- rules 14.2 and 14.7: beside 32,766 kept payload bytes a write of two is accepted, and one of three is not
   pub weights : map (λ (s : Sent). deduced 1 16 (weighing 32766 ∷ []) (s .command) [] .answer .number) (writesLong 2 ∷ writesLong 3 ∷ []) ≡ 0 ∷ 22 ∷ []
+
+-- The worked cases of the history engine, as one table.
+abbrev pub HistoryWorked : Type 0
+HistoryWorked = KeptLimits × (TwoHundred × (WorkedBytes × (HistoryEdges × ApartCases)))

@@ -7,9 +7,8 @@ use mathlib.Core.Bool.{true, false, _&&_}
 use borrow.Author.Tests.{eqb-true, not-false}
 use lib.Dec.{T, eqb, lit<}
 use lib.ListN.{length, getD, length-map}
-use Rattle.lists.specs.Le.{le, toLe}
-use Rattle.lists.specs.Parts.{part, concatMap, tabulate, every, zeros, Bytes}
-use Rattle.lists.specs.Table.{all, allFrom, applies}
+use Rattle.lists.specs.Parts.{Bytes}
+use Rattle.lists.specs.Table.{applies}
 use Rattle.lists.proofs.Bytes.{Bytes-nil}
 use Rattle.lists.proofs.Table.{unapplied, none-applies}
 use Rattle.lists.proofs.Tests.{to-T, and-left, and-right}
@@ -17,7 +16,7 @@ use Rattle.guard.specs.Entry.{entrySound, noEntry, FitsEntry}
 use Rattle.guard.specs.declared.Entry.{Entry}
 use Rattle.formats.specs.Format.{V1, V2}
 use Rattle.image.specs.Layout.{shapeOk, sizeOf}
-use Rattle.image.specs.Bytes.{header, entryBytes, pad, readEntry, entryAt, countOf, roomOf}
+use Rattle.image.specs.Bytes.{countOf, roomOf}
 use Rattle.image.specs.Image.{
   Card,
   Cards,
@@ -26,14 +25,9 @@ use Rattle.image.specs.Image.{
   noCard,
   view,
   sideText,
-  bodies,
   encode,
   decode,
   cardAt,
-  tailZero,
-  translationSound,
-  cardSound,
-  headerSound,
   sound,
   makes,
   GoodCard,
@@ -45,7 +39,7 @@ use Rattle.image.proofs.Cards.{count-back, room-back, cardAt-encode}
 use Rattle.image.proofs.Decode.{count-decode, room-decode, card-decode}
 use Rattle.image.proofs.Encode.{length-encode}
 use Rattle.image_claims.specs.Claims.{Encodes}
-use Rattle.image_claims.specs.Conversion.{Keeps, Conversion, ConvertCases}
+use Rattle.image_claims.specs.Conversion.{Keeps, Conversion}
 use Rattle.image_claims.proofs.Claims.{soundReadsBack, goodEncodes, fits-none, sound-none}
 
 pub getD-map : (cards : List Card) (k : ℕ) → k < length cards → getD (map widened cards) k (noCard V2) ≡ widened (getD cards k (noCard V1))
@@ -147,10 +141,3 @@ conversion image lent b e =
 
     back : Encodes V2 wide
     back = goodEncodes V2 wide good
-
--- ---- the worked cases, by computation
-
-pub convert-cases : ConvertCases
-unfolding converted decode cardAt sound headerSound cardSound translationSound tailZero entryAt readEntry encode bodies pad entryBytes header makes
-    shapeOk entrySound all allFrom le toLe part concatMap tabulate every zeros
-convert-cases = record { image = refl; two = refl; numbers = refl; twelve = refl; thirteen = refl }

@@ -15,7 +15,25 @@ use Rattle.formats.specs.Format.{Format, V1, V2}
 use Rattle.image.specs.Layout.{shapeOk, sizeOf, headerSize}
 use Rattle.guard.specs.Entry.{entrySound}
 use Rattle.image.specs.Bytes.{versionOf, countOf, roomOf, header, entryBytes, pad, readEntry, entryAt}
-use Rattle.image.specs.Image.{GoodCards, noTranslation, bodies, encode, cardAt, decode, tailZero, translationSound, cardSound, headerSound, sound, fresh, freshCards, makes, makeNumber, translationOf, goodFront}
+use Rattle.image.specs.Image.{
+  GoodCards,
+  noTranslation,
+  bodies,
+  encode,
+  cardAt,
+  decode,
+  tailZero,
+  translationSound,
+  cardSound,
+  headerSound,
+  sound,
+  fresh,
+  freshCards,
+  makes,
+  makeNumber,
+  translationOf,
+  goodFront,
+}
 use Rattle.image.specs.Convert.{widenedCards, converted, convertNumber}
 use Rattle.image_claims.specs.Claims.{makeNumbers}
 use Rattle.image_claims.specs.Conversion.{Converts}

@@ -161,5 +161,5 @@ changes =
     ∷ changed 79 1 false
     ∷ []
 
-abbrev pub Changes : Type 0
-Changes = map (λ (a : Changed). sound V1 (set (encode V1 oneCard) (a .place) (a .byte))) changes ≡ map (λ (a : Changed). a .sounds) changes
+abbrev pub ByteChanges : Type 0
+ByteChanges = map (λ (a : Changed). sound V1 (set (encode V1 oneCard) (a .place) (a .byte))) changes ≡ map (λ (a : Changed). a .sounds) changes

@@ -1,6 +1,6 @@
 -- Worked cases of every layout, in bytes: commands, entries and whole images of both versions, with a number of its
 -- own in each field, so that no two fields can be exchanged unnoticed (rules 1.1, 2.3 to 2.5, 3.1, 3.4 and 15.3 to
--- 15.6). Proved by computation in proofs/Layouts.antt.
+-- 15.6); and all worked cases of images as one table. Proved by computation in proofs/Cases.antt.
 -- Assumes nothing.
 use Prim.Native.Nat.{ℕ, suc, _+_}
 use mathlib.Core.Path.{_≡_}
@@ -15,6 +15,8 @@ use Rattle.commands.specs.Bytes.{fieldsOf, payload, formed, commandBytes}
 use Rattle.image.specs.Layout.{entryPlace, bodyPlace}
 use Rattle.image.specs.Bytes.{readEntry}
 use Rattle.image.specs.Image.{Cards, Translation, encode, decode, sound, fresh}
+use Rattle.image_claims.specs.Cases.{Limits, SecondLimits, ByteChanges}
+use Rattle.image_claims.specs.Conversion.{ConvertCases}
 
 -- 1, 2, 3, .. up to n.
 abbrev pub rising : ℕ → List ℕ
@@ -265,3 +267,7 @@ pub record LayoutCases : Type 0 where
   -- rules 2.4, 2.5, 15.3 and 15.4: where entry 2 and the bodies of card 2 stand, among three cards with room 32
   pub places1 : entryPlace V1 2 ∷ bodyPlace V1 3 32 2 0 ∷ bodyPlace V1 3 32 2 1 ∷ [] ≡ 80 ∷ 240 ∷ 272 ∷ []
   pub places2 : entryPlace V2 2 ∷ map (bodyPlace V2 3 32 2) (0 ∷ 1 ∷ 2 ∷ 3 ∷ 4 ∷ []) ≡ 112 ∷ 480 ∷ 512 ∷ 544 ∷ 576 ∷ 608 ∷ []
+
+-- One table of the worked cases of images: limits of both versions, changed bytes, layouts and conversions.
+abbrev pub ImageCases : Type 0
+ImageCases = Limits × (SecondLimits × (ByteChanges × (LayoutCases × ConvertCases)))

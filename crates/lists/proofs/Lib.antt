@@ -3,6 +3,7 @@ pub mod Parts
 pub mod Bytes
 pub mod ConcatMap
 pub mod Every
+pub mod Runs
 pub mod Table
 pub mod Le
 pub mod Claims

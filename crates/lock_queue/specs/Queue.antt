@@ -30,6 +30,10 @@ state q = record { places = q .places .at; count = q .count; largest = q .larges
 abbrev pub noWaiting : Waiting
 noWaiting = record { mode = 0; pair = noPair }
 
+-- A place by its three numbers: the mode, s and x.
+abbrev pub waiting : ℕ → ℕ → ℕ → Waiting
+waiting mode s x = record { mode = mode; pair = record { s = s; x = x } }
+
 -- Rule 7.3: an empty queue, over any places. None of them is taken, and nothing was accepted yet.
 abbrev pub emptyQueue : List Waiting → State
 emptyQueue places = record { places = places; count = 0; largest = noPair }

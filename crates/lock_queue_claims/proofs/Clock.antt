@@ -28,7 +28,7 @@ use lib.IntN.{ℤ, pos, negsuc}
 use lib.Dec.{T, ltb, leb, eqb, ltb→lt, lt→ltb, leb→le, eqb→eq, eqb·suc-zero}
 use lib.Pow.{pow-add, pow-pos, pow-mono, pow-lt, shl-lt}
 use lib.Ieee.{Float, nan, inf, fin, Format, binary64, prec, emax, low, up, down, odd, units, round, sum, add, sub, mul, div, lt, le, fits, ofInt}
-use lib.Ieee.Fits.{reach, up-pos, down-pos, and-l, and-r}
+use lib.Ieee.Fits.{reach, down-pos, and-l, and-r}
 use lib.Ieee.Exact.{HasValue, round-exact}
 use lib.Ieee.Order.{le-of-values, round-mono}
 use lib.Ieee.Positive.{num, den, den-pos, positive, own-value, value-pos, above, above-of-le, le→cross, le-trans-positive, through}

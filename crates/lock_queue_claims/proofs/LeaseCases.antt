@@ -11,28 +11,35 @@ use Rattle.lock_queue.specs.Queue.{stands}
 use Rattle.lock_queue.specs.Good.{distinct, good}
 use Rattle.lock_queue.specs.Requests.{leaves, lapses, number, after}
 use Rattle.lock_queue.specs.declared.LeaseExpiry.{LeaseExpiry}
-use Rattle.lock_queue_claims.specs.LeaseCases.{oneStands, silent, LeaseEnds, LeaseLimits, TimeLimits, LeaseSpecials, LeaseOrder}
+use Rattle.lock_queue_claims.specs.LeaseCases.{oneStands, silent, LeaseEnds, LeaseLimits, TimeLimits, LeaseSpecials, LeaseOrder, LeaseTimes, LeaseCases}
 use Rattle.lock_queue_claims.proofs.Leases.{lapses-exactly, leaves-as-leaving, no-number, clock-back, back-waits}
 
-pub lease-ends : LeaseEnds
+lease-ends : LeaseEnds
 unfolding number good all allFrom distinct stands ofBits ofInt wholeFloat half add sub mul div neg lt le
 lease-ends = refl
 
-pub lease-limits : LeaseLimits
+lease-limits : LeaseLimits
 unfolding number good all allFrom distinct stands ofBits ofInt wholeFloat half add sub mul div neg lt le
 lease-limits = refl
 
-pub time-limits : TimeLimits
+time-limits : TimeLimits
 unfolding number good all allFrom distinct stands ofBits ofInt wholeFloat half add sub mul div neg lt le
 time-limits = refl
 
-pub lease-specials : LeaseSpecials
+lease-specials : LeaseSpecials
 unfolding number good all allFrom distinct stands ofBits ofInt wholeFloat half add sub mul div neg lt le
 lease-specials = refl
 
-pub lease-order : LeaseOrder
+lease-order : LeaseOrder
 unfolding number good all allFrom distinct stands ofBits ofInt wholeFloat half add sub mul div neg lt le
 lease-order = refl
+
+lease-times : LeaseTimes
+unfolding ofBits ofInt wholeFloat half add sub mul div neg lt le
+lease-times = record { over = refl; sooner = refl; last = refl; waits-45 = refl; waits-30 = refl }
+
+pub lease-cases : LeaseCases
+lease-cases = record { ends = lease-ends; terms = lease-limits; times = time-limits; specials = lease-specials; order = lease-order; waits = lease-times }
 
 -- ---- each hypothesis of a claim is met by a case
 

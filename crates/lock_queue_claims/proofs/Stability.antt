@@ -1,16 +1,15 @@
 -- The claims on the lock over time. A queue is read from the front: whether the lock comes to a desk depends on whether
 -- anybody stands before it, and on whether an exclusive entry does. Assumes nothing.
-use Prim.Native.Nat.{ℕ, zero, suc, _≤_, _<_}
+use Prim.Native.Nat.{ℕ, zero, suc, _≤_}
 use native.Mathlib.Omega.{arith}
 use mathlib.Core.Path.{_≡_, refl, sym, ap, subst, _∙_}
-use mathlib.Core.Logic.{_⊎_, inl, inr}
 use mathlib.Core.List.{List, [], _∷_, _++_}
 use mathlib.Core.Bool.{Bool, true, false, cond, not, _&&_, _||_, and-false, and-true}
 use borrow.Author.Tests.{eqb-true, eqb-false, eq-eqb, ne-eqb, lt-ltb, le-ltb, not-true}
 use lib.Dec.{T, ltb, eqb, leb·suc-suc, eqb·suc-zero}
 use lib.ListN.{length, take, getD}
 use Rattle.lists.specs.Search.{any, none}
-use Rattle.lists.proofs.Tests.{cases, to-T, from-T, and-in, and-left, and-right, or-fails, never-both, not-in}
+use Rattle.lists.proofs.Tests.{to-T, from-T, and-in, and-left, and-right, or-fails, never-both, not-in}
 use Rattle.stamps.specs.Stamp.{exclusive}
 use Rattle.lock_queue.specs.Queue.{State, noWaiting, standing, desk, desks, stands, firstPlace, noExclusive, holdsAt, holds}
 use Rattle.lock_queue.specs.Good.{good}

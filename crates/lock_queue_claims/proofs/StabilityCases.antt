@@ -1,9 +1,8 @@
 -- The lock over time, by computation, and the theorems used where their hypotheses only just hold: no request at all, a
 -- refused one about the desk, the last time of the range, -0. Assumes nothing.
-use Prim.Native.Nat.{_≤_}
 use native.Mathlib.Omega.{arith}
 use mathlib.Core.Path.{_≡_, refl}
-use mathlib.Core.List.{[], _∷_}
+use mathlib.Core.List.{[]}
 use mathlib.Core.Bool.{true}
 use lib.Dec.{T}
 use lib.Ieee.{binary64, ofBits, ofInt, add, sub, mul, div, neg, lt, le, fits}
@@ -14,12 +13,12 @@ use Rattle.stamps.specs.Stamp.{stamp}
 use Rattle.lock_queue.specs.Queue.{standing, stands, firstPlace, noExclusive, holdsAt, holds}
 use Rattle.lock_queue.specs.Good.{distinct, good}
 use Rattle.lock_queue.specs.Lease.{wait, expired}
-use Rattle.lock_queue.specs.Requests.{asks, joined, removed, without, upgrading, queueJoined, number, after}
+use Rattle.lock_queue.specs.Requests.{joined, removed, without, upgrading, queueJoined, number, after}
 use Rattle.lock_queue_claims.specs.Traces.{queueAfter, granted}
-use Rattle.lock_queue_claims.specs.Trials.{guest, numbers}
+use Rattle.lock_queue_claims.specs.Trials.{numbers}
 use Rattle.lock_queue_claims.specs.LeaseCases.{oneStands, silent}
 use Rattle.lock_queue_claims.specs.Stability.{inFront}
-use Rattle.lock_queue_claims.specs.StabilityCases.{threeStand, others, LockCases, LeaseTimes}
+use Rattle.lock_queue_claims.specs.StabilityCases.{threeStand, others, LockCases}
 use Rattle.lock_queue_claims.proofs.Clock.{over-for-good, waits-period}
 use Rattle.lock_queue_claims.proofs.Stability.{somebody-holds, lock-kept, no-overtaking}
 
@@ -40,10 +39,6 @@ lock-cases =
       lapsed = refl;
       next = refl;
     }
-
-pub lease-times : LeaseTimes
-unfolding ofBits ofInt wholeFloat half add sub mul div neg lt le
-lease-times = record { over = refl; sooner = refl; last = refl; waits-45 = refl; waits-30 = refl }
 
 -- ---- the theorems, used
 

@@ -10,35 +10,38 @@ use Rattle.stamps.specs.Stamp.{stamp, exclusive}
 use Rattle.lock_queue.specs.declared.Waiting.{Waiting}
 use Rattle.lists.specs.Parts.{tabulate}
 use Rattle.lists.specs.Table.{all, allFrom}
-use Rattle.lock_queue.specs.Queue.{mostPlaces, emptyQueue, standing, desk, stands, firstPlace, looked, noExclusive, holdsAt, holds}
+use Rattle.lock_queue.specs.Queue.{mostPlaces, waiting, emptyQueue, standing, desk, stands, firstPlace, looked, noExclusive, holdsAt, holds}
 use Rattle.lock_queue.specs.Good.{distinct, good}
 use Rattle.lock_queue.specs.Requests.{asks, leaves, joined, removed, without, upgrading, queueJoined, answered, number, after, answer}
 use Rattle.lock_queue_claims.specs.Traces.{queueAfter, granted, largestAsked, lasting}
-use Rattle.lock_queue_claims.specs.Trials.{numbers, guest, asker, twoShared, unused, traceSent, TrialN, TrialUpgrade, TrialUpgraded, TrialTrace}
+use Rattle.lock_queue_claims.specs.Trials.{numbers, guest, twoShared, unused, traceSent, TrialN, TrialUpgrade, TrialUpgraded, TrialTrace, QueueTrials}
 use Rattle.lock_queue_claims.proofs.Upgrades.{twelve-means, upgrade-by-pair, upgrade-never-full, upgrade-is-both, newcomer-joins-end, newcomer-holds}
 use Rattle.lock_queue_claims.proofs.Traces.{empty-good, largest-accepted, standing-accepted}
 
-pub trial-n : TrialN
+trial-n : TrialN
 unfolding numbers number after upgrading queueJoined good all allFrom distinct stands joined without removed tabulate
 trial-n = refl
 
-pub trial-upgrade : TrialUpgrade
+trial-upgrade : TrialUpgrade
 unfolding numbers number after upgrading queueJoined firstPlace good all allFrom distinct stands joined without removed
 trial-upgrade = refl
 
-pub trial-upgraded : TrialUpgraded
+trial-upgraded : TrialUpgraded
 unfolding number after answer answered holds holdsAt noExclusive looked upgrading queueJoined firstPlace good all allFrom distinct stands joined without removed
 trial-upgraded = (refl, refl)
 
-pub trial-trace : TrialTrace
+trial-trace : TrialTrace
 unfolding numbers granted largestAsked lasting number after upgrading queueJoined firstPlace good all allFrom distinct stands joined without removed
 trial-trace = (refl, refl, refl)
+
+pub queue-trials : QueueTrials
+queue-trials = record { full = trial-n; upgrades = trial-upgrade; upgraded = trial-upgraded; trace = trial-trace }
 
 -- ---- each hypothesis of a claim is met by a case
 
 -- Desk 1 of `twoShared` asks for exclusive, with every place taken.
 abbrev raise : Waiting
-raise = asker exclusive (stamp 2 2 0) (stamp 1 1 0)
+raise = waiting exclusive (stamp 2 2 0) (stamp 1 1 0)
 
 raised : number 2 twoShared (asks raise) ≡ 0
 unfolding upgrading firstPlace good all allFrom distinct stands
@@ -46,7 +49,7 @@ raised = upgrade-by-pair 2 twoShared raise (to-T refl) (to-T refl) (to-T refl)
 
 -- With too small an x it is denied, and not told that the queue is full.
 abbrev low : Waiting
-low = asker exclusive (stamp 1 1 0) (stamp 1 1 0)
+low = waiting exclusive (stamp 1 1 0) (stamp 1 1 0)
 
 lowered : number 2 twoShared (asks low) ≡ 11
 unfolding upgrading firstPlace good all allFrom distinct stands

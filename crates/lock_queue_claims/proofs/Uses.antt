@@ -11,11 +11,11 @@ use lib.ListN.{length, drop, getD}
 use Rattle.lists.proofs.Tests.{to-T}
 use Rattle.lists.specs.Table.{all, allFrom, noRow, listed}
 use Rattle.stamps.specs.Stamp.{stamp, shared, exclusive}
-use Rattle.lock_queue.specs.Queue.{noWaiting, emptyQueue, longer, standing, stands, firstPlace, noExclusive, holdsAt, holds}
+use Rattle.lock_queue.specs.Queue.{noWaiting, waiting, emptyQueue, longer, standing, stands, firstPlace, noExclusive, holdsAt, holds}
 use Rattle.lock_queue.specs.Good.{distinct, good}
 use Rattle.lock_queue.specs.Requests.{asks, leaves, lapses, queueRows, modeOf, removed, without, upgrading, number, after, answer}
 use Rattle.lock_queue.specs.declared.Waiting.{Waiting}
-use Rattle.lock_queue_claims.specs.Trials.{guest, asker, twoShared}
+use Rattle.lock_queue_claims.specs.Trials.{guest, twoShared}
 use Rattle.lock_queue_claims.specs.Claims.{askNumbers, leaveNumbers, lapseNumbers}
 use Rattle.lock_queue_claims.specs.LeaseCases.{silent}
 use Rattle.lock_queue_claims.specs.Answers.{seat, given, fourStand}
@@ -56,7 +56,7 @@ leaves-none = refl
 
 -- Desk 1's upgrade, with every place taken.
 abbrev raise : Waiting
-raise = asker exclusive (stamp 2 2 0) (stamp 1 1 0)
+raise = waiting exclusive (stamp 2 2 0) (stamp 1 1 0)
 
 raised : number 2 twoShared (asks raise) ≡ 0
 unfolding number upgrading firstPlace good all allFrom distinct stands
@@ -100,7 +100,7 @@ freed : getD (after 2 twoShared (leaves (seat 1)) .places) 1 (guest 9) ≡ noWai
 freed = freed-zeroed 2 twoShared (seat 1) (guest 9) (omega arith) leaves-one
 
 -- The fifth place of five, past the four that stood.
-others : drop 4 (after 5 fourStand (leaves (seat 2)) .places) ≡ asker 9 2 2 ∷ []
+others : drop 4 (after 5 fourStand (leaves (seat 2)) .places) ≡ waiting 9 2 2 ∷ []
 unfolding number after firstPlace good all allFrom distinct stands without removed
 others = others-kept 5 fourStand (leaves (seat 2)) (omega arith) .0
 

@@ -7,11 +7,11 @@ use mathlib.Core.List.{List, [], _∷_, map}
 use mathlib.Core.Bool.{Bool, true, false}
 use lib.ListN.{replicate}
 use Rattle.stamps.specs.Stamp.{stamp, shared, exclusive}
-use Rattle.lock_queue.specs.Queue.{State, noWaiting, standing, desks, holds}
+use Rattle.lock_queue.specs.Queue.{State, noWaiting, waiting, standing, desks, holds}
 use Rattle.lock_queue.specs.Requests.{Request, asks, leaves, lapses, number, after, answer}
 use Rattle.lock_queue.specs.declared.LockAnswer.{LockAnswer}
 use Rattle.lock_queue.specs.declared.Waiting.{Waiting}
-use Rattle.lock_queue_claims.specs.Trials.{guest, asker, twoShared}
+use Rattle.lock_queue_claims.specs.Trials.{guest, twoShared}
 use Rattle.lock_queue_claims.specs.LeaseCases.{oneStands, silent, absent}
 
 -- An answer by its numbers: number, whether the desk holds the lock, the largest s and x, how many entries were looked
@@ -40,11 +40,11 @@ seat n = stamp 0 n 0
 abbrev pub TableUpgrade : Type 0
 TableUpgrade =
     stages 2 twoShared
-    (asks (asker exclusive (stamp 1 1 0) (stamp 1 1 0))
-    ∷ asks (asker exclusive (stamp 2 2 0) (stamp 1 1 0))
-    ∷ asks (asker exclusive (stamp 2 2 0) (stamp 2 1 0))
-    ∷ asks (asker shared (stamp 3 2 0) (stamp 1 1 0))
-    ∷ asks (asker shared (stamp 3 3 0) (stamp 1 1 0))
+    (asks (waiting exclusive (stamp 1 1 0) (stamp 1 1 0))
+    ∷ asks (waiting exclusive (stamp 2 2 0) (stamp 1 1 0))
+    ∷ asks (waiting exclusive (stamp 2 2 0) (stamp 2 1 0))
+    ∷ asks (waiting shared (stamp 3 2 0) (stamp 1 1 0))
+    ∷ asks (waiting shared (stamp 3 3 0) (stamp 1 1 0))
     ∷ leaves (seat 3)
     ∷ leaves (seat 2)
     ∷ [])
@@ -60,12 +60,12 @@ TableUpgrade =
 -- The order of rule 7.6 on the same queue: 1 before 12, 12 before 11, 11 before 13.
 abbrev pub TableOrder : Type 0
 TableOrder =
-    map (answer 2 (after 2 twoShared (asks (asker exclusive (stamp 2 2 0) (stamp 1 1 0)))))
-    (asks (asker shared (stamp 3 2 0) 1)
-    ∷ asks (asker shared (stamp 3 2 0) 0)
-    ∷ asks (asker exclusive (stamp 1 3 0) (stamp 1 3 0))
-    ∷ asks (asker shared (stamp 3 3 0) 0)
-    ∷ asks (asker shared (stamp 3 3 0) (stamp 1 1 0))
+    map (answer 2 (after 2 twoShared (asks (waiting exclusive (stamp 2 2 0) (stamp 1 1 0)))))
+    (asks (waiting shared (stamp 3 2 0) 1)
+    ∷ asks (waiting shared (stamp 3 2 0) 0)
+    ∷ asks (waiting exclusive (stamp 1 3 0) (stamp 1 3 0))
+    ∷ asks (waiting shared (stamp 3 3 0) 0)
+    ∷ asks (waiting shared (stamp 3 3 0) (stamp 1 1 0))
     ∷ [])
     ≡ given 1 false 0 0 0
     ∷ given 12 true (stamp 2 2 0) (stamp 1 1 0) 1
@@ -80,7 +80,7 @@ TableOrder =
 abbrev pub oneOfThree : State
 oneOfThree =
     record {
-      places = asker shared (stamp 5 1 0) (stamp 4 1 0) ∷ noWaiting ∷ asker 7 1 1 ∷ [];
+      places = waiting shared (stamp 5 1 0) (stamp 4 1 0) ∷ noWaiting ∷ waiting 7 1 1 ∷ [];
       count = 1;
       largest = record { s = stamp 5 1 0; x = stamp 4 1 0 };
     }
@@ -90,11 +90,11 @@ oneOfThree =
 abbrev pub TablePairs : Type 0
 TablePairs =
     map (answer 3 oneOfThree)
-    (asks (asker shared (stamp 1 2 0) (stamp 4 1 0))
-    ∷ asks (asker shared (stamp 6 2 0) (stamp 3 65535 65535))
-    ∷ asks (asker exclusive (stamp 5 1 0) (stamp 4 2 0))
-    ∷ asks (asker exclusive (stamp 4 9 0) (stamp 6 2 0))
-    ∷ asks (asker exclusive (stamp 6 1 0) (stamp 3 2 0))
+    (asks (waiting shared (stamp 1 2 0) (stamp 4 1 0))
+    ∷ asks (waiting shared (stamp 6 2 0) (stamp 3 65535 65535))
+    ∷ asks (waiting exclusive (stamp 5 1 0) (stamp 4 2 0))
+    ∷ asks (waiting exclusive (stamp 4 9 0) (stamp 6 2 0))
+    ∷ asks (waiting exclusive (stamp 6 1 0) (stamp 3 2 0))
     ∷ [])
     ≡ given 0 true (stamp 5 1 0) (stamp 4 1 0) 1
     ∷ given 11 false (stamp 5 1 0) (stamp 4 1 0) 1
@@ -106,8 +106,8 @@ TablePairs =
 -- An accepted ask takes the first free place, and what stands past it stays.
 abbrev pub TakesPlace : Type 0
 TakesPlace =
-    after 3 oneOfThree (asks (asker shared (stamp 6 2 0) (stamp 4 1 0))) .places
-    ≡ asker shared (stamp 5 1 0) (stamp 4 1 0) ∷ asker shared (stamp 6 2 0) (stamp 4 1 0) ∷ asker 7 1 1 ∷ []
+    after 3 oneOfThree (asks (waiting shared (stamp 6 2 0) (stamp 4 1 0))) .places
+    ≡ waiting shared (stamp 5 1 0) (stamp 4 1 0) ∷ waiting shared (stamp 6 2 0) (stamp 4 1 0) ∷ waiting 7 1 1 ∷ []
 
 -- ---- Leaving from the middle (rule 7.13), and who holds (rule 7.5).
 
@@ -115,7 +115,7 @@ TakesPlace =
 abbrev pub fourStand : State
 fourStand =
     record {
-      places = guest 1 ∷ guest 2 ∷ asker exclusive (stamp 2 2 0) (stamp 3 3 0) ∷ asker shared (stamp 4 4 0) (stamp 3 3 0) ∷ asker 9 2 2 ∷ [];
+      places = guest 1 ∷ guest 2 ∷ waiting exclusive (stamp 2 2 0) (stamp 3 3 0) ∷ waiting shared (stamp 4 4 0) (stamp 3 3 0) ∷ waiting 9 2 2 ∷ [];
       count = 4;
       largest = record { s = stamp 4 4 0; x = stamp 3 3 0 };
     }
@@ -124,7 +124,7 @@ abbrev pub LeavesMiddle : Type 0
 LeavesMiddle =
     after 5 fourStand (leaves (seat 2))
     ≡ record {
-      places = guest 1 ∷ asker exclusive (stamp 2 2 0) (stamp 3 3 0) ∷ asker shared (stamp 4 4 0) (stamp 3 3 0) ∷ noWaiting ∷ asker 9 2 2 ∷ [];
+      places = guest 1 ∷ waiting exclusive (stamp 2 2 0) (stamp 3 3 0) ∷ waiting shared (stamp 4 4 0) (stamp 3 3 0) ∷ noWaiting ∷ waiting 9 2 2 ∷ [];
       count = 3;
       largest = record { s = stamp 4 4 0; x = stamp 3 3 0 };
     }
@@ -159,16 +159,16 @@ badQueues =
     ∷ lentQueue 2 (replicate 2 noWaiting) 0 0 1
     -- entries that could not be asked for: no mode, mode 3, shared without s, exclusive without x, an x without a desk
     ∷ lentQueue 1 (noWaiting ∷ []) 1 (stamp 2 2 0) (stamp 2 2 0)
-    ∷ lentQueue 1 (asker 3 (stamp 1 1 0) (stamp 1 1 0) ∷ []) 1 (stamp 2 2 0) (stamp 2 2 0)
-    ∷ lentQueue 1 (asker shared 0 (stamp 1 1 0) ∷ []) 1 (stamp 2 2 0) (stamp 2 2 0)
-    ∷ lentQueue 1 (asker exclusive (stamp 1 1 0) 0 ∷ []) 1 (stamp 2 2 0) (stamp 2 2 0)
-    ∷ lentQueue 1 (asker shared (stamp 1 1 0) 5 ∷ []) 1 (stamp 2 2 0) (stamp 2 2 0)
+    ∷ lentQueue 1 (waiting 3 (stamp 1 1 0) (stamp 1 1 0) ∷ []) 1 (stamp 2 2 0) (stamp 2 2 0)
+    ∷ lentQueue 1 (waiting shared 0 (stamp 1 1 0) ∷ []) 1 (stamp 2 2 0) (stamp 2 2 0)
+    ∷ lentQueue 1 (waiting exclusive (stamp 1 1 0) 0 ∷ []) 1 (stamp 2 2 0) (stamp 2 2 0)
+    ∷ lentQueue 1 (waiting shared (stamp 1 1 0) 5 ∷ []) 1 (stamp 2 2 0) (stamp 2 2 0)
     -- one desk twice, in one mode and in both
-    ∷ lentQueue 2 (guest 1 ∷ asker shared (stamp 2 1 0) 0 ∷ []) 2 (stamp 2 2 0) (stamp 2 2 0)
-    ∷ lentQueue 2 (guest 1 ∷ asker exclusive 0 (stamp 2 1 0) ∷ []) 2 (stamp 2 2 0) (stamp 2 2 0)
+    ∷ lentQueue 2 (guest 1 ∷ waiting shared (stamp 2 1 0) 0 ∷ []) 2 (stamp 2 2 0) (stamp 2 2 0)
+    ∷ lentQueue 2 (guest 1 ∷ waiting exclusive 0 (stamp 2 1 0) ∷ []) 2 (stamp 2 2 0) (stamp 2 2 0)
     -- an s, an x above the largest
     ∷ lentQueue 1 (guest 2 ∷ []) 1 (stamp 1 9 0) (stamp 2 2 0)
-    ∷ lentQueue 1 (asker exclusive 0 (stamp 2 2 0) ∷ []) 1 (stamp 2 2 0) (stamp 2 1 0)
+    ∷ lentQueue 1 (waiting exclusive 0 (stamp 2 2 0) ∷ []) 1 (stamp 2 2 0) (stamp 2 1 0)
     ∷ []
 
 -- Queues at the edge that are good: nothing in 1 and in 32 places, a full one, one place that is not looked at, a desk
@@ -178,15 +178,15 @@ goodQueues =
     lentQueue 1 (noWaiting ∷ []) 0 0 0
     ∷ lentQueue 32 (replicate 32 noWaiting) 0 0 0
     ∷ lentQueue 1 (guest 1 ∷ []) 1 (stamp 1 1 0) 0
-    ∷ lentQueue 2 (guest 1 ∷ asker 9 1 1 ∷ []) 1 (stamp 1 1 0) 0
-    ∷ lentQueue 2 (guest 1 ∷ asker shared (stamp 1 1 1) 0 ∷ []) 2 (stamp 1 1 1) 0
+    ∷ lentQueue 2 (guest 1 ∷ waiting 9 1 1 ∷ []) 1 (stamp 1 1 0) 0
+    ∷ lentQueue 2 (guest 1 ∷ waiting shared (stamp 1 1 1) 0 ∷ []) 2 (stamp 1 1 1) 0
     ∷ lentQueue 1 (noWaiting ∷ []) 0 (stamp 9 9 0) (stamp 9 9 9)
     ∷ []
 
 -- Of a bad queue every request gets 10 and nothing else: a well-formed ask, a malformed one, a leave, a lapse, in
 -- range and out of range. A good one answers 15 to the leave of a desk that does not stand.
 pub record QueuesJudged : Type 0 where
-  pub asks-10 : map (λ (b : LentQueue). answer (b .lent) (b .queue) (asks (asker exclusive (stamp 9 9 0) (stamp 9 9 0)))) badQueues ≡ replicate 14 (given 10 false 0 0 0)
+  pub asks-10 : map (λ (b : LentQueue). answer (b .lent) (b .queue) (asks (waiting exclusive (stamp 9 9 0) (stamp 9 9 0)))) badQueues ≡ replicate 14 (given 10 false 0 0 0)
   pub malformed-10 : map (λ (b : LentQueue). answer (b .lent) (b .queue) (asks noWaiting)) badQueues ≡ replicate 14 (given 10 false 0 0 0)
   pub leaves-10 : map (λ (b : LentQueue). answer (b .lent) (b .queue) (leaves (seat 1))) badQueues ≡ replicate 14 (given 10 false 0 0 0)
   pub lapses-10 : map (λ (b : LentQueue). answer (b .lent) (b .queue) (lapses (silent 0x3ff0_0000_0000_0000 0x0 0x0 0x3ff0_0000_0000_0000))) badQueues ≡ replicate 14 (given 10 false 0 0 0)
@@ -197,17 +197,17 @@ pub record QueuesJudged : Type 0 where
 abbrev pub TableMalformed : Type 0
 TableMalformed =
     map (λ (w : Waiting). number 1 (record { places = noWaiting ∷ []; count = 0; largest = record { s = 0; x = 0 } }) (asks w))
-    (asker 0 (stamp 1 1 0) (stamp 1 1 0)
-    ∷ asker 3 (stamp 1 1 0) (stamp 1 1 0)
-    ∷ asker shared 0 (stamp 1 1 0)
-    ∷ asker exclusive (stamp 1 1 0) 0
-    ∷ asker shared (stamp 1 0 9) 0
-    ∷ asker shared (stamp 1 1 0) 65535
-    ∷ asker exclusive 65535 (stamp 1 1 0)
-    ∷ asker shared (stamp 1 1 0) 0
-    ∷ asker shared (stamp 1 1 0) 65536
-    ∷ asker exclusive 0 (stamp 1 1 0)
-    ∷ asker exclusive 65536 65536
+    (waiting 0 (stamp 1 1 0) (stamp 1 1 0)
+    ∷ waiting 3 (stamp 1 1 0) (stamp 1 1 0)
+    ∷ waiting shared 0 (stamp 1 1 0)
+    ∷ waiting exclusive (stamp 1 1 0) 0
+    ∷ waiting shared (stamp 1 0 9) 0
+    ∷ waiting shared (stamp 1 1 0) 65535
+    ∷ waiting exclusive 65535 (stamp 1 1 0)
+    ∷ waiting shared (stamp 1 1 0) 0
+    ∷ waiting shared (stamp 1 1 0) 65536
+    ∷ waiting exclusive 0 (stamp 1 1 0)
+    ∷ waiting exclusive 65536 65536
     ∷ [])
     ≡ 1 ∷ 1 ∷ 1 ∷ 1 ∷ 1 ∷ 1 ∷ 1 ∷ 0 ∷ 0 ∷ 0 ∷ 0 ∷ []
 

@@ -3,10 +3,13 @@
 use Prim.Native.Nat.{ℕ}
 use mathlib.Core.Path.{_≡_}
 use mathlib.Core.List.{List, [], _∷_, map}
-use lib.Ieee.{binary64, ofBits}
+use mathlib.Core.Bool.{true, false}
+use lib.Ieee.{Float, binary64, ofBits}
 use Rattle.stamps.specs.Stamp.{stamp}
 use Rattle.lock_queue.specs.Queue.{State}
+use Rattle.lock_queue.specs.Lease.{wait, expired}
 use Rattle.lock_queue.specs.Requests.{lapses, number}
+use Rattle.lock_queue.specs.declared.Lease.{Lease}
 use Rattle.lock_queue.specs.declared.LeaseExpiry.{LeaseExpiry}
 use Rattle.lock_queue_claims.specs.Trials.{guest}
 
@@ -130,3 +133,31 @@ LeaseOrder =
     ∷ silent 0x0 0x0 0x0 0x0
     ∷ [])
     ≡ 15 ∷ 15 ∷ 21 ∷ 21 ∷ []
+
+-- A lease of 30 with a drift of 0.5, and with the smallest drift; a time by its bits.
+abbrev pub drifting : Lease
+drifting = silent 0x403e_0000_0000_0000 0x3fe0_0000_0000_0000 0x0 0x0 .lease
+
+abbrev pub steady : Lease
+steady = silent 0x403e_0000_0000_0000 0x1 0x0 0x0 .lease
+
+abbrev pub clock : ℕ → Float
+clock bits = ofBits binary64 bits
+
+-- Since 100: the first is over at 145, not at 144, and over at the last time of the range. Its wait is 45; that of the
+-- second is the period.
+pub record LeaseTimes : Type 0 where
+  pub over : expired drifting (clock 0x4059_0000_0000_0000) (clock 0x4062_2000_0000_0000) ≡ true
+  pub sooner : expired drifting (clock 0x4059_0000_0000_0000) (clock 0x4062_0000_0000_0000) ≡ false
+  pub last : expired drifting (clock 0x4059_0000_0000_0000) (clock 0x41cd_cd65_0000_0000) ≡ true
+  pub waits-45 : wait drifting ≡ clock 0x4046_8000_0000_0000
+  pub waits-30 : wait steady ≡ clock 0x403e_0000_0000_0000
+
+-- All of them: the end of a wait, the limits of the term and of the times, what is no number, the order of the rows, and the wait itself.
+pub record LeaseCases : Type 0 where
+  pub ends : LeaseEnds
+  pub terms : LeaseLimits
+  pub times : TimeLimits
+  pub specials : LeaseSpecials
+  pub order : LeaseOrder
+  pub waits : LeaseTimes

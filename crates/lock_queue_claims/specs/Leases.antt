@@ -1,5 +1,5 @@
 -- What is claimed of leaving by lease (rules 13.1 to 13.8), for any queue and any values of f64. Proved in proofs/Leases.antt. That a refusal changes
--- nothing, that each number comes exactly when its row applies, that a good queue stays good and all that Claims and Course say of any request hold
+-- nothing, that each number comes exactly when its row applies, that a good queue stays good and all that Claims and Traces say of any request hold
 -- of these requests too.
 -- Assumes nothing.
 use Prim.Native.Nat.{ℕ}

@@ -1,19 +1,15 @@
 -- Worked cases of the lock over time: requests of others leave it where it is, and a desk's own upgrade, leave and lapse
 -- do not. Proved by computation in proofs/StabilityCases.antt.
 -- Assumes nothing.
-use Prim.Native.Nat.{ℕ}
 use mathlib.Core.Path.{_≡_}
 use mathlib.Core.List.{List, [], _∷_}
 use mathlib.Core.Bool.{true, false}
-use lib.Ieee.{Float, binary64, ofBits}
 use Rattle.stamps.specs.Stamp.{stamp, shared, exclusive}
-use Rattle.lock_queue.specs.Queue.{State, noWaiting, standing, holds}
-use Rattle.lock_queue.specs.Lease.{wait, expired}
+use Rattle.lock_queue.specs.Queue.{State, noWaiting, waiting, standing, holds}
 use Rattle.lock_queue.specs.Requests.{Request, asks, leaves, lapses}
-use Rattle.lock_queue.specs.declared.Lease.{Lease}
 use Rattle.lock_queue.specs.declared.LeaseExpiry.{LeaseExpiry}
 use Rattle.lock_queue_claims.specs.Traces.{queueAfter}
-use Rattle.lock_queue_claims.specs.Trials.{guest, asker, twoShared, numbers}
+use Rattle.lock_queue_claims.specs.Trials.{guest, twoShared, numbers}
 use Rattle.lock_queue_claims.specs.LeaseCases.{silent}
 use Rattle.lock_queue_claims.specs.Stability.{untouched, inFront}
 
@@ -21,7 +17,7 @@ use Rattle.lock_queue_claims.specs.Stability.{untouched, inFront}
 abbrev pub threeStand : State
 threeStand =
     record {
-      places = guest 1 ∷ asker exclusive (stamp 1 1 0) (stamp 2 2 0) ∷ asker shared (stamp 3 3 0) (stamp 2 2 0) ∷ noWaiting ∷ [];
+      places = guest 1 ∷ waiting exclusive (stamp 1 1 0) (stamp 2 2 0) ∷ waiting shared (stamp 3 3 0) (stamp 2 2 0) ∷ noWaiting ∷ [];
       count = 3;
       largest = record { s = stamp 3 3 0; x = stamp 2 2 0 };
     }
@@ -39,11 +35,11 @@ oneLapses = silent 0x3ff0_0000_0000_0000 0x0 0x0 0x3ff0_0000_0000_0000
 -- lapses.
 abbrev pub others : List Request
 others =
-    asks (asker shared (stamp 4 4 0) (stamp 2 2 0))
+    asks (waiting shared (stamp 4 4 0) (stamp 2 2 0))
     ∷ asks (guest 5)
-    ∷ asks (asker shared (stamp 5 1 0) (stamp 2 2 0))
+    ∷ asks (waiting shared (stamp 5 1 0) (stamp 2 2 0))
     ∷ leaves (stamp 0 3 0)
-    ∷ asks (asker shared (stamp 6 3 0) (stamp 2 2 0))
+    ∷ asks (waiting shared (stamp 6 3 0) (stamp 2 2 0))
     ∷ lapses twoLapses
     ∷ []
 
@@ -57,28 +53,9 @@ pub record LockCases : Type 0 where
   pub passed : inFront (stamp 0 4 0) (stamp 0 3 0) (standing (queueAfter 4 threeStand others)) ≡ true
   -- a desk's own: its upgrade puts desk 1 behind desk 2, which then holds alone
   pub ahead : inFront (stamp 0 1 0) (stamp 0 2 0) (standing twoShared) ≡ true
-  pub touched : untouched (stamp 0 1 0) 2 twoShared (asks (asker exclusive (stamp 2 2 0) (stamp 1 1 0)) ∷ []) ≡ false
-  pub overtaken : holds (stamp 0 2 0) (standing (queueAfter 2 twoShared (asks (asker exclusive (stamp 2 2 0) (stamp 1 1 0)) ∷ []))) ≡ true
-  pub upgraded : holds (stamp 0 1 0) (standing (queueAfter 2 twoShared (asks (asker exclusive (stamp 2 2 0) (stamp 1 1 0)) ∷ []))) ≡ false
+  pub touched : untouched (stamp 0 1 0) 2 twoShared (asks (waiting exclusive (stamp 2 2 0) (stamp 1 1 0)) ∷ []) ≡ false
+  pub overtaken : holds (stamp 0 2 0) (standing (queueAfter 2 twoShared (asks (waiting exclusive (stamp 2 2 0) (stamp 1 1 0)) ∷ []))) ≡ true
+  pub upgraded : holds (stamp 0 1 0) (standing (queueAfter 2 twoShared (asks (waiting exclusive (stamp 2 2 0) (stamp 1 1 0)) ∷ []))) ≡ false
   -- and its lapse takes the lock from it
   pub lapsed : holds (stamp 0 1 0) (standing (queueAfter 4 threeStand (lapses oneLapses ∷ []))) ≡ false
   pub next : holds (stamp 0 2 0) (standing (queueAfter 4 threeStand (lapses oneLapses ∷ []))) ≡ true
-
--- A lease of 30 with a drift of 0.5, and with the smallest drift; a time by its bits.
-abbrev pub drifting : Lease
-drifting = silent 0x403e_0000_0000_0000 0x3fe0_0000_0000_0000 0x0 0x0 .lease
-
-abbrev pub steady : Lease
-steady = silent 0x403e_0000_0000_0000 0x1 0x0 0x0 .lease
-
-abbrev pub clock : ℕ → Float
-clock bits = ofBits binary64 bits
-
--- Since 100: the first is over at 145, not at 144, and over at the last time of the range. Its wait is 45; that of the
--- second is the period.
-pub record LeaseTimes : Type 0 where
-  pub over : expired drifting (clock 0x4059_0000_0000_0000) (clock 0x4062_2000_0000_0000) ≡ true
-  pub sooner : expired drifting (clock 0x4059_0000_0000_0000) (clock 0x4062_0000_0000_0000) ≡ false
-  pub last : expired drifting (clock 0x4059_0000_0000_0000) (clock 0x41cd_cd65_0000_0000) ≡ true
-  pub waits-45 : wait drifting ≡ clock 0x4046_8000_0000_0000
-  pub waits-30 : wait steady ≡ clock 0x403e_0000_0000_0000

@@ -1,4 +1,4 @@
--- What is claimed of every list of requests to one queue, from the empty queue on (rules 7.3 and 7.16). Proved in proofs/Course.antt.
+-- What is claimed of every list of requests to one queue, from the empty queue on (rules 7.3 and 7.16). Proved in proofs/Traces.antt.
 -- Assumes nothing.
 use Prim.Native.Nat.{ℕ, _≤_}
 use mathlib.Core.Path.{_≡_}

@@ -16,7 +16,7 @@ use Rattle.lock_queue.specs.Requests.{Request, number, after, answer}
 use Rattle.lock_queue.specs.declared.LockOutcome.{LockOutcome}
 use Rattle.lock_queue.specs.declared.Waiting.{Waiting}
 use Rattle.lock_queue_lent.proofs.Written.{written-nothing, written-nowhere}
-use Rattle.lock_queue_lent.specs.Slice.{held, written, loaded, replyOf}
+use Rattle.lock_queue_lent.specs.Slice.{lentState, written, loaded, replyOf}
 use Rattle.lock_queue_lent.specs.declared.Kept.{Kept}
 use Rattle.lock_queue_lent.specs.declared.LentOutcome.{LentOutcome}
 
@@ -55,7 +55,7 @@ back ws q = record { places = written mostPlaces (q .places) ws; count = q .coun
 
 -- What is judged by value of the places p, and written back, is what the lent places come to.
 abbrev Judged : List Waiting → List Waiting → Kept → Request → Type 0
-Judged p ws k r = (answer (length ws) (held p k) r ≡ answer (length ws) (held ws k) r) × (back ws (after (length ws) (held p k) r) ≡ after (length ws) (held ws k) r)
+Judged p ws k r = (answer (length ws) (lentState p k) r ≡ answer (length ws) (lentState ws k) r) × (back ws (after (length ws) (lentState p k) r) ≡ after (length ws) (lentState ws k) r)
 
 -- Where at most 32 are lent, the loaded places are the lent ones, and others behind them.
 judged-short : (ws z : List Waiting) (k : Kept) (r : Request) → length ws ≤ mostPlaces → Judged (ws ++ z) ws k r
@@ -63,22 +63,22 @@ judged-short ws z k r short = (
   beyond .0,
   ap (back ws) (beyond .1)
       ∙ ap (λ (l : List Waiting). record { places = l; count = now .count; largest = now .largest })
-      (written-over mostPlaces (now .places) z ws (others-kept (length ws) (held ws k) r (omega arith) .1) short),
+      (written-over mostPlaces (now .places) z ws (others-kept (length ws) (lentState ws k) r (omega arith) .1) short),
 )
   where
     now : State
-    now = after (length ws) (held ws k) r
+    now = after (length ws) (lentState ws k) r
 
-    beyond : (answer (length ws) (held (ws ++ z) k) r ≡ answer (length ws) (held ws k) r) × (after (length ws) (held (ws ++ z) k) r ≡ longer z now)
-    beyond = beyond-lent (length ws) (held ws k) r z (omega arith)
+    beyond : (answer (length ws) (lentState (ws ++ z) k) r ≡ answer (length ws) (lentState ws k) r) × (after (length ws) (lentState (ws ++ z) k) r ≡ longer z now)
+    beyond = beyond-lent (length ws) (lentState ws k) r z (omega arith)
 
 -- Else the queue is bad, and nothing is changed.
 judged-long : (ws : List Waiting) (k : Kept) (r : Request) → leb (length ws) mostPlaces ≡ false → Judged (loaded ws) ws k r
 judged-long ws k r e = (
-  bad-answer (length ws) (held (loaded ws) k) r (bad (held (loaded ws) k)) ∙ sym (bad-answer (length ws) (held ws k) r (bad (held ws k))),
-  ap (back ws) (refusal-leaves (length ws) (held (loaded ws) k) r 9 (bad (held (loaded ws) k)))
-      ∙ ap (λ (l : List Waiting). held l k) (written-back mostPlaces ws (replicate mostPlaces noWaiting))
-      ∙ sym (refusal-leaves (length ws) (held ws k) r 9 (bad (held ws k))),
+  bad-answer (length ws) (lentState (loaded ws) k) r (bad (lentState (loaded ws) k)) ∙ sym (bad-answer (length ws) (lentState ws k) r (bad (lentState ws k))),
+  ap (back ws) (refusal-leaves (length ws) (lentState (loaded ws) k) r 9 (bad (lentState (loaded ws) k)))
+      ∙ ap (λ (l : List Waiting). lentState l k) (written-back mostPlaces ws (replicate mostPlaces noWaiting))
+      ∙ sym (refusal-leaves (length ws) (lentState ws k) r 9 (bad (lentState ws k))),
 )
   where
     bad : (q : State) → number (length ws) q r ≡ 10
@@ -96,12 +96,12 @@ judged ws k r = go (leb (length ws) mostPlaces) refl
 
 -- The same of an outcome by value, of the lent list at exit, and of the reply.
 pub settled-lent : (ws p zs : List Waiting) (k : Kept) (r : Request) (o : LockOutcome) (y : LentOutcome) → p ≡ loaded ws →
-    (o .answer ≡ answer (length ws) (held p k) r) × (state (o .queue) ≡ after (length ws) (held p k) r) →
+    (o .answer ≡ answer (length ws) (lentState p k) r) × (state (o .queue) ≡ after (length ws) (lentState p k) r) →
     (zs ≡ written mostPlaces (o .queue .places .at) ws) × (y ≡ replyOf o) →
-    (y .answer ≡ answer (length ws) (held ws k) r) × (held zs (y .kept) ≡ after (length ws) (held ws k) r)
+    (y .answer ≡ answer (length ws) (lentState ws k) r) × (lentState zs (y .kept) ≡ after (length ws) (lentState ws k) r)
 settled-lent ws p zs k r o y load core store = (
   ap (λ (x : LentOutcome). x .answer) (store .1) ∙ core .0 ∙ same .0,
-  (λ i. held (store .0 i) (store .1 i .kept)) ∙ ap (back ws) (core .1) ∙ same .1,
+  (λ i. lentState (store .0 i) (store .1 i .kept)) ∙ ap (back ws) (core .1) ∙ same .1,
 )
   where
     same : Judged p ws k r

@@ -4,15 +4,11 @@ use Prim.Native.Nat.{ℕ}
 use mathlib.Core.List.{List, map, [], _∷_}
 use lib.ListN.{getD}
 use Rattle.lists.specs.Parts.{tabulate}
-use Rattle.lock_queue.specs.Queue.{mostPlaces, State}
+use Rattle.lock_queue.specs.Queue.{mostPlaces, State, waiting}
 use Rattle.lock_queue.specs.declared.Waiting.{Waiting}
 use mathlib.Core.Bool.{cond}
 use Rattle.lock_queue.specs.declared.LockAnswer.{LockAnswer}
 use Rattle.lock_queue.specs.Requests.{Request, answer, after}
-
--- An entry of the queue by its three numbers.
-abbrev pub waiting : ℕ → ℕ → ℕ → Waiting
-waiting mode s x = record { mode = mode; pair = record { s = s; x = x } }
 
 -- The places that three arrays hold: one with the modes, one with each s, one with each x.
 unfoldable pub placesOf : List ℕ → List ℕ → List ℕ → List Waiting

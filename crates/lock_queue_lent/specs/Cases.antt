@@ -5,9 +5,9 @@ use mathlib.Core.Path.{_≡_}
 use mathlib.Core.List.{[], _∷_}
 use mathlib.Core.Bool.{true, false}
 use lib.ListN.{replicate}
-use Rattle.lock_queue.specs.Queue.{State, noWaiting, emptyQueue}
+use Rattle.lock_queue.specs.Queue.{State, noWaiting, waiting, emptyQueue}
 use Rattle.lock_queue.specs.Requests.{asks}
-use Rattle.lock_queue_lent.specs.Arrays.{waiting, placesOf, queueOf, modesOf, sharedOf, exclusiveOf, keptOf, answerOf, arrayTurn}
+use Rattle.lock_queue_lent.specs.Arrays.{placesOf, queueOf, modesOf, sharedOf, exclusiveOf, keptOf, answerOf, arrayTurn}
 use Rattle.lock_queue_lent.specs.Slice.{loaded}
 
 -- Two entries whose numbers all differ, and the state that they stand in with a count of 2 and the largest pair (7, 8).

@@ -10,8 +10,8 @@ use Rattle.lock_queue_lent.specs.declared.Kept.{Kept}
 use Rattle.lock_queue_lent.specs.declared.LentOutcome.{LentOutcome}
 
 -- The state of a queue whose places are lent.
-abbrev pub held : List Waiting → Kept → State
-held places kept = record { places = places; count = kept .count; largest = kept .largest }
+abbrev pub lentState : List Waiting → Kept → State
+lentState places kept = record { places = places; count = kept .count; largest = kept .largest }
 
 -- The first n entries of one list, written over those of another, as far as both go.
 unfoldable pub written : ℕ → List Waiting → List Waiting → List Waiting

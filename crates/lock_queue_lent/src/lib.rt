@@ -4,7 +4,7 @@ mod lent;
 
 ghost use lib.ListN.{length};
 ghost use Rattle.lock_queue.specs.Requests.{asks, leaves, lapses, Turns};
-ghost use Rattle.lock_queue_lent.specs.Slice.{held};
+ghost use Rattle.lock_queue_lent.specs.Slice.{lentState};
 use inner::places::load;
 use inner::places::store;
 use lent::asked;
@@ -31,7 +31,7 @@ pub struct LentOutcome {
 
 // A desk asks for the lock in a queue of lent places. Where more than 32 are lent the queue is bad, whatever it holds.
 pub fn ask(places: &mut [Waiting], kept: Kept, new: Waiting) -> LentOutcome
-    ensures { λ r. ⌜ Turns (length (now (places .entry))) (held (now (places .entry)) kept) (asks new) (r .answer) (held (now (places .exit)) (r .kept)) ⌝ }
+    ensures { λ r. ⌜ Turns (length (now (places .entry))) (lentState (now (places .entry)) kept) (asks new) (r .answer) (lentState (now (places .exit)) (r .kept)) ⌝ }
 {
     let by_value = load(places);
     let outcome = asked(by_value, kept, places.len(), new);
@@ -40,7 +40,7 @@ pub fn ask(places: &mut [Waiting], kept: Kept, new: Waiting) -> LentOutcome
 
 // The desk and start `desk` leaves a queue of lent places.
 pub fn leave(places: &mut [Waiting], kept: Kept, desk: u32) -> LentOutcome
-    ensures { λ r. ⌜ Turns (length (now (places .entry))) (held (now (places .entry)) kept) (leaves desk) (r .answer) (held (now (places .exit)) (r .kept)) ⌝ }
+    ensures { λ r. ⌜ Turns (length (now (places .entry))) (lentState (now (places .entry)) kept) (leaves desk) (r .answer) (lentState (now (places .exit)) (r .kept)) ⌝ }
 {
     let by_value = load(places);
     let outcome = left(by_value, kept, places.len(), desk);
@@ -49,7 +49,7 @@ pub fn leave(places: &mut [Waiting], kept: Kept, desk: u32) -> LentOutcome
 
 // A desk that fell silent leaves a queue of lent places, once its lease is over.
 pub fn lapse(places: &mut [Waiting], kept: Kept, expiry: LeaseExpiry) -> LentOutcome
-    ensures { λ r. ⌜ Turns (length (now (places .entry))) (held (now (places .entry)) kept) (lapses expiry) (r .answer) (held (now (places .exit)) (r .kept)) ⌝ }
+    ensures { λ r. ⌜ Turns (length (now (places .entry))) (lentState (now (places .entry)) kept) (lapses expiry) (r .answer) (lentState (now (places .exit)) (r .kept)) ⌝ }
 {
     let by_value = load(places);
     let outcome = lapsed(by_value, kept, places.len(), expiry);

@@ -4,7 +4,7 @@ ghost use Prim.Native.Nat.{_*_, _+_};
 ghost use Rattle.lock_queue.specs.Queue.{mostPlaces};
 ghost use Rattle.lock_queue.specs.Requests.{asks, leaves, number, answer, after};
 ghost use Rattle.lock_queue_claims.specs.Trials.{guest, crowded};
-ghost use Rattle.lock_queue_lent.specs.Slice.{held};
+ghost use Rattle.lock_queue_lent.specs.Slice.{lentState};
 use lock_queue::Waiting;
 use lock_queue_lent::Kept;
 use lock_queue_lent::LentOutcome;
@@ -18,7 +18,8 @@ struct Turn {
 
 // One leaves, and then a desk asks, in 32 places that are lent.
 fn leave_then_ask(places: [Waiting; 32], kept: Kept, desk: u32, new: Waiting) -> Turn
-    ensures { λ r. ⌜ (r .left .answer ≡ answer mostPlaces (held places kept) (leaves desk)) × (r .asked .answer ≡ answer mostPlaces (after mostPlaces (held places kept) (leaves desk)) (asks new)) ⌝ }
+    ensures { λ r. ⌜ (r .left .answer ≡ answer mostPlaces (lentState places kept) (leaves desk))
+        × (r .asked .answer ≡ answer mostPlaces (after mostPlaces (lentState places kept) (leaves desk)) (asks new)) ⌝ }
 {
     let mut lent = places;
     let left = lock_queue_lent::leave(&mut lent, kept, desk);

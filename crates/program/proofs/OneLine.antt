@@ -1,10 +1,10 @@
 -- What is left of a stream, run with room for one line: its first command is judged, or there is none. Assumes nothing.
-use Prim.Native.Nat.{ℕ, _+_, _-_, _≤_, _<_}
+use Prim.Native.Nat.{ℕ, _+_, _-_}
 use native.Mathlib.Omega.{arith}
-use mathlib.Core.Path.{_≡_, refl, sym, ap, _∙_}
-use mathlib.Core.List.{List, [], _∷_, append-nil}
+use mathlib.Core.Path.{_≡_, refl, ap, _∙_}
+use mathlib.Core.List.{List, append-nil}
 use lib.ListN.{length, take, drop}
-use Rattle.formats.specs.Format.{V1, fixed}
+use Rattle.formats.specs.Format.{V1}
 use Rattle.lists.specs.Parts.{part, splice, concatMap}
 use Rattle.lists.proofs.Parts.{length-part}
 use Rattle.stream.specs.Stream.{commands, nextAt, endToEnd}

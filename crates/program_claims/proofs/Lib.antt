@@ -6,5 +6,4 @@ pub mod Prints
 pub mod Numerals
 pub mod Claims
 pub mod Cases
-pub mod Edges
 pub mod Uses

@@ -10,7 +10,7 @@ use Rattle.formats.specs.Format.{Format}
 use Rattle.lists.specs.Parts.{Bytes}
 use Rattle.lists.proofs.Bytes.{Bytes-nil, Bytes-take, Bytes-drop, Bytes-splice}
 use Rattle.commands.specs.Command.{original, translation, readsTranslation, reads}
-use Rattle.commands.specs.Bytes.{fieldsOf}
+use Rattle.commands.specs.Bytes.{fieldsOf, extent}
 use Rattle.commands.specs.declared.Command.{Command}
 use Rattle.guard.specs.Replies.{replied}
 use Rattle.image.specs.Image.{Cards, text, encode, fresh}
@@ -22,7 +22,7 @@ use Rattle.store_model.specs.Claims.{AllBytes}
 use Rattle.store_model.proofs.Demand.{demand3}
 use Rattle.store_model.proofs.Machine.{numberOn, cardsBy, passed}
 use Rattle.store_model.proofs.Simulation.{good-more, same-event, same-image}
-use Rattle.stream.specs.Stream.{commands, commandsWithin, extent, whole}
+use Rattle.stream.specs.Stream.{commands, commandsWithin, whole}
 use Rattle.store.specs.Runs.{perLine}
 use Rattle.program_claims.specs.Claims.{requests, Guarded}
 

@@ -1,4 +1,4 @@
--- Worked cases of the output in lent bytes (rule 8.6), and of a run whose lines run out. Proved in proofs/Edges.antt.
+-- Worked cases of the output in lent bytes (rule 8.6), and of a run whose lines run out; and all worked cases of the program as one table. Proved in proofs/Cases.antt.
 -- Assumes nothing.
 use Prim.Native.Nat.{ℕ}
 use mathlib.Core.Path.{_≡_}
@@ -11,7 +11,7 @@ use Rattle.stream.specs.Stream.{endToEnd}
 use Rattle.store.specs.Ran.{judgedOf, ranOf, lined}
 use Rattle.store.specs.Runs.{runs}
 use Rattle.program.specs.Program.{outputWithin}
-use Rattle.program_claims.specs.Cases.{streamP, inputP, outputP, ran}
+use Rattle.program_claims.specs.Cases.{streamP, inputP, outputP, ran, CaseP, ShortCases, RunCases, Decimals}
 
 -- A stream of version 2: commands of 71, 69, 70, 71 and 72 bytes. That of case P has commands of 55, 52, 55 and 55 bytes, and five bytes more.
 abbrev pub languagesStream : List ℕ
@@ -29,3 +29,7 @@ pub record LinesCases : Type 0 where
       lined (runs V1 (caseP .start) [] (judgedOf V1 streamP 23))
       ≡ 0 ∷ 4295032832 ∷ 4295032832 ∷ 0 ∷ 0 ∷ 1 ∷ 0 ∷ 0
       ∷ 6 ∷ 4295032832 ∷ 4295032832 ∷ 0 ∷ 0 ∷ 1 ∷ 0 ∷ 0 ∷ []
+
+-- One table of the worked cases of the program: case P, inputs without a line for a command, runs, decimals and lines.
+abbrev pub ProgramCases : Type 0
+ProgramCases = CaseP × (ShortCases × (RunCases × (Decimals × LinesCases)))

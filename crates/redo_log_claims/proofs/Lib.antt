@@ -3,8 +3,7 @@ pub mod Written
 pub mod Claims
 pub mod Zeros
 pub mod Order
-pub mod Full
+pub mod Holding
 pub mod Life
 pub mod Cases
-pub mod Edges
 pub mod Uses

@@ -1,10 +1,10 @@
 -- Theorems on the redo log, used where their hypotheses only just hold: any bytes as a log, a cut at the first and at
 -- the last store, a refused append among others. A stricter hypothesis or a sentence left out is noticed here.
 -- Assumes nothing.
-use Prim.Native.Nat.{ℕ, _+_, _<_}
+use Prim.Native.Nat.{ℕ, _<_}
 use native.Mathlib.Omega.{arith}
 use mathlib.Core.Path.{_≡_, refl}
-use mathlib.Core.Logic.{_⊎_, inl, inr}
+use mathlib.Core.Logic.{inl, inr}
 use mathlib.Core.List.{List, [], _∷_, _++_}
 use mathlib.Core.Bool.{true}
 use lib.ListN.{length, getD}

@@ -159,7 +159,7 @@ written-full k log r h =
 
 module _ (log : List ℕ) (r : LogRecord) (room : Admitted log r) where
   -- The new line.
-  line-there : part (linePlace (recordCount log)) 11 (full log r) ≡ lineBytes (startAt log (recordCount log)) r
+  pub line-there : part (linePlace (recordCount log)) 11 (full log r) ≡ lineBytes (startAt log (recordCount log)) r
   line-there =
       let body : length (splice (startAt log (recordCount log)) (r .body) log) ≡ length log = length-splice (startAt log (recordCount log)) (r .body) log (room .fits) in
       let line : linePlace (recordCount log) + 11 ≤ length log = omega (arith, room .below, room .from) in

@@ -1,4 +1,4 @@
--- Worked cases of a redo log, by computation on bytes (rule 11.13 has the first in bytes). Proved in proofs/Cases.antt.
+-- Worked cases of a redo log, on bytes (rule 11.13 has the first written out). Proved in proofs/Cases.antt.
 -- Assumes nothing.
 use Prim.Native.Nat.{ℕ, _+_}
 use mathlib.Core.Path.{_≡_}

@@ -1,5 +1,5 @@
 -- Worked cases of a redo log that notice a rule misread in definition and code alike: a log written out in bytes, what
--- damages it, the order of records and the limits. Proved in proofs/Edges.antt.
+-- damages it, the order of records and the limits. Proved in proofs/Cases.antt.
 -- Assumes nothing.
 use Prim.Native.Nat.{ℕ, _+_, _*_}
 use mathlib.Core.Path.{_≡_}
@@ -11,7 +11,7 @@ use Rattle.lists.specs.Parts.{part, tabulate, concatMap}
 use Rattle.redo_log.specs.Log.{LogRecord, noRecord, recordCard, recordSide, recordText, recordTransaction, shaped, checksum, logNumber, readBack, readAt}
 use Rattle.redo_log.specs.Append.{lacks, appendNumber, appended}
 use Rattle.redo_log_claims.specs.Claims.{appendedAll}
-use Rattle.redo_log_claims.specs.Cases.{beginOf, updateOf, commitOf, syncedOf, emptyLog, AppendCase, AllHold, appendCase}
+use Rattle.redo_log_claims.specs.Cases.{beginOf, updateOf, commitOf, syncedOf, emptyLog, AppendCase, AllHold, appendCase, LogCases, LastLine}
 
 -- ---- A log in bytes (rules 11.1 to 11.4): begin 7, an update of card 258 on side 2 with one byte, commit 7, card 258 synced as of 7.
 
@@ -125,3 +125,7 @@ pub record EdgeCases : Type 0 where
   pub sum : checksum (replicate 258 255) ≡ 65790
   pub long : shaped (logRecord 2 (0 ∷ 0 ∷ 1 ∷ replicate 65532 0)) ≡ true
   pub over : shaped (logRecord 2 (0 ∷ 0 ∷ 1 ∷ replicate 65533 0)) ≡ false
+
+-- The worked cases of a redo log, as one table.
+abbrev pub LogWorked : Type 0
+LogWorked = LogCases × (EdgeCases × LastLine)

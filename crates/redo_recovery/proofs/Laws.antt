@@ -8,14 +8,14 @@ use mathlib.Core.Bool.{Bool, true, false, not, _&&_, _||_, and-false}
 use borrow.Author.Tests.{eq-eqb, ne-eqb, le-ltb}
 use lib.ListN.{length, List·getD-eq-default}
 use lib.Dec.{leb, eqb, lit<}
-use Rattle.formats.specs.Format.{V1, translations, entrySize, fixed}
+use Rattle.formats.specs.Format.{V1, translations, entrySize}
 use Rattle.lists.specs.Parts.{Bytes, tabulate, zeros}
 use Rattle.lists.specs.Le.{field}
 use Rattle.lists.proofs.Tests.{to-T, or-left, or-right}
 use Rattle.lists.proofs.Bytes.{Bytes-nil}
 use Rattle.commands.specs.Command.{wellFormed, FitsCommand}
 use Rattle.commands.specs.declared.Command.{Command}
-use Rattle.commands.specs.Bytes.{blanks, formed, commandBytes}
+use Rattle.commands.specs.Bytes.{blanks, extent, formed, commandBytes}
 use Rattle.commands.proofs.CommandBytes.{fields-command, payload-command, formed-command, Bytes-command}
 use Rattle.guard.specs.Replies.{refused}
 use Rattle.guard.specs.Entry.{noEntry}
@@ -112,7 +112,7 @@ module _ (image : List ℕ) (c : Command) (text : List ℕ) (e : sound V1 image 
   serve-bad w =
       serve-malformed V1 image (commandBytes V1 c text) [] e
       (rw (ap wellFormed (fields-command c text V1 f known) ∙ w)
-      (and-false (eqb (length (commandBytes V1 c text)) (fixed V1 + field 50 2 (commandBytes V1 c text)) && zeros (blanks V1 (commandBytes V1 c text)))))
+      (and-false (eqb (length (commandBytes V1 c text)) (extent V1 (commandBytes V1 c text)) && zeros (blanks V1 (commandBytes V1 c text)))))
 
   module _ (w : wellFormed c ≡ true) where
     pub serve-none : cardsOf image ≤ c .card → serve V1 image (commandBytes V1 c text) [] ≡ refusal (refused 2) image []

@@ -5,5 +5,4 @@ pub mod Never
 pub mod Versions
 pub mod Texts
 pub mod Cases
-pub mod Edges
 pub mod Uses

@@ -15,6 +15,7 @@ use Rattle.lists.proofs.Tests.{cases, never-both, and-right}
 use Rattle.redo_log.specs.Log.{LogRecord, noRecord, updateKind, recordAt, recordCount, goodLog, records, lastBegun, opened, shaped, follows, joins}
 use Rattle.redo_log.proofs.Records.{good-record, ok-joins}
 use Rattle.redo_log.proofs.ReadBack.{length-records, record-of}
+use Rattle.redo_log_claims.proofs.Holding.{Holding}
 use Rattle.store_model.specs.Serve.{serve}
 use Rattle.store_model.specs.Words.{Sent, imageAfter, traceFrom}
 use Rattle.store_model.proofs.Exact.{refusals}
@@ -262,6 +263,11 @@ recovers pairs log image = go (goodLog log) refl
           all-due = rw e (λ z. absurd (omega (arith, z)));
           refused = λ f. absurd (never-both f e);
         }
+
+-- Recovery from a log, by the records that it holds.
+pub recovered-by : {size : ℕ} {rs : List LogRecord} {log : List ℕ} → Holding size rs log → (pairs : Pairs) (image : List ℕ) → recovered pairs log image ≡ recovering pairs rs image (length rs)
+unfolding recovered
+recovered-by is pairs image = rw (is .good, is .back)
 
 -- A bad log leaves the image.
 pub bad-left : (pairs : Pairs) (log image : List ℕ) → goodLog log ≡ false → recovered pairs log image .image ≡ image

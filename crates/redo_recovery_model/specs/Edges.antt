@@ -1,6 +1,6 @@
 -- Worked cases of recovery that notice a rule misread in definition and code alike: whose pair a write is under, what
--- it leaves in the entry, the bytes that are sent, and the numbers that only some stores give. Proved by computation
--- in proofs/Edges.antt.
+-- it leaves in the entry, the bytes that are sent, and the numbers that only some stores give. Proved in
+-- proofs/Cases.antt.
 -- Assumes nothing.
 use Prim.Native.Nat.{ℕ}
 use mathlib.Core.Path.{_≡_}
@@ -13,7 +13,7 @@ use Rattle.store_model.specs.Cases.{stamp1, stamp2, pair, text205, text401, mar
 use Rattle.redo_log.specs.Log.{LogRecord}
 use Rattle.redo_log_claims.specs.Cases.{beginOf, updateOf, commitOf, syncedOf}
 use Rattle.redo_recovery_model.specs.Recovery.{Pairs, Recovery, entryFor, recovering}
-use Rattle.redo_recovery_model.specs.Cases.{blankImage, markedImage}
+use Rattle.redo_recovery_model.specs.Cases.{blankImage, markedImage, RecoveryCases}
 
 -- No pair for card 0; for card 1 the s of desk 1 and the x of desk 2.
 abbrev pub pairsOf1 : Pairs
@@ -107,3 +107,7 @@ pub record RecoveryEdges : Type 0 where
   pub last-edition :
       runLeft pairsOf0 (beginOf 1 ∷ updateOf 0 1 text205 ∷ updateOf 0 1 text401 ∷ commitOf 1 ∷ []) nearlyLast
       ≡ left 7 2 (pair stamp2 stamp2 ∷ noPair ∷ []) (65535 ∷ 0 ∷ []) (write 3 0 (pair stamp2 stamp2) 0 0 0 text401 ∷ write 3 0 (pair stamp2 stamp2) 0 0 0 text205 ∷ [])
+
+-- The worked cases of recovery, as one table.
+abbrev pub RecoveryWorked : Type 0
+RecoveryWorked = RecoveryCases × RecoveryEdges

@@ -1,5 +1,5 @@
 -- One request as a run of one command. Assumes nothing.
-use Prim.Native.Nat.{ℕ, _+_, _≤_, _<_}
+use Prim.Native.Nat.{ℕ, _≤_, _<_}
 use native.Mathlib.Omega.{arith}
 use mathlib.Core.Path.{_≡_, refl, sym, ap, _∙_}
 use mathlib.Core.Logic.{_⊎_, inl, inr}
@@ -10,19 +10,18 @@ use lib.Dec.{eqb}
 use lib.ListN.{length, getD}
 use lib.Seq.{take-length, drop-length}
 use native.Mathlib.Nat.{sub-zero, zero-add}
-use Rattle.formats.specs.Format.{Format, fixed}
+use Rattle.formats.specs.Format.{Format}
 use Rattle.formats.proofs.Numbers.{numbers}
 use Rattle.lists.specs.Parts.{part, splice, concatMap}
 use Rattle.lists.proofs.Tests.{and-in, and-left, and-right, never-both}
-use Rattle.lists.specs.Le.{field}
 use Rattle.lists.proofs.Parts.{splice-whole}
-use Rattle.commands.specs.Bytes.{formed}
+use Rattle.commands.specs.Bytes.{extent, formed}
 use Rattle.guard.specs.Replies.{refused}
 use Rattle.guard.specs.declared.Answer.{Answer}
 use Rattle.store_model.specs.Serve.{Outcome, serve}
 use Rattle.store.specs.Runs.{runs, numbersOf, perLine}
 use Rattle.store_model.proofs.Exact.{refusals}
-use Rattle.stream.specs.Stream.{extent, commands, commandsWithin, nextAt, onward}
+use Rattle.stream.specs.Stream.{commands, commandsWithin, nextAt, onward}
 use Rattle.stream.proofs.Place.{next-whole, whole-in, went}
 use Rattle.stream.proofs.Walks as walk
 use Rattle.store.specs.Ran.{judgedOf, lined}
@@ -44,13 +43,13 @@ module _ (f : Format) (c : List ℕ) {end : ℕ} (step : end ≡ onward 0 (nextA
       walk.passes f c 0 end e .2 ∙ rw (long, sub-zero, take-length, drop-length, no-commands)
 
   pub not-one : (eqb end (length c) && not (eqb end 0)) ≡ false → formed f c ≡ false
-  unfolding formed extent
-  not-one h = go (eqb (length c) (fixed f + field 50 2 c)) refl
+  unfolding formed
+  not-one h = go (eqb (length c) (extent f c)) refl
     where
-      go : (b : Bool) → eqb (length c) (fixed f + field 50 2 c) ≡ b → formed f c ≡ false
+      go : (b : Bool) → eqb (length c) (extent f c) ≡ b → formed f c ≡ false
       go false q = rw q
       go true q =
-          let size : length c ≡ fixed f + field 50 2 c = eqb-true (length c) (fixed f + field 50 2 c) q in
+          let size : length c ≡ extent f c = eqb-true (length c) (extent f c) q in
           let there : end ≡ length c = step ∙ ap (onward 0) (next-whole f c 0 (whole-in f c (omega (arith, size)))) ∙ zero-add _ ∙ sym size in
           absurd (never-both (and-in (eq-eqb end (length c) there) (ap not (ne-eqb end 0 (λ none. omega (arith, numbers f, there, size, none))))) h)
 

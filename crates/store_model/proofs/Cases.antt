@@ -1,4 +1,4 @@
--- The starred trials, by computation on bytes. Assumes nothing.
+-- The worked cases, by computation on bytes. Assumes nothing.
 use Prim.Native.Nat.{ℕ}
 use mathlib.Core.Path.{_≡_, refl, ap}
 use mathlib.Core.List.{List, [], _∷_, _++_, reverse, reverse-cons, reverse-append}
@@ -14,18 +14,29 @@ use Rattle.formats.specs.Format.{Format}
 use Rattle.image.specs.Layout.{shapeOk}
 use Rattle.image.specs.Bytes.{header, entryBytes, pad, readEntry, entryAt}
 use Rattle.image.specs.Image.{bodies, encode, cardAt, decode, tailZero, translationSound, cardSound, headerSound, sound, fresh}
+use Rattle.image.specs.Convert.{converted}
 use Rattle.store_model.specs.Serve.{stepped, serveBy, serve}
 use Rattle.store_model.specs.Cases.{run, RunTraced, Trials, BytesOf2}
+use Rattle.store_model.specs.Conversion.{StoryAcross, StoreCases}
 use Rattle.store_model.specs.Words.{Sent, eventOf, imageAfter, traceFrom}
 
-pub trials-hold : Trials
+trials-hold : Trials
 unfolding run serve serveBy stepped sound headerSound cardSound translationSound tailZero decode cardAt entryAt readEntry encode bodies pad entryBytes
     header shapeOk fresh replied raise entrySound commandBytes formed payload fieldsOf wellFormed all allFrom le toLe part splice tabulate concatMap every zeros
 trials-hold = refl
 
-pub bytes-of-2 : BytesOf2
+bytes-of-2 : BytesOf2
 unfolding commandBytes toLe
 bytes-of-2 = refl
+
+story-across : StoryAcross
+unfolding converted imageAfter run serve serveBy stepped sound headerSound cardSound translationSound tailZero decode cardAt entryAt
+    readEntry encode bodies pad entryBytes header shapeOk fresh replied raise entrySound commandBytes formed payload fieldsOf wellFormed all allFrom
+    le toLe part splice tabulate concatMap every zeros
+story-across = refl
+
+pub store-cases : StoreCases
+store-cases = (trials-hold, (bytes-of-2, story-across))
 
 -- ---- a run and the trace of the same requests
 

@@ -1,5 +1,5 @@
 -- Demand 3 over a conversion, proved. Assumes nothing.
-use Prim.Native.Nat.{ℕ, zero, suc, _+_, _%_, _≤_, _<_}
+use Prim.Native.Nat.{ℕ, zero, suc, _%_, _≤_, _<_}
 use native.Mathlib.Omega.{arith}
 use mathlib.Core.Path.{_≡_, refl, sym, ap, subst, _∙_}
 use mathlib.Core.List.{List, [], _∷_, _++_, map, map-append, reverse, reverse-append}
@@ -7,18 +7,12 @@ use mathlib.Core.Bool.{true}
 use borrow.Author.Tests.{le-leb, eq-eqb}
 use lib.Dec.{T, leb, eqb}
 use lib.ListN.{length, getD, length-map, List·getD-eq-default}
-use Rattle.lists.specs.Le.{le, toLe}
-use Rattle.lists.specs.Parts.{part, splice, tabulate, concatMap, every, zeros}
 use Rattle.lists.specs.Table.{all, allFrom}
 use Rattle.lists.proofs.Tests.{to-T, from-T}
-use Rattle.commands.specs.Command.{Language, original, translation, wellFormed}
-use Rattle.commands.specs.Bytes.{fieldsOf, payload, formed, commandBytes}
-use Rattle.guard.specs.Entry.{entrySound}
-use Rattle.guard.specs.Judge.{behind, raise}
-use Rattle.guard.specs.Replies.{replied}
+use Rattle.commands.specs.Command.{Language, original, translation}
+use Rattle.guard.specs.Judge.{behind}
 use Rattle.formats.specs.Format.{V1, V2}
 use Rattle.image.specs.Layout.{shapeOk, sizeOf, mostCards, leastRoom, mostRoom, roomStep, mostBytes}
-use Rattle.image.specs.Bytes.{header, entryBytes, pad, readEntry, entryAt}
 use Rattle.image.specs.Image.{
   Translation,
   Card,
@@ -27,14 +21,8 @@ use Rattle.image.specs.Image.{
   noTranslation,
   noCard,
   text,
-  bodies,
   encode,
-  cardAt,
   decode,
-  tailZero,
-  translationSound,
-  cardSound,
-  headerSound,
   sound,
   fresh,
   freshCards,
@@ -47,11 +35,9 @@ use Rattle.image.proofs.Making.{made}
 use Rattle.image.proofs.Cards.{count-back, room-back}
 use Rattle.image_claims.proofs.Claims.{freshSound, goodEncodes}
 use Rattle.image_claims.proofs.Conversion.{getD-map, good-cards}
-use Rattle.store_model.specs.Serve.{stepped, serveBy, serve}
 use Rattle.store_model.specs.Words.{Sent, Event, imageAfter, freshAfter, traceFrom, traceOf, lastText}
 use Rattle.store_model.specs.Claims.{AllBytes}
-use Rattle.store_model.specs.Cases.{run}
-use Rattle.store_model.specs.Conversion.{traceAcross, Demand3Across, StoryAcross}
+use Rattle.store_model.specs.Conversion.{traceAcross, Demand3Across}
 use Rattle.store_model.proofs.Machine.{numberOn, cardsBy, cardsFrom, eventsFrom, Tied, Ties}
 use Rattle.store_model.proofs.Sentences.{Told}
 use Rattle.store_model.proofs.Simulation.{all-good, same-images, same-events}
@@ -183,11 +169,3 @@ demand3-across n c ok sent more b m =
       claim = claim n (sent ++ more) (traceAcross n c sent more) (whole-across n c ok sent more b m)
           (subst (Along (Told n)) (sym (trace-is n c ok sent more b m)) (told-across n c ok sent more b m));
     }
-
--- ---- the story, by computation
-
-pub story-across : StoryAcross
-unfolding converted imageAfter run serve serveBy stepped sound headerSound cardSound translationSound tailZero decode cardAt entryAt
-    readEntry encode bodies pad entryBytes header shapeOk fresh replied raise entrySound commandBytes formed payload fieldsOf wellFormed all allFrom
-    le toLe part splice tabulate concatMap every zeros
-story-across = refl

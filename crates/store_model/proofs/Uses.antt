@@ -6,11 +6,9 @@ use native.Mathlib.Omega.{arith}
 use mathlib.Core.Path.{_≡_, refl, subst}
 use mathlib.Core.Logic.{_⊎_, inl, inr}
 use mathlib.Core.List.{List, [], _∷_, _++_}
-use mathlib.Core.Bool.{true, false, cond}
-use lib.Dec.{T}
+use mathlib.Core.Bool.{true, cond}
 use Rattle.formats.specs.Format.{V1, V2}
-use Rattle.lists.specs.Le.{le, toLe}
-use Rattle.lists.specs.Parts.{part}
+use Rattle.lists.specs.Le.{toLe}
 use Rattle.stamps.specs.Stamp.{stamp, shared, exclusive, noPair, noMark}
 use Rattle.stamps.specs.declared.Pair.{Pair}
 use Rattle.commands.specs.declared.Command.{Command}
@@ -21,11 +19,29 @@ use Rattle.image.specs.Layout.{sizeOf}
 use Rattle.image.specs.Image.{fresh}
 use Rattle.image.specs.Convert.{convertNumber}
 use Rattle.image_claims.proofs.Uses.{largest1, largest2, nothing-numbered}
-use Rattle.store_model.specs.Words.{Sent, Event, Received, eventOf, commandOf, imageAfter, freshAfter, traceFrom, traceOf, outdated, lastText, late, farAhead, rightMark, carries, premise, OneSession, intrudes}
+use Rattle.store_model.specs.Words.{
+  Sent,
+  Event,
+  eventOf,
+  commandOf,
+  imageAfter,
+  freshAfter,
+  traceFrom,
+  traceOf,
+  outdated,
+  lastText,
+  late,
+  farAhead,
+  rightMark,
+  carries,
+  premise,
+  OneSession,
+  intrudes,
+}
 use Rattle.store_model.specs.Serve.{serve}
-use Rattle.store_model.specs.Meaning.{Among, Overtakes, Beyond, Passes, Carries, Ordered, Intruder}
+use Rattle.store_model.specs.Meaning.{Among, Overtakes, Beyond, Carries, Ordered, Intruder}
 use Rattle.store_model.specs.Pairs.{largestPair}
-use Rattle.store_model.specs.Cases.{stamp1, stamp2, text205, writeOriginal}
+use Rattle.store_model.specs.Cases.{stamp1, text205, writeOriginal}
 use Rattle.store_model.specs.Claims.{AllBytes, Claim}
 use Rattle.store_model.specs.Conversion.{traceAcross}
 use Rattle.store_model.proofs.ByTest.{sent-bytes}

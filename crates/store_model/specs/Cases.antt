@@ -613,9 +613,9 @@ trialUnsound = record { version = V1; start = []; sent = verify shared stamp1 0 
 abbrev pub emptyOf2 : List ℕ
 emptyOf2 = fresh V2 1 16
 
--- A command of version 2 for card 0 by A', and one that opens a pair.
-abbrev pub opens : ℕ → ℕ → Pair → ℕ → List ℕ → List ℕ → Sent
-opens act language opened edition text lent =
+-- An exclusive command of version 2 for card 0 without marks, with both of its pairs; by A'; and with one pair.
+abbrev pub requestOf2 : ℕ → ℕ → Pair → Pair → ℕ → List ℕ → List ℕ → Sent
+requestOf2 act language p opened edition text lent =
     record {
       command =
           commandBytes V2
@@ -624,7 +624,7 @@ opens act language opened edition text lent =
             mode = exclusive;
             language = language;
             card = 0;
-            verifier = pair stamp1 stamp1;
+            verifier = p;
             opened = opened;
             expected = noMark;
             next = noMark;
@@ -634,6 +634,9 @@ opens act language opened edition text lent =
           text;
       lent = lent;
     }
+
+abbrev pub opens : ℕ → ℕ → Pair → ℕ → List ℕ → List ℕ → Sent
+opens act language opened edition text lent = requestOf2 act language (pair stamp1 stamp1) opened edition text lent
 
 abbrev pub names : ℕ → ℕ → ℕ → List ℕ → List ℕ → Sent
 names act language edition text lent = opens act language noPair edition text lent

@@ -1,4 +1,4 @@
--- A store that is converted between two lists of requests: demand 3 over the whole, and a story of it.
+-- A store that is converted between two lists of requests: demand 3 over the whole, and a story of it; and all worked cases of the store.
 -- Assumes nothing.
 use Prim.Native.Nat.{ℕ}
 use mathlib.Core.Path.{_≡_}
@@ -10,7 +10,7 @@ use Rattle.image.specs.Layout.{shapeOk, sizeOf}
 use Rattle.image.specs.Convert.{converted, convertNumber}
 use Rattle.store_model.specs.Words.{Sent, Event, imageAfter, freshAfter, traceFrom, traceOf}
 use Rattle.store_model.specs.Claims.{AllBytes, Claim}
-use Rattle.store_model.specs.Cases.{run, names, gotIn, stamp1, writeOriginal, writeTranslation}
+use Rattle.store_model.specs.Cases.{run, names, gotIn, stamp1, writeOriginal, writeTranslation, BytesOf2, Trials}
 
 -- The image that both lists leave: the first is sent to a fresh image of version 1, the second to the image that this one is converted to.
 abbrev pub imageAcross : ℕ → ℕ → List Sent → List Sent → List ℕ
@@ -60,3 +60,7 @@ StoryAcross =
     ∷ gotIn 6 2 1 0 (replicate 3 0)
     ∷ gotIn 6 2 1 0 (replicate 3 0)
     ∷ [])
+
+-- One table of the worked cases of the store: the trials, a command of version 2 in bytes, and the story.
+abbrev pub StoreCases : Type 0
+StoreCases = Trials × (BytesOf2 × StoryAcross)

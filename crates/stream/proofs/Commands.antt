@@ -10,7 +10,8 @@ use lib.Seq.{length-take-le, drop-drop}
 use Rattle.formats.proofs.Numbers.{numbers}
 use Rattle.formats.specs.Format.{Format}
 use Rattle.lists.specs.Parts.{concatMap}
-use Rattle.stream.specs.Stream.{extent, whole, nextAt, commandsWithin, commands, endWithin, endOf, endToEnd}
+use Rattle.commands.specs.Bytes.{extent}
+use Rattle.stream.specs.Stream.{whole, nextAt, commandsWithin, commands, endWithin, endOf, endToEnd}
 use Rattle.stream.specs.declared.Next.the-variants.{Whole, Cut}
 use Rattle.stream.proofs.Place.{extent-fixed, whole-out, cut-short, says-whole, says-cut}
 

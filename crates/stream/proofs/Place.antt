@@ -14,7 +14,8 @@ use Rattle.lists.specs.Parts.{part}
 use Rattle.lists.specs.Le.{le}
 use Rattle.lists.proofs.Parts.{part-drop, part-take, part-append-left}
 use Rattle.lists.proofs.Tests.{and-in, and-right}
-use Rattle.stream.specs.Stream.{extent, whole, nextAt, onward, isWhole}
+use Rattle.commands.specs.Bytes.{extent}
+use Rattle.stream.specs.Stream.{whole, nextAt, onward, isWhole}
 use Rattle.stream.specs.declared.Next.{Next}
 use Rattle.stream.specs.declared.Next.the-variants.{Whole, Cut}
 
@@ -22,20 +23,16 @@ module _ (v : Format) where
   -- ---- the command that begins some bytes
 
   pub extent-fixed : (s : List ℕ) → fixed v ≤ extent v s
-  unfolding extent
   extent-fixed s = omega (arith, numbers v)
 
   -- Its length stands in its fixed part.
   pub extent-take : (n : ℕ) (s : List ℕ) → fixed v ≤ n → extent v (take n s) ≡ extent v s
-  unfolding extent
   extent-take n s h = ap (λ (l : List ℕ). fixed v + le l) (part-take _ 2 n s (omega (arith, numbers v)))
 
   pub extent-append : (c s : List ℕ) → fixed v ≤ length c → extent v (c ++ s) ≡ extent v c
-  unfolding extent
   extent-append c s h = ap (λ (l : List ℕ). fixed v + le l) (part-append-left _ 2 c s (omega (arith, numbers v)))
 
   pub extent-at : (at : ℕ) (s : List ℕ) → extent v (drop at s) ≡ fixed v + le (part (at + 50) 2 s)
-  unfolding extent
   extent-at at s = ap (λ (l : List ℕ). fixed v + le l) (part-drop _ 2 at s)
 
   pub whole-in : (s : List ℕ) → extent v s ≤ length s → whole v s ≡ true

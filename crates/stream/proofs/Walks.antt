@@ -11,7 +11,8 @@ use Rattle.formats.proofs.Numbers.{numbers}
 use Rattle.formats.specs.Format.{Format, V1, V2, fixed}
 use Rattle.lists.specs.Parts.{part, concatMap}
 use Rattle.lists.proofs.ConcatMap.{concatMap-append}
-use Rattle.stream.specs.Stream.{extent, whole, OneCommand, nextAt, commands, endOf, endToEnd, placeOf}
+use Rattle.commands.specs.Bytes.{extent}
+use Rattle.stream.specs.Stream.{whole, OneCommand, nextAt, commands, endOf, endToEnd, placeOf}
 use Rattle.stream.specs.declared.Next.the-variants.{Whole, Cut}
 use Rattle.stream.proofs.Place.{extent-fixed, extent-take, extent-append, whole-in, whole-out, says-whole, says-cut}
 use Rattle.stream.proofs.Commands.{commands-whole, commands-cut, end-length, end-whole, end-cut, along}
@@ -39,7 +40,6 @@ module _ (v : Format) where
           (take-append-drop (extent v s) s)
 
   pub each : (s : List ℕ) (i : ℕ) → i < length (commands v s) → OneCommand v (getD (commands v s) i [])
-  unfolding extent
   each = along v (λ (s : List ℕ). (i : ℕ) → i < length (commands v s) → OneCommand v (getD (commands v s) i [])) stop more
     where
       stop : (s : List ℕ) → whole v s ≡ false → (i : ℕ) → i < length (commands v s) → OneCommand v (getD (commands v s) i [])
@@ -87,7 +87,6 @@ module _ (v : Format) where
   -- ---- a command in front
 
   pub first : (c s : List ℕ) → OneCommand v c → commands v (c ++ s) ≡ c ∷ commands v s
-  unfolding extent
   first c s one =
       let begins : extent v (c ++ s) ≡ extent v c = extent-append v c s (one .0) in
       let long : length c ≡ extent v (c ++ s) = one .1 ∙ sym begins in
@@ -115,7 +114,7 @@ module _ (v : Format) where
       let long : end - at ≡ extent v (drop at s) = omega (arith, numbers v, stands .ends) in (
         omega (arith, numbers v, stands .ends),
         omega (arith, numbers v, stands .ends),
-        commands-whole v (drop at s) (stands .begins) ∙ rw (drop-drop, ← stands .ends, long),
+        commands-whole v (drop at s) (stands .begins) ∙ rw (drop-drop (extent v (drop at s)) at s, ← stands .ends, long),
       )
 
   -- It is not: no command is left.

@@ -8,15 +8,11 @@ use lib.Dec.{leb}
 use lib.ListN.{length, take, drop}
 use Rattle.formats.specs.Format.{Format, V1, fixed}
 use Rattle.lists.specs.Parts.{concatMap}
-use Rattle.lists.specs.Le.{field}
+use Rattle.commands.specs.Bytes.{extent}
 use Rattle.stream.specs.declared.Next.{Next}
 use Rattle.stream.specs.declared.Next.the-variants.{Whole, Cut}
 use denote.Ref.{RefT, now}
 use Rattle.stream.specs.declared.Reader.{Reader}
-
--- How long the command is that begins these bytes, malformed or not (rule 8.1).
-unfoldable pub extent : Format → List ℕ → ℕ
-extent v bytes = fixed v + field 50 2 bytes
 
 -- The bytes begin with a whole command: all of its fixed part, and all of its payload.
 unfoldable pub whole : Format → List ℕ → Bool
@@ -24,7 +20,7 @@ whole v bytes = leb (fixed v) (length bytes) && leb (extent v bytes) (length byt
 
 -- A list of bytes is one whole command, by its own length field (rule 8.1).
 abbrev pub OneCommand : Format → List ℕ → Type 0
-OneCommand v c = (fixed v ≤ length c) × (length c ≡ fixed v + field 50 2 c)
+OneCommand v c = (fixed v ≤ length c) × (length c ≡ extent v c)
 
 -- What stands at a place of a stream. From a place beyond the end on nothing is left, which is no whole command.
 unfoldable pub nextAt : Format → List ℕ → ℕ → Next

@@ -7,7 +7,7 @@ use mathlib.Core.List.{List, [], _++_, append-nil}
 use lib.ListN.{length, drop}
 use lib.Seq.{drop-length}
 use Rattle.texts.specs.Text.{Section, sectionBytes, Says, WellFormedText, deepest}
-use Rattle.texts.specs.Agree.{verdict, told, placed, unmatched, Compared, judged}
+use Rattle.texts.specs.Agree.{verdict, told, placed, unmatched, Compared, bothFormed}
 use Rattle.texts.specs.inner.Walk.{SectionThere, walked, TwoSections, SectionsWalked}
 use Rattle.texts.specs.declared.inner.walk.Walk.the-variants.{Same, Differ}
 use Rattle.texts.specs.declared.Agreement.the-variants.{Agree, Unmatched}
@@ -41,12 +41,12 @@ module _ (a b : List ℕ) where
 
     pub same-answer : (i j : ℕ) → SectionsWalked a 0 b 0 deepest (Same i j) → Compared a b (told Agree)
     same-answer i j w =
-        judged (one .0) (other .0) (one .1) (other .1)
+        bothFormed (one .0) (other .0) (one .1) (other .1)
         (same-told (unmatched (one .0) (other .0) 2) i j (0 + length (sectionBytes (one .0))) (0 + length (sectionBytes (other .0)))
         (w (one .0) (other .0) both))
 
     pub differ-answer : (at : ℕ) → SectionsWalked a 0 b 0 deepest (Differ at) → Compared a b (told (Unmatched at))
     differ-answer at w =
-        judged (one .0) (other .0) (one .1) (other .1)
+        bothFormed (one .0) (other .0) (one .1) (other .1)
         (differ-told (unmatched (one .0) (other .0) 2) at (0 + length (sectionBytes (one .0))) (0 + length (sectionBytes (other .0)))
         (w (one .0) (other .0) both))

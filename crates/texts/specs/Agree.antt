@@ -81,4 +81,4 @@ placed (some place) = verdict UNMATCHED place
 pub data Compared (a b : List ℕ) (v : Verdict) : Type 0 where
   firstIll : (WellFormedText a → ⊥) → v ≡ verdict FIRST-ILL 0 → Compared a b v
   secondIll : WellFormedText a → (WellFormedText b → ⊥) → v ≡ verdict SECOND-ILL 0 → Compared a b v
-  judged : (s t : Section) → Says a s → Says b t → v ≡ placed (unmatched s t 2) → Compared a b v
+  bothFormed : (s t : Section) → Says a s → Says b t → v ≡ placed (unmatched s t 2) → Compared a b v

@@ -12,7 +12,7 @@ use Rattle.floats.specs.Numbers.{wholeFloat, half}
 use Rattle.text_drops.specs.Drop.{degreesOf, dropOf, inFahrenheit, near}
 use Rattle.texts.specs.Text.{stepCount, stepBytes}
 use Rattle.texts.specs.Agree.{unmatchedStep, verdict}
-use Rattle.texts_claims.specs.Cases.{times, around, sample, textCases, TextsWorked, SampleWorked, PlacesWorked}
+use Rattle.texts_claims.specs.Cases.{times, around, sample, textCases, TwoTextsWorked, SampleWorked, PlacesWorked, TextsWorked}
 use Rattle.texts_claims.proofs.Deciding.{
   gotten,
   compared,
@@ -43,8 +43,8 @@ unfolding all-gotten gotten gets reading whole saysSo sameVerdict alike stepFits
     times around unmatchedStep stepCount stepBytes toLe add sub mul div neg le ofInt wholeFloat half degreesOf dropOf inFahrenheit near leNumber every
 computed = refl
 
-pub texts-worked : TextsWorked
-texts-worked = each-compared textCases (and-left (all-gotten textCases) (every cut-refused 20 && gotten sample sample (verdict 0 0)) computed)
+two-texts-worked : TwoTextsWorked
+two-texts-worked = each-compared textCases (and-left (all-gotten textCases) (every cut-refused 20 && gotten sample sample (verdict 0 0)) computed)
 
 samples : (every cut-refused 20 && gotten sample sample (verdict 0 0)) ≡ true
 samples = and-right (all-gotten textCases) (every cut-refused 20 && gotten sample sample (verdict 0 0)) computed
@@ -52,7 +52,7 @@ samples = and-right (all-gotten textCases) (every cut-refused 20 && gotten sampl
 refused : (k : ℕ) → k < 20 → cut-refused k ≡ true
 refused k small = every-out cut-refused 20 (and-left (every cut-refused 20) (gotten sample sample (verdict 0 0)) samples) k small
 
-pub sample-worked : SampleWorked
+sample-worked : SampleWorked
 sample-worked = record {
   long = refl;
   whole = compared sample sample (verdict 0 0) (and-right (every cut-refused 20) (gotten sample sample (verdict 0 0)) samples);
@@ -60,5 +60,8 @@ sample-worked = record {
   cutSecond = λ k small. compared sample (take k sample) (verdict 19 0) (and-right (gotten (take k sample) sample (verdict 18 0)) (gotten sample (take k sample) (verdict 19 0)) (refused k small));
 }
 
-pub places-worked : PlacesWorked
+places-worked : PlacesWorked
 places-worked = record { drop-behind-words = refl; section-step = refl; inner-step = refl; inner-end = refl; whole-end = refl }
+
+pub texts-worked : TextsWorked
+texts-worked = (two-texts-worked, (sample-worked, places-worked))

@@ -9,7 +9,7 @@ use lib.Dec.{T}
 use lib.ListN.{length}
 use Rattle.lists.specs.Table.{listed}
 use Rattle.texts.specs.Text.{Section, stepsBytes, sectionBytes, Says, deepest}
-use Rattle.texts.specs.Agree.{unmatched, Verdict, placed, Compared, firstIll, secondIll, judged}
+use Rattle.texts.specs.Agree.{unmatched, Verdict, placed, Compared, firstIll, secondIll, bothFormed}
 use Rattle.texts.proofs.Once.{section-once}
 use Rattle.texts_claims.specs.Claims.{OneReading, NoneBehind, OneVerdict, Agreed, Disagreed, AgreedBothWays, BeginsThere, EndsThere, VerdictExactly, compareNumbers, TextClaims}
 use Rattle.texts_claims.proofs.Agree.{matched-agree, place-inside}
@@ -45,13 +45,13 @@ read-again {a} {b} {s} {t} {s′} {t′} p q p′ q′ =
 pub one-verdict : OneVerdict
 one-verdict a b v w (firstIll x e) (firstIll y f) = e ∙ sym f
 one-verdict a b v w (firstIll x e) (secondIll g y f) = absurd (x g)
-one-verdict a b v w (firstIll x e) (judged s t p q f) = absurd (x (s, p))
+one-verdict a b v w (firstIll x e) (bothFormed s t p q f) = absurd (x (s, p))
 one-verdict a b v w (secondIll g x e) (firstIll y f) = absurd (y g)
 one-verdict a b v w (secondIll g x e) (secondIll h y f) = e ∙ sym f
-one-verdict a b v w (secondIll g x e) (judged s t p q f) = absurd (x (t, q))
-one-verdict a b v w (judged s t p q e) (firstIll y f) = absurd (y (s, p))
-one-verdict a b v w (judged s t p q e) (secondIll h y f) = absurd (y (t, q))
-one-verdict a b v w (judged s t p q e) (judged s′ t′ p′ q′ f) = e ∙ ap placed (read-again p q p′ q′) ∙ sym f
+one-verdict a b v w (secondIll g x e) (bothFormed s t p q f) = absurd (x (t, q))
+one-verdict a b v w (bothFormed s t p q e) (firstIll y f) = absurd (y (s, p))
+one-verdict a b v w (bothFormed s t p q e) (secondIll h y f) = absurd (y (t, q))
+one-verdict a b v w (bothFormed s t p q e) (bothFormed s′ t′ p′ q′ f) = e ∙ ap placed (read-again p q p′ q′) ∙ sym f
 
 -- What the number of two well formed texts says of the place.
 module _ (a b : List ℕ) (s t : Section) (p : Says a s) (q : Says b t) where
@@ -122,12 +122,12 @@ exactly a b v (secondIll g x e) = record {
   there = λ z. absurd (omega (arith, z, number-of e));
   placeless = λ z. place-of e;
 }
-exactly a b v (judged s t p q e) = both-exactly a b s t p q v (unmatched s t 2) refl e
+exactly a b v (bothFormed s t p q e) = both-exactly a b s t p q v (unmatched s t 2) refl e
 
 numbers : (a b : List ℕ) (v : Verdict) → Compared a b v → T (listed compareNumbers (v .number))
 numbers a b v (firstIll x e) = rw (number-of e) tt
 numbers a b v (secondIll g x e) = rw (number-of e) tt
-numbers a b v (judged s t p q e) = go (unmatched s t 2) refl
+numbers a b v (bothFormed s t p q e) = go (unmatched s t 2) refl
   where
     go : (o : Option ℕ) → unmatched s t 2 ≡ o → T (listed compareNumbers (v .number))
     go none u = rw (number-of e, u) tt

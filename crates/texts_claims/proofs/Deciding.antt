@@ -1,5 +1,5 @@
 -- Verdicts by computation, for worked cases: a reader that is tried on bytes and finds every text that there is. Assumes nothing.
-use Prim.Native.Nat.{ℕ, zero, suc, _+_, _<_}
+use Prim.Native.Nat.{ℕ, zero, suc, _<_}
 use native.Mathlib.Omega.{arith}
 use mathlib.Core.Path.{_≡_, refl, sym, ap, _∙_}
 use mathlib.Core.Bool.{Bool, true, false, _&&_}
@@ -32,7 +32,7 @@ use Rattle.texts.specs.Text.{
   Says,
   WellFormedText,
 }
-use Rattle.texts.specs.Agree.{unmatched, Verdict, verdict, placed, Compared, firstIll, secondIll, judged}
+use Rattle.texts.specs.Agree.{unmatched, Verdict, verdict, placed, Compared, firstIll, secondIll, bothFormed}
 use Rattle.texts.proofs.Reading.{out}
 use Rattle.texts_claims.specs.Cases.{TextCase, Each}
 
@@ -237,7 +237,7 @@ compared a b v e = go (reading a) (reading b) refl refl e
     go (some s) (some t) p q e =
         let last = sameVerdict v (placed (unmatched s t 2)) in
         let rest = and-right (saysSo a s) (saysSo b t && last) e in
-        judged s t (says-so a s (and-left (saysSo a s) (saysSo b t && last) e)) (says-so b t (and-left (saysSo b t) last rest))
+        bothFormed s t (says-so a s (and-left (saysSo a s) (saysSo b t && last) e)) (says-so b t (and-left (saysSo b t) last rest))
         (same-verdict v (placed (unmatched s t 2)) (and-right (saysSo b t) last rest))
 
 unfoldable pub all-gotten : List TextCase → Bool

@@ -10,12 +10,12 @@ use lib.Dec.{T, lit<}
 use lib.ListN.{length, take}
 use Rattle.lists.specs.Table.{listed}
 use Rattle.text_drops.specs.Drop.{near, dropOf, celsius, fahrenheit}
-use Rattle.texts.specs.Text.{TextStep, Section, words, done, _then_, stepCount, stepsBytes, Says, WellFormedText, SectionWithin, StepsWithin}
+use Rattle.texts.specs.Text.{Section, words, done, _then_, stepCount, stepsBytes, Says, WellFormedText, SectionWithin, StepsWithin}
 use Rattle.texts.specs.Agree.{agreeSteps, unmatched, Compared, verdict}
 use Rattle.texts_claims.specs.Claims.{Agreed, Disagreed, BeginsThere, EndsThere, compareNumbers}
 use Rattle.texts_claims.specs.Cases.{holding, c205, f401, f402, sample, Each}
 use Rattle.texts_claims.proofs.Claims.{text-claims}
-use Rattle.texts_claims.proofs.Cases.{texts-worked, sample-worked}
+use Rattle.texts_claims.proofs.Cases.{texts-worked}
 
 abbrev empty : List ℕ
 empty = 1 ∷ 0 ∷ []
@@ -62,17 +62,17 @@ texts-both-ways b a = text-claims .agreedBothWays empty b .0 a
 
 near-drops : Compared (holding 1 c205) (holding 1 f401) (verdict 0 0)
 unfolding Each
-near-drops = texts-worked .0
+near-drops = texts-worked .0 .0
 
 far-drops : Compared (holding 1 c205) (holding 1 f402) (verdict 20 2)
 unfolding Each
-far-drops = texts-worked .1 .0
+far-drops = texts-worked .0 .1 .0
 
 cut-first : Compared (take 0 sample) sample (verdict 18 0)
-cut-first = sample-worked .cut 0 (lit< tt)
+cut-first = texts-worked .1 .0 .cut 0 (lit< tt)
 
 cut-second : Compared sample (take 0 sample) (verdict 19 0)
-cut-second = sample-worked .cutSecond 0 (lit< tt)
+cut-second = texts-worked .1 .0 .cutSecond 0 (lit< tt)
 
 one-verdict : verdict 20 2 ≡ verdict 20 2
 one-verdict = text-claims .oneVerdict (holding 1 c205) (holding 1 f402) (verdict 20 2) (verdict 20 2) far-drops far-drops

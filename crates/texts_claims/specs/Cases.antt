@@ -142,8 +142,8 @@ unfoldable pub Each : (TextCase → Type 0) → List TextCase → Type 0
 Each P [] = Unit {0}
 Each P (c ∷ cs) = P c × Each P cs
 
-abbrev pub TextsWorked : Type 0
-TextsWorked = Each (λ (c : TextCase). Compared (c .first) (c .second) (c .expected)) textCases
+abbrev pub TwoTextsWorked : Type 0
+TwoTextsWorked = Each (λ (c : TextCase). Compared (c .first) (c .second) (c .expected)) textCases
 
 -- The sample agrees with itself, and is refused when it is cut at any byte.
 pub record SampleWorked : Type 0 where
@@ -151,3 +151,7 @@ pub record SampleWorked : Type 0 where
   pub whole : Compared sample sample (verdict 0 0)
   pub cut : (k : ℕ) → k < 20 → Compared (take k sample) sample (verdict 18 0)
   pub cutSecond : (k : ℕ) → k < 20 → Compared sample (take k sample) (verdict 19 0)
+
+-- The worked cases of comparisons, as one table: pairs of texts, the sample, the places of five rows.
+abbrev pub TextsWorked : Type 0
+TextsWorked = TwoTextsWorked × (SampleWorked × PlacesWorked)

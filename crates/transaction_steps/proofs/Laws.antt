@@ -6,17 +6,15 @@ use mathlib.Core.Path.{_≡_, refl, sym, ap, _∙_}
 use mathlib.Core.List.{List}
 use mathlib.Core.Bool.{Bool, true, false, cond, not, _&&_, _||_, and-false, or-false}
 use borrow.Author.Tests.{le-ltb, eq-eqb, ne-eqb}
-use lib.ListN.{length}
 use lib.Dec.{eqb, ltb, leb}
 use Rattle.lists.specs.Parts.{every}
 use Rattle.lists.specs.Le.{field}
 use Rattle.lists.specs.Search.{any}
 use Rattle.lists.proofs.Tests.{and-left, and-right, never-both}
-use Rattle.redo_log.specs.Log.{LogRecord, updateKind, mostRecords, recordCard, lastBegun, recordAt, recordCount, records, goodLog}
-use Rattle.redo_log.proofs.Records.{last-ext}
-use Rattle.redo_log.proofs.ReadBack.{record-of, length-records}
+use Rattle.redo_log.specs.Log.{LogRecord, updateKind, mostRecords, recordCard, lastBegun, recordAt, recordCount, records}
+use Rattle.redo_log.proofs.ReadBack.{record-of}
 use Rattle.redo_recovery_model.specs.Recovery.{recordIn, transactionIn, commitsTo, syncsFrom, due}
-use Rattle.transactions.specs.System.{dueFor, writtenOut, updateIn, nothingDue}
+use Rattle.transactions.specs.System.{dueFor, writtenOut, updateIn}
 use Rattle.transaction_steps.specs.Steps.{firstOf, firstDue, lastDue, updatesCard}
 use Rattle.transaction_steps.specs.inner.Surveyed.{surveyed}
 use Rattle.transaction_steps.specs.declared.inner.Survey.{Survey}
@@ -93,7 +91,8 @@ module _ (rs : List LogRecord) (k reach t i : ℕ) where
 
   -- An update of the card.
   pub surveyed-more : (updates && here) ≡ true → {is : Bool} {last : ℕ} → is ≡ due rs i → last ≡ transactionIn rs i
-      → survey (surveyed rs k reach t i .due || is) (firstOf (surveyed rs k reach t i .line) (leb reach i && is) i) (cond is last (surveyed rs k reach t i .transaction)) (surveyed rs k reach t i .changed || eqb last t)
+      → survey (surveyed rs k reach t i .due || is) (firstOf (surveyed rs k reach t i .line) (leb reach i && is) i)
+      (cond is last (surveyed rs k reach t i .transaction)) (surveyed rs k reach t i .changed || eqb last t)
       ≡ surveyed rs k reach t (i + 1)
   unfolding surveyed
   surveyed-more e {is} {last} d l =

@@ -15,22 +15,7 @@ use Rattle.redo_log.proofs.ReadBack.{record-of, length-records}
 use Rattle.redo_recovery_model.specs.Recovery.{recordIn, transactionIn}
 use Rattle.transactions.specs.System.{writtenOut, nothingDue}
 use Rattle.transaction_steps.specs.declared.LastSeen.{LastSeen}
-use Rattle.transaction_steps.specs.declared.ToldStep.{ToldStep}
-use Rattle.transaction_steps.specs.Steps.{
-  plainStep,
-  nothingStep,
-  lookStep,
-  releaseStep,
-  badStep,
-  firstDue,
-  lastDue,
-  updatesCard,
-  wants,
-  finishing,
-  readying,
-  nextStep,
-  nextOf,
-}
+use Rattle.transaction_steps.specs.Steps.{plainStep, nothingStep, lookStep, releaseStep, badStep, firstDue, lastDue, wants, finishing, readying, nextStep, nextOf}
 use Rattle.transaction_steps.specs.Again.{beginsAgain, begunAgain}
 use Rattle.transaction_steps.specs.inner.Surveyed.{surveyed}
 use Rattle.transaction_steps.specs.declared.inner.Survey.{Survey}

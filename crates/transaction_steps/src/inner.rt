@@ -1,7 +1,7 @@
 // Steps of the operations, and what asks something of its caller.
 ghost use mathlib.Core.Path.{_≡_};
 ghost use mathlib.Core.Bool.{true, cond, _&&_};
-ghost use Prim.Native.Nat.{_+_, _<_, _≤_};
+ghost use Prim.Native.Nat.{_+_, _<_};
 ghost use lib.Dec.{eqb, leb};
 ghost use Rattle.redo_log.specs.Log.{goodLog, recordCount, recordAt, lastBegun, records, updateKind, recordCard};
 ghost use Rattle.redo_recovery_model.specs.Recovery.{recordIn};

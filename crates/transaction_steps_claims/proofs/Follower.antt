@@ -12,6 +12,7 @@ use Rattle.lists.specs.Parts.{every}
 use Rattle.lists.specs.Search.{any}
 use Rattle.lists.proofs.Every.{every-in, every-out}
 use Rattle.lists.proofs.Tests.{cases, never-both, and-in, and-left, and-right, or-left, or-right, or-cases}
+use Rattle.lists.specs.Runs.{foldl, everyAlong}
 use Rattle.store_model.specs.Words.{Sent}
 use Rattle.redo_log.specs.Log.{LogRecord, mostRecords, commitKind, syncedKind, recordCard, recordTransaction, records}
 use Rattle.redo_log.proofs.Records.{good-out}
@@ -36,21 +37,18 @@ use Rattle.transactions.specs.System.{
   writtenOut,
   writesLine,
   opensAbove,
-  orderly,
   updateIn,
   isHeld,
   isFree,
   appendable,
   lawful,
-  outcome,
   afterStep,
   afterSteps,
   lawfulAll,
 }
 use Rattle.transactions.specs.Claims.{StepBytes, AllSteps, Moment}
-use Rattle.transactions.proofs.Kept.{Clear, Kept}
+use Rattle.transactions.proofs.Kept.{Kept}
 use Rattle.transactions.proofs.Claims.{kept-opening, kept-next}
-use Rattle.transaction_steps.specs.declared.LastSeen.{LastSeen}
 use Rattle.transaction_steps.specs.declared.ToldStep.{ToldStep}
 use Rattle.transaction_steps.specs.Steps.{prepareStep, readyStep, writeStep, releaseStep, noteStep, lastDue, nextStep}
 use Rattle.transaction_steps_claims.specs.Follower.{
@@ -177,7 +175,8 @@ module _ (d : ℕ) (z : Follower) (g : Going d z) where
         let three = and-left (eqb (nextFor k going .step) writeStep && eqb (nextFor k going .line) line && writesOut d (commandIn s)) (writesLine s (recordIn rs line)) e in
         let two = and-left (eqb (nextFor k going .step) writeStep && eqb (nextFor k going .line) line) (writesOut d (commandIn s)) three in
         let same : nextFor k going .line ≡ line = eqb-true (nextFor k going .line) line (and-right (eqb (nextFor k going .step) writeStep) (eqb (nextFor k going .line) line) two) in
-        let told = when-write d rs k going (z .minds k .seen) short (eqb-true (nextFor k going .step) writeStep (and-left (eqb (nextFor k going .step) writeStep) (eqb (nextFor k going .line) line) two)) in
+        let told = when-write d rs k going (z .minds k .seen) short
+        (eqb-true (nextFor k going .step) writeStep (and-left (eqb (nextFor k going .step) writeStep) (eqb (nextFor k going .line) line) two)) in
         or-right (may-prepare || may-release)
         (and-in (and-right (eqb (nextFor k going .step) writeStep && eqb (nextFor k going .line) line) (writesOut d (commandIn s)) three)
         (and-in
@@ -224,7 +223,8 @@ module _ (d : ℕ) (z : Follower) (g : Going d z) where
         go (inr a) = eqb-true (nextFor (recordCard (recordIn rs i)) true .step) readyStep a
 
     commit-held : eqb (r .kind) commitKind ≡ true → every (λ i. not (updateIn rs (recordTransaction r) i) || isHeld (z .desk .holds (recordCard (recordIn rs i)))) (length rs) ≡ true
-    commit-held c = every-in (λ i. not (updateIn rs (recordTransaction r) i) || isHeld (z .desk .holds (recordCard (recordIn rs i)))) (length rs) (λ i q. go i q (cases (updateIn rs (recordTransaction r) i)))
+    commit-held c = every-in (λ i. not (updateIn rs (recordTransaction r) i) || isHeld (z .desk .holds (recordCard (recordIn rs i))))
+        (length rs) (λ i q. go i q (cases (updateIn rs (recordTransaction r) i)))
       where
         go : (i : ℕ) → i < length rs → (updateIn rs (recordTransaction r) i ≡ true) ⊎ (updateIn rs (recordTransaction r) i ≡ false)
             → (not (updateIn rs (recordTransaction r) i) || isHeld (z .desk .holds (recordCard (recordIn rs i)))) ≡ true
@@ -240,7 +240,8 @@ module _ (d : ℕ) (z : Follower) (g : Going d z) where
     note-free : noted ≡ true → may-sync ≡ true
     note-free e =
         let j : ℕ = recordCard r in
-        let told = when-note d rs j true (z .minds j .seen) (eqb-true (nextFor j true .step) noteStep (and-left (eqb (nextFor j true .step) noteStep) (eqb (nextFor j true .transaction) (recordTransaction r)) e)) in
+        let told = when-note d rs j true (z .minds j .seen)
+        (eqb-true (nextFor j true .step) noteStep (and-left (eqb (nextFor j true .step) noteStep) (eqb (nextFor j true .transaction) (recordTransaction r)) e)) in
         let same : lastDue rs j (length rs) ≡ recordTransaction r =
         sym (told .3) ∙ eqb-true (nextFor j true .transaction) (recordTransaction r) (and-right (eqb (nextFor j true .step) noteStep) (eqb (nextFor j true .transaction) (recordTransaction r)) e) in
         and-in (or-left (writtenOut rs j 0 (length rs)) (go (told .1) (g .minded j (told .0) .freely (told .2))))
@@ -288,18 +289,18 @@ pub record Ran (d : ℕ) (y end : OneDesk) : Type 0 where
   pub led : afterSteps d y steps ≡ end
 
 none-lawful : (d : ℕ) (y : OneDesk) → lawfulAll d y [] ≡ true
-unfolding lawfulAll
+unfolding everyAlong
 none-lawful d y = refl
 
 none-led : (d : ℕ) (y : OneDesk) → afterSteps d y [] ≡ y
-unfolding afterSteps
+unfolding foldl
 none-led d y = refl
 
 ran-none : (d : ℕ) (y : OneDesk) → Ran d y y
 ran-none d y = record { steps = []; sent = tt; rules = none-lawful d y; led = none-led d y }
 
 ran-more : (d : ℕ) (y end : OneDesk) (m : Step) → StepBytes m → lawful d y m ≡ true → Ran d (afterStep d y m) end → Ran d y end
-unfolding lawfulAll afterSteps
+unfolding everyAlong foldl
 ran-more d y end m b h r = record { steps = m ∷ r .steps; sent = (b, r .sent); rules = and-in h (r .rules); led = r .led }
 
 -- One thing more: a step by the rules, or none; and what holds goes on holding.
@@ -351,7 +352,7 @@ module _ (d : ℕ) (z : Follower) (g : Going d z) where
   one falling b h = stepped falling crash tt refl refl (λ j. nothing-minded d (afterStep d (z .desk) crash) j)
 
 run : (d : ℕ) (z : Follower) (doings : List Doing) → Going d z → AllDoings doings → allAsTold d z doings ≡ true → Ran d (z .desk) (afterDoings d z doings .desk)
-unfolding afterDoings allAsTold
+unfolding foldl everyAlong
 run d z [] g b h = ran-none d (z .desk)
 run d z (a ∷ doings) g b h =
     let o = one d z g a (b .0) (and-left (asTold d z a) (allAsTold d (afterDoing d z a) doings) h) in

@@ -5,4 +5,3 @@ pub mod Ends
 pub mod Taken
 pub mod Cases
 pub mod Uses
-pub mod AgainCases

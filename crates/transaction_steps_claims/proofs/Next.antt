@@ -1,5 +1,5 @@
 -- What each next step stands on. Assumes nothing.
-use Prim.Native.Nat.{ℕ, zero, suc, _≤_, _<_}
+use Prim.Native.Nat.{ℕ, zero, suc, _≤_}
 use native.Mathlib.Omega.{arith}
 use mathlib.Core.Path.{_≡_, refl, sym, ap, _∙_, subst}
 use mathlib.Core.Logic.{_⊎_, inl, inr}
@@ -10,32 +10,17 @@ use lib.ListN.{length}
 use lib.Dec.{eqb, ltb, leb}
 use Rattle.lists.specs.Parts.{every}
 use Rattle.lists.specs.Search.{any}
-use Rattle.lists.proofs.Every.{every-in, every-out, every-fails}
-use Rattle.lists.proofs.Tests.{cases, never-both, and-left, and-right, and-in, and-fails, or-left, or-right, or-cases, or-fails}
-use Rattle.commands.specs.Command.{Language, original, translation}
+use Rattle.lists.proofs.Every.{every-in, every-out}
+use Rattle.lists.proofs.Tests.{cases, never-both, and-left, and-right, and-in, and-fails, or-left, or-right, or-cases}
+use Rattle.commands.specs.Command.{original, translation}
 use Rattle.redo_log.specs.Log.{LogRecord, updateKind, mostRecords, recordCard, recordSide}
 use Rattle.redo_recovery_model.specs.Recovery.{recordIn, transactionIn, commitsTo, syncsFrom, due}
-use Rattle.redo_recovery_model.specs.Claims.{sideIs, rewrites}
+use Rattle.redo_recovery_model.specs.Claims.{sideIs}
 use Rattle.transactions.specs.System.{dueFor, writtenOut}
 use Rattle.transactions.proofs.Kept.{Clear}
 use Rattle.transaction_steps.specs.declared.LastSeen.{LastSeen}
 use Rattle.transaction_steps.specs.declared.ToldStep.{ToldStep}
-use Rattle.transaction_steps.specs.Steps.{
-  plainStep,
-  nothingStep,
-  lookStep,
-  prepareStep,
-  readyStep,
-  writeStep,
-  releaseStep,
-  noteStep,
-  waitStep,
-  firstOf,
-  firstDue,
-  lastDue,
-  wants,
-  nextStep,
-}
+use Rattle.transaction_steps.specs.Steps.{plainStep, nothingStep, lookStep, prepareStep, readyStep, writeStep, releaseStep, noteStep, waitStep, firstDue, lastDue, wants, nextStep}
 
 -- ---- the lines of a card
 
@@ -69,7 +54,8 @@ module _ (rs : List LogRecord) (k : ℕ) where
   last-committed zero e = absurd (never-both refl e)
   last-committed (suc i) e = go (last-committed i) (cases (dueFor rs k i)) (and-fails (writtenOut rs k 0 i) (ltb i 0 || not (dueFor rs k i)) e)
     where
-      go : (writtenOut rs k 0 i ≡ false → any (commitsTo (lastDue rs k i)) rs ≡ true) → (dueFor rs k i ≡ true) ⊎ (dueFor rs k i ≡ false) → (writtenOut rs k 0 i ≡ false) ⊎ ((writtenOut rs k 0 i ≡ true) × ((ltb i 0 || not (dueFor rs k i)) ≡ false))
+      go : (writtenOut rs k 0 i ≡ false → any (commitsTo (lastDue rs k i)) rs ≡ true) → (dueFor rs k i ≡ true) ⊎ (dueFor rs k i ≡ false)
+          → (writtenOut rs k 0 i ≡ false) ⊎ ((writtenOut rs k 0 i ≡ true) × ((ltb i 0 || not (dueFor rs k i)) ≡ false))
           → any (commitsTo (cond (dueFor rs k i) (transactionIn rs i) (lastDue rs k i))) rs ≡ true
       go earlier (inl a) f =
           let here : any (commitsTo (transactionIn rs i)) rs ≡ true =
@@ -82,7 +68,8 @@ module _ (rs : List LogRecord) (k : ℕ) where
 
   -- The first line that is due and not below the reach.
   pub data Found (reach n : ℕ) : Type 0 where
-    line-at : ltb (firstDue rs k reach n) mostRecords ≡ true → reach ≤ firstDue rs k reach n → dueFor rs k (firstDue rs k reach n) ≡ true → writtenOut rs k reach (firstDue rs k reach n) ≡ true → Found reach n
+    line-at : ltb (firstDue rs k reach n) mostRecords ≡ true → reach ≤ firstDue rs k reach n
+        → dueFor rs k (firstDue rs k reach n) ≡ true → writtenOut rs k reach (firstDue rs k reach n) ≡ true → Found reach n
     no-line : ltb (firstDue rs k reach n) mostRecords ≡ false → writtenOut rs k reach n ≡ true → Found reach n
 
   pub found : (reach n : ℕ) → n ≤ mostRecords → Found reach n
@@ -103,7 +90,8 @@ module _ (rs : List LogRecord) (k : ℕ) where
 
       go : Found reach i → ((leb reach i && dueFor rs k i) ≡ true) ⊎ ((leb reach i && dueFor rs k i) ≡ false) → Found reach (suc i)
       go (line-at a l b c) w = same before (pick true (leb reach i && dueFor rs k i) a refl) a l b c
-      go (no-line a b) (inl e) = same i (pick false true a e) (lt-ltb i mostRecords (omega arith)) (leb-true reach i (and-left (leb reach i) (dueFor rs k i) e)) (and-right (leb reach i) (dueFor rs k i) e) b
+      go (no-line a b) (inl e) = same i (pick false true a e) (lt-ltb i mostRecords (omega arith))
+          (leb-true reach i (and-left (leb reach i) (dueFor rs k i) e)) (and-right (leb reach i) (dueFor rs k i) e) b
       go (no-line a b) (inr e) =
           no-line (subst (λ (m : ℕ). ltb m mostRecords ≡ false) (pick false false a e) a) (and-in b (passed (and-fails (leb reach i) (dueFor rs k i) e)))
         where

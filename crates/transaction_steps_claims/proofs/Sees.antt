@@ -1,20 +1,20 @@
 -- What a desk has seen of a card stays true until it acts on the card: held is held, and free is free as long as
 -- something is due there. Assumes nothing.
-use Prim.Native.Nat.{ℕ, zero, suc, _≤_, _<_}
+use Prim.Native.Nat.{ℕ, zero, suc, _<_}
 use native.Mathlib.Omega.{arith}
 use mathlib.Core.Path.{_≡_, refl, sym, ap, _∙_, subst}
 use mathlib.Core.Logic.{_⊎_, inl, inr}
 use mathlib.Core.List.{List, []}
-use mathlib.Core.Bool.{Bool, true, false, cond, not, _&&_, _||_}
+use mathlib.Core.Bool.{Bool, true, false, cond, not, _&&_}
 use borrow.Author.Tests.{eqb-true, eq-eqb, ltb-true, not-true}
 use lib.ListN.{length, getD}
 use lib.Dec.{eqb}
 use Rattle.formats.specs.Format.{V1}
-use Rattle.lists.specs.Table.{first, settled}
-use Rattle.lists.proofs.Tests.{cases, never-both, and-left, and-right, or-left, or-right}
+use Rattle.lists.specs.Table.{settled}
+use Rattle.lists.proofs.Tests.{cases, never-both, and-left, and-right}
 use Rattle.stamps.specs.declared.Mark.{Mark}
 use Rattle.commands.specs.declared.Command.{Command}
-use Rattle.commands.specs.Command.{Language, isWrite}
+use Rattle.commands.specs.Command.{isWrite}
 use Rattle.commands.specs.Bytes.{formed}
 use Rattle.guard.specs.declared.Answer.{Answer}
 use Rattle.image.specs.Image.{Card, Cards}
@@ -41,8 +41,8 @@ use Rattle.transactions.specs.System.{
   renew,
   noOrder,
   commandIn,
-  expects,
-  leaves,
+  expectsMark,
+  leavesMark,
   prepares,
   updateIn,
   isHeld,
@@ -57,7 +57,7 @@ use Rattle.transactions.specs.Claims.{StepBytes}
 use Rattle.transactions.proofs.Records.{more}
 use Rattle.transactions.proofs.Due.{no-more, same-commit}
 use Rattle.transactions.proofs.Serving.{at, then, Taken, taken, kept, shown-mark}
-use Rattle.transactions.proofs.Kept.{bears, Clear, cardFor, relies, Fine, preparing, releasing, writing, Safe, Held, Kept, all-at}
+use Rattle.transactions.proofs.Kept.{bears, Clear, cardFor, relies, Fine, preparing, releasing, writing, Safe, Kept, all-at}
 use Rattle.transactions.proofs.Requests.{if-so, outcome-is, number-now, mark-shown}
 use Rattle.transactions.proofs.Orders.{past-none}
 use Rattle.transactions.proofs.Logged.{held-of, follow, uncounted}
@@ -168,18 +168,18 @@ module _ (d : ℕ) (y : OneDesk) (w : Kept d y) (s : Sent) where
   held-told : prepares d c ≡ true → a .number ≡ 0 → isHeld (heardOf d s a (y .holds (c .card))) ≡ true
   held-told p z =
       let t = taken (w .cs) s (w .good) (sym (number-now d y w s) ∙ z) in
-      let own : eqb (c .next .desk) d ≡ true = and-right (not (isWrite c) && eqb (c .expected .desk) 0) (leaves d c) p in
+      let own : eqb (c .next .desk) d ≡ true = and-right (not (isWrite c) && eqb (c .expected .desk) 0) (leavesMark d c) p in
       let mark : eqb (a .mark .desk) d ≡ true = subst (λ (m : ℕ). eqb m d ≡ true) (sym (shows-mark (t .wellFormed) ∙ ap (λ (m : Mark). m .desk) (t .mark))) own in
       rw (t .wellFormed, mark, p, z)
 
 -- ---- a request of somebody else
 
 module _ (d : ℕ) (y : OneDesk) (w : Kept d y) (s : Sent) (h : lawful d y (other s) ≡ true) where
-  unnamed : formed V1 (s .command) ≡ true → (expects d (commandIn s) ≡ false) × (leaves d (commandIn s) ≡ false)
+  unnamed : formed V1 (s .command) ≡ true → (expectsMark d (commandIn s) ≡ false) × (leavesMark d (commandIn s) ≡ false)
   unnamed f =
       let both = if-so (formed V1 (s .command)) h f in (
-        not-true (expects d (commandIn s)) (and-left (not (expects d (commandIn s))) (not (leaves d (commandIn s))) both),
-        not-true (leaves d (commandIn s)) (and-right (not (expects d (commandIn s))) (not (leaves d (commandIn s))) both),
+        not-true (expectsMark d (commandIn s)) (and-left (not (expectsMark d (commandIn s))) (not (leavesMark d (commandIn s))) both),
+        not-true (leavesMark d (commandIn s)) (and-right (not (expectsMark d (commandIn s))) (not (leavesMark d (commandIn s))) both),
       )
 
   refused-held : isHeld (y .holds (commandIn s .card)) ≡ true → numberOn V1 (w .cs) s ≡ 0 → ⊥
@@ -192,7 +192,7 @@ module _ (d : ℕ) (y : OneDesk) (w : Kept d y) (s : Sent) (h : lawful d y (othe
   no-prepare : prepares d (commandIn s) ≡ true → numberOn V1 (w .cs) s ≡ 0 → Clear (records (y .log)) (commandIn s .card)
   no-prepare p z =
       let t = taken (w .cs) s (w .good) z in
-      absurd (never-both (and-right (not (isWrite (commandIn s)) && eqb (commandIn s .expected .desk) 0) (leaves d (commandIn s)) p) (unnamed (t .wellFormed) .1))
+      absurd (never-both (and-right (not (isWrite (commandIn s)) && eqb (commandIn s .expected .desk) 0) (leavesMark d (commandIn s)) p) (unnamed (t .wellFormed) .1))
 
   pub sees-other : (j : ℕ) (v : LastSeen) → Sees d y j v → Sees d (afterStep d y (other s)) j v
   unfolding afterStep
@@ -243,7 +243,7 @@ module _ (d : ℕ) (y : OneDesk) (w : Kept d y) (i : ℕ) (h : lawful d y (arriv
       t = taken (w .cs) so (w .good) z
 
       front : (not (isWrite (commandIn so)) && eqb (commandIn so .expected .desk) 0) ≡ true
-      front = and-left (not (isWrite (commandIn so)) && eqb (commandIn so .expected .desk) 0) (leaves d (commandIn so)) p
+      front = and-left (not (isWrite (commandIn so)) && eqb (commandIn so .expected .desk) 0) (leavesMark d (commandIn so)) p
 
       none : commandIn so .expected .desk ≡ 0
       none = eqb-true (commandIn so .expected .desk) 0 (and-right (not (isWrite (commandIn so))) (eqb (commandIn so .expected .desk) 0) front)
@@ -255,10 +255,11 @@ module _ (d : ℕ) (y : OneDesk) (w : Kept d y) (i : ℕ) (h : lawful d y (arriv
           pick (inr u) = u
           pick (inl b) = absurd (w .some (sym (eqb-true (at (w .cs) (cardFor o) .mark .desk) d b) ∙ sym (t .fits) ∙ none))
       go (releasing q f) =
-          absurd (w .some (sym (eqb-true (commandIn so .expected .desk) d (and-right (not (isWrite (commandIn so))) (expects d (commandIn so)) (and-left (not (isWrite (commandIn so)) && expects d (commandIn so)) (eqb (commandIn so .next .desk) 0) q))) ∙ none))
+          absurd (w .some (sym (eqb-true (commandIn so .expected .desk) d (and-right (not (isWrite (commandIn so))) (expectsMark d (commandIn so))
+          (and-left (not (isWrite (commandIn so)) && expectsMark d (commandIn so)) (eqb (commandIn so .next .desk) 0) q))) ∙ none))
       go (writing q f) =
           absurd
-          (never-both (and-left (isWrite (commandIn so)) (expects d (commandIn so)) (and-left (isWrite (commandIn so) && expects d (commandIn so)) (leaves d (commandIn so)) q))
+          (never-both (and-left (isWrite (commandIn so)) (expectsMark d (commandIn so)) (and-left (isWrite (commandIn so) && expectsMark d (commandIn so)) (leavesMark d (commandIn so)) q))
           (not-true (isWrite (commandIn so)) (and-left (not (isWrite (commandIn so))) (eqb (commandIn so .expected .desk) 0) front)))
 
   pub sees-arrive : (j : ℕ) (v : LastSeen) → Sees d y j v → Sees d (afterStep d y (arrive i)) j v

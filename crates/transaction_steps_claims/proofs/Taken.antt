@@ -2,11 +2,10 @@
 use Prim.Native.Nat.{ℕ}
 use native.Mathlib.Omega.{arith}
 use mathlib.Core.Path.{_≡_, refl, sym, _∙_, subst}
-use mathlib.Core.List.{List}
-use mathlib.Core.Bool.{Bool, true, false, _&&_, _||_, and-false}
+use mathlib.Core.Bool.{Bool, true, false, _&&_, and-false}
 use borrow.Author.Tests.{eqb-true, eq-eqb, leb-true, le-leb, le-ltb, not-true}
 use lib.ListN.{length}
-use lib.Dec.{eqb, ltb, leb}
+use lib.Dec.{eqb}
 use Rattle.formats.specs.Format.{V1}
 use Rattle.lists.specs.Table.{all}
 use Rattle.lists.proofs.Tests.{and-in, or-none, all-out}
@@ -19,7 +18,7 @@ use Rattle.store_model.specs.Serve.{entryOf}
 use Rattle.store_model.specs.Words.{Sent}
 use Rattle.store_model.proofs.Machine.{numberOn}
 use Rattle.transactions.specs.System.{commandIn}
-use Rattle.transactions.proofs.Kept.{Kept, decoded}
+use Rattle.transactions.proofs.Kept.{decoded}
 use Rattle.transactions.proofs.Requests.{number-now}
 use Rattle.transactions.proofs.Claims.{kept-always}
 use Rattle.transactions_progress.proofs.Taken.{taken-by}
@@ -28,7 +27,8 @@ use Rattle.transaction_steps_claims.specs.Ends.{nobodyBetween, OrdersTak
 -- A pair that is the stored one is not stale, in either mode.
 never-stale : (mode : ℕ) (stored new : Pair) → new .s ≡ stored .s → new .x ≡ stored .x → stale mode stored new ≡ false
 never-stale mode stored new s x =
-    or-none (le-ltb (new .x) (stored .x) (omega (arith, x))) (subst (λ (b : Bool). (eqb mode exclusive && b) ≡ false) (sym (le-ltb (new .s) (stored .s) (omega (arith, s)))) (and-false (eqb mode exclusive)))
+    or-none (le-ltb (new .x) (stored .x) (omega (arith, x)))
+    (subst (λ (b : Bool). (eqb mode exclusive && b) ≡ false) (sym (le-ltb (new .s) (stored .s) (omega (arith, s)))) (and-false (eqb mode exclusive)))
 
 same-mark : (stored expected : Mark) → expected .desk ≡ stored .desk → expected .transaction ≡ stored .transaction → markFits stored expected ≡ true
 same-mark stored expected d t = and-in (eq-eqb (expected .desk) (stored .desk) d) (le-leb (stored .transaction) (expected .transaction) (omega (arith, t)))

@@ -13,6 +13,7 @@ use Rattle.formats.specs.Format.{V1}
 use Rattle.lists.specs.Parts.{part, splice, tabulate, concatMap, every, zeros}
 use Rattle.lists.specs.Le.{le, toLe}
 use Rattle.lists.specs.Table.{all, allFrom}
+use Rattle.lists.specs.Runs.{foldl, everyAlong}
 use Rattle.commands.specs.Command.{wellFormed}
 use Rattle.commands.specs.Bytes.{fieldsOf, payload, formed, commandBytes}
 use Rattle.image.specs.Layout.{shapeOk}
@@ -34,7 +35,7 @@ use Rattle.transaction_steps_claims.specs.Cases.{doneAsTold}
 use Rattle.transaction_steps_claims.proofs.Follower.{followers-keep-the-rules}
 use Rattle.transaction_steps_claims.proofs.Ends.{steps-end}
 use Rattle.transaction_steps_claims.proofs.Taken.{orders-taken}
-use Rattle.transaction_steps_claims.proofs.Cases.{follower-runs}
+use Rattle.transaction_steps_claims.proofs.Cases.{next-step-cases}
 
 shape-two : T (shapeOk V1 2 16)
 unfolding shapeOk all allFrom
@@ -73,7 +74,7 @@ afterHazard = afterDoings 5 (followerOpening (fresh V1 2 16) (emptyLog 64)) (map
 
 through-hazard : Moment 5 afterHazard
 through-hazard =
-    followers-keep-the-rules 5 (fresh V1 2 16) (emptyLog 64) (map doneAsTold hazard) clean blank (all-followed hazard (steps-tested hazard hazard-bytes)) (follower-runs .told)
+    followers-keep-the-rules 5 (fresh V1 2 16) (emptyLog 64) (map doneAsTold hazard) clean blank (all-followed hazard (steps-tested hazard hazard-bytes)) (next-step-cases .1 .0 .told)
 
 -- It forgets a card that is not there, falls, logs half a begin and then a whole one, and lets its log begin again.
 abbrev idly : List Doing
@@ -84,7 +85,7 @@ unfolding stepTest belowTest toLe
 idly-bytes = (tt, (tt, (step-tested (append 3 (beginOf 1)) refl, (step-tested (append 16 (beginOf 1)) refl, (tt, tt)))))
 
 idly-told : allAsTold 5 (followerOpening (fresh V1 2 16) (emptyLog 4)) idly ≡ true
-unfolding allAsTold afterDoing afterStep due stored puts lineBytes stores appended shaped lastBegun opened follows total startAt recordAt recordOk goodLog
+unfolding everyAlong afterDoing afterStep due stored puts lineBytes stores appended shaped lastBegun opened follows total startAt recordAt recordOk goodLog
     records all allFrom le toLe part splice tabulate every zeros
 idly-told = refl
 
@@ -121,7 +122,7 @@ ends-done = ends .ended .done
 -- ---- an order that nobody came before (rule 16.29)
 
 beginning : Moment 5 atFirst
-unfolding allAsTold afterDoings
+unfolding everyAlong foldl
 beginning = followers-keep-the-rules 5 (fresh V1 2 16) (emptyLog 64) [] clean blank tt refl
 
 nobody-came : all (nobodyBetween (decode V1 (fresh V1 2 16)) (prepare 1 0 (five 1000000))) ≡ true

@@ -1,4 +1,4 @@
--- A log that begins again, in bytes (docs/RULES.md, rules 11.27, 16.18 and 16.27). Proved in proofs/AgainCases.antt.
+-- A log that begins again, in bytes (docs/RULES.md, rules 11.27, 16.18 and 16.27). Proved in proofs/Cases.antt.
 -- Assumes nothing.
 use Prim.Native.Nat.{ℕ}
 use mathlib.Core.Path.{_≡_}

@@ -1,4 +1,5 @@
--- Next steps row by row, and a desk that follows them through the hazard. Proved in proofs/Cases.antt.
+-- Next steps row by row, and a desk that follows them through the hazard; with logs that begin again, one table. Proved
+-- in proofs/Cases.antt.
 -- Assumes nothing.
 use Prim.Native.Nat.{ℕ}
 use mathlib.Core.Path.{_≡_}
@@ -31,6 +32,7 @@ use Rattle.transactions_cases.specs.Cases.{
 use Rattle.transaction_steps.specs.declared.LastSeen.{LastSeen}
 use Rattle.transaction_steps.specs.declared.ToldStep.{ToldStep}
 use Rattle.transaction_steps.specs.Steps.{plainStep, nothingStep, lookStep, prepareStep, readyStep, writeStep, releaseStep, noteStep, waitStep, badStep, nextStep, nextOf, seenUpon}
+use Rattle.transaction_steps_claims.specs.AgainCases.{AgainCases}
 use Rattle.transaction_steps_claims.specs.Ends.{nobodyBetween}
 use Rattle.transaction_steps_claims.specs.Follower.{Doing, incoming, arriving, sending, logging, renewing, falling, followerOpening, allAsTold}
 
@@ -124,3 +126,9 @@ pub record FollowerRuns : Type 0 where
       map (λ (steps : List Step). all (nobodyBetween (decode V1 (afterSteps 5 atFirst steps .image)) (prepare 0 (one 1) (five 2))))
       (begins ∷ (begins ++ (writes1 0 (one 9) text210 ∷ [])) ∷ [])
       ≡ true ∷ false ∷ []
+
+-- ---- all of them
+
+-- One table: the rows, the runs, and logs that begin again.
+abbrev pub NextStepCases : Type 0
+NextStepCases = StepRows × (FollowerRuns × AgainCases)

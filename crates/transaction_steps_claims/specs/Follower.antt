@@ -9,6 +9,7 @@ use mathlib.Core.Bool.{Bool, true, false, cond, not, _&&_, _||_}
 use lib.ListN.{length, getD}
 use lib.Dec.{ltb, eqb}
 use Rattle.lists.specs.Parts.{every}
+use Rattle.lists.specs.Runs.{foldl, everyAlong}
 use Rattle.commands.specs.Command.{isWrite}
 use Rattle.guard.specs.declared.Answer.{Answer}
 use Rattle.store_model.specs.Words.{Sent}
@@ -20,13 +21,11 @@ use Rattle.transactions.specs.System.{
   Shown,
   noOrder,
   noShown,
-  Step,
   other,
   order,
   arrive,
   append,
   crash,
-  recover,
   renew,
   oneDeskOpening,
   commandIn,
@@ -159,13 +158,11 @@ afterDoing d z renewing = record { desk = afterStep d (z .desk) renew; minds = z
 afterDoing d z (dropping k) = record { desk = z .desk; minds = withMind k noMind (z .minds) }
 afterDoing d z falling = record { desk = afterStep d (z .desk) crash; minds = λ k. noMind }
 
-unfoldable pub afterDoings : ℕ → Follower → List Doing → Follower
-afterDoings d z [] = z
-afterDoings d z (a ∷ doings) = afterDoings d (afterDoing d z a) doings
+abbrev pub afterDoings : ℕ → Follower → List Doing → Follower
+afterDoings d z doings = foldl (afterDoing d) z doings
 
-unfoldable pub allAsTold : ℕ → Follower → List Doing → Bool
-allAsTold d z [] = true
-allAsTold d z (a ∷ doings) = asTold d z a && allAsTold d (afterDoing d z a) doings
+abbrev pub allAsTold : ℕ → Follower → List Doing → Bool
+allAsTold d z doings = everyAlong (asTold d) (afterDoing d) z doings
 
 -- ---- what is claimed
 

@@ -33,8 +33,8 @@ use Rattle.transactions.specs.System.{
   arrive,
   noOrder,
   commandIn,
-  expects,
-  leaves,
+  expectsMark,
+  leavesMark,
   prepares,
   writesOut,
   releases,
@@ -254,16 +254,16 @@ module _ (d : ℕ) (y : OneDesk) (k : Kept d y) (i : ℕ) (h : lawful d y (arriv
     -- A prepare.
     module _ (p : prepares d c ≡ true) (f : old .pair .x ≤ relies o → (bears d old ≡ true) ⊎ Clear rs (c .card)) where
       plain : isWrite c ≡ false
-      plain = not-true (isWrite c) (and-left (not (isWrite c)) (eqb (c .expected .desk) 0) (and-left (not (isWrite c) && eqb (c .expected .desk) 0) (leaves d c) p))
+      plain = not-true (isWrite c) (and-left (not (isWrite c)) (eqb (c .expected .desk) 0) (and-left (not (isWrite c) && eqb (c .expected .desk) 0) (leavesMark d c) p))
 
       none : eqb (c .expected .desk) 0 ≡ true
-      none = and-right (not (isWrite c)) (eqb (c .expected .desk) 0) (and-left (not (isWrite c) && eqb (c .expected .desk) 0) (leaves d c) p)
+      none = and-right (not (isWrite c)) (eqb (c .expected .desk) 0) (and-left (not (isWrite c) && eqb (c .expected .desk) 0) (leavesMark d c) p)
 
       unborne : bears d old ≡ false
       unborne = bears-old false (ne-eqb (c .expected .desk) d (λ e. k .some (sym e ∙ eqb-true (c .expected .desk) 0 none)))
 
       borne : bears d now ≡ true
-      borne = bears-next true (and-right (not (isWrite c) && eqb (c .expected .desk) 0) (leaves d c) p)
+      borne = bears-next true (and-right (not (isWrite c) && eqb (c .expected .desk) 0) (leavesMark d c) p)
 
       clear : Clear rs (c .card)
       clear = go (f (t .fresh))
@@ -299,16 +299,16 @@ module _ (d : ℕ) (y : OneDesk) (k : Kept d y) (i : ℕ) (h : lawful d y (arriv
     -- A release.
     module _ (p : releases d c ≡ true) (f : old .pair .x ≤ relies o → bears d old ≡ true → Reached rs (c .card) (length rs) old) where
       plain-r : isWrite c ≡ false
-      plain-r = not-true (isWrite c) (and-left (not (isWrite c)) (expects d c) (and-left (not (isWrite c) && expects d c) (eqb (c .next .desk) 0) p))
+      plain-r = not-true (isWrite c) (and-left (not (isWrite c)) (expectsMark d c) (and-left (not (isWrite c) && expectsMark d c) (eqb (c .next .desk) 0) p))
 
-      expected-r : expects d c ≡ true
-      expected-r = and-right (not (isWrite c)) (expects d c) (and-left (not (isWrite c) && expects d c) (eqb (c .next .desk) 0) p)
+      expected-r : expectsMark d c ≡ true
+      expected-r = and-right (not (isWrite c)) (expectsMark d c) (and-left (not (isWrite c) && expectsMark d c) (eqb (c .next .desk) 0) p)
 
       borne-r : bears d old ≡ true
       borne-r = bears-old true expected-r
 
       unborne-r : bears d now ≡ false
-      unborne-r = bears-next false (ne-eqb (c .next .desk) d (λ e. k .some (sym e ∙ eqb-true (c .next .desk) 0 (and-right (not (isWrite c) && expects d c) (eqb (c .next .desk) 0) p))))
+      unborne-r = bears-next false (ne-eqb (c .next .desk) d (λ e. k .some (sym e ∙ eqb-true (c .next .desk) 0 (and-right (not (isWrite c) && expectsMark d c) (eqb (c .next .desk) 0) p))))
 
       arrive-release : Kept d (afterStep d y (arrive i))
       arrive-release =
@@ -321,20 +321,20 @@ module _ (d : ℕ) (y : OneDesk) (k : Kept d y) (i : ℕ) (h : lawful d y (arriv
           (knows-heard d rs (y .orders) (v ∷ y .shown) (c .card) now s a (y .holds (c .card))
           (known (y .holds (c .card)) (k .knows (c .card)) (λ e. inl unborne-r))
           (λ q e. absurd (never-both
-          (and-right (not (isWrite c)) (eqb (c .expected .desk) 0) (and-left (not (isWrite c) && eqb (c .expected .desk) 0) (leaves d c) q))
+          (and-right (not (isWrite c)) (eqb (c .expected .desk) 0) (and-left (not (isWrite c) && eqb (c .expected .desk) 0) (leavesMark d c) q))
           (not-none (c .expected .desk) expected-r)))
           (λ q e. inl unborne-r))
 
     -- A write.
     module _ (p : writesOut d c ≡ true) (f : old .pair .x ≤ relies o → bears d old ≡ true → Ready rs (c .card) old o) where
       is-write : isWrite c ≡ true
-      is-write = and-left (isWrite c) (expects d c) (and-left (isWrite c && expects d c) (leaves d c) p)
+      is-write = and-left (isWrite c) (expectsMark d c) (and-left (isWrite c && expectsMark d c) (leavesMark d c) p)
 
       borne-w : bears d old ≡ true
-      borne-w = bears-old true (and-right (isWrite c) (expects d c) (and-left (isWrite c && expects d c) (leaves d c) p))
+      borne-w = bears-old true (and-right (isWrite c) (expectsMark d c) (and-left (isWrite c && expectsMark d c) (leavesMark d c) p))
 
       still : bears d now ≡ true
-      still = bears-next true (and-right (isWrite c && expects d c) (leaves d c) p)
+      still = bears-next true (and-right (isWrite c && expectsMark d c) (leavesMark d c) p)
 
       ready : Ready rs (c .card) old o
       ready = f (t .fresh) borne-w
@@ -377,7 +377,7 @@ module _ (d : ℕ) (y : OneDesk) (k : Kept d y) (i : ℕ) (h : lawful d y (arriv
           (λ live e. subst (λ (m : ℕ). Onward rs (c .card) m now) (sym reach-w) (λ l. text-w l .1))
           (knows-heard d rs (y .orders) (v ∷ y .shown) (c .card) now s a (y .holds (c .card))
           (known (y .holds (c .card)) (k .knows (c .card)) (λ e. absurd (never-both borne-w e)))
-          (λ q e. absurd (none-w (not-true (isWrite c) (and-left (not (isWrite c)) (eqb (c .expected .desk) 0) (and-left (not (isWrite c) && eqb (c .expected .desk) 0) (leaves d c) q)))))
+          (λ q e. absurd (none-w (not-true (isWrite c) (and-left (not (isWrite c)) (eqb (c .expected .desk) 0) (and-left (not (isWrite c) && eqb (c .expected .desk) 0) (leavesMark d c) q)))))
           (λ q e. inl (mark-shown d y k s q e)))
 
     arrive-taken : Fine d rs (c .card) old o → Kept d (afterStep d y (arrive i))

@@ -12,6 +12,7 @@ use Rattle.formats.specs.Format.{V1}
 use Rattle.lists.specs.Parts.{Bytes, every, tabulate}
 use Rattle.lists.proofs.Bytes.{Bytes-replicate}
 use Rattle.lists.proofs.Tests.{cases, never-both, and-left, and-right, from-T, to-T}
+use Rattle.lists.specs.Runs.{foldl, everyAlong}
 use Rattle.commands.specs.Command.{Language, isWrite}
 use Rattle.commands.specs.Bytes.{payload}
 use Rattle.image.specs.Image.{Cards, text, noCard, encode, decode, sound, fresh, freshCards}
@@ -89,7 +90,7 @@ kept-next d y (recover pairs lines) k b h = kept-recover d y k pairs lines b h
 kept-next d y renew k b h = kept-renew d y k h
 
 kept-run : (d : ℕ) (y : OneDesk) (steps : List Step) → Kept d y → AllSteps steps → lawfulAll d y steps ≡ true → Kept d (afterSteps d y steps)
-unfolding afterSteps lawfulAll
+unfolding foldl everyAlong
 kept-run d y [] k b h = k
 kept-run d y (m ∷ steps) k b h =
     kept-run d (afterStep d y m) steps
@@ -259,7 +260,7 @@ meant-only-then d y =
     }
 
 pub never-half : NeverHalf
-unfolding afterSteps lawfulAll
+unfolding foldl everyAlong
 never-half d y budget r later m z c rules bytes quiet =
     let k = kept-always d y m in
     let now = kept-next d y (append budget r) k (bytes .0) (and-left (lawful d y (append budget r)) (lawfulAll d (afterStep d y (append budget r)) later) rules) in

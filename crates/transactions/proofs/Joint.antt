@@ -12,6 +12,7 @@ use lib.Dec.{eqb}
 use Rattle.formats.specs.Format.{V1}
 use Rattle.lists.specs.Parts.{Bytes}
 use Rattle.lists.proofs.Tests.{cases, never-both, and-left, and-right, or-cases, or-right, from-T, to-T}
+use Rattle.lists.specs.Runs.{foldl, everyAlong}
 use Rattle.stamps.specs.declared.Mark.{Mark}
 use Rattle.commands.specs.declared.Command.{Command}
 use Rattle.commands.specs.Command.{Language, isWrite, writes}
@@ -46,8 +47,8 @@ use Rattle.transactions.specs.System.{
   renew,
   noOrder,
   commandIn,
-  expects,
-  leaves,
+  expectsMark,
+  leavesMark,
   lawful,
   meantAfter,
   meantLogged,
@@ -62,7 +63,7 @@ use Rattle.transactions.specs.Desks.{
   desksOpening,
   DeskStep,
   outside,
-  own,
+  byDesk,
   ownStep,
   lawfulDeskStep,
   afterDeskStep,
@@ -224,7 +225,7 @@ module _ (ruled : ℕ → Bool) (y : Desks) (j : Joint ruled y) (s : Sent) where
     good-out = subst (GoodCards V1) (sym decode-then) good-then
 
   -- For a desk under the rules whose mark it neither expects nor leaves it is somebody else's.
-  side-other : (b : SentBytes s) (e : ℕ) → ruled e ≡ true → (formed V1 (s .command) ≡ true → (expects e c ≡ false) × (leaves e c ≡ false)) → Side e
+  side-other : (b : SentBytes s) (e : ℕ) → ruled e ≡ true → (formed V1 (s .command) ≡ true → (expectsMark e c ≡ false) × (leavesMark e c ≡ false)) → Side e
       (out .image) (partOf (afterStep e (seenBy e y) (other s)))
   unfolding afterStep
   side-other b e r f = side-of e (afterStep e (alone e y) (other s)) (kept-other e (alone e y) (kept-alone ruled y j e r) s b (rule (cases (formed V1 (s .command)))))
@@ -232,7 +233,7 @@ module _ (ruled : ℕ → Bool) (y : Desks) (j : Joint ruled y) (s : Sent) where
       rule : (formed V1 (s .command) ≡ true) ⊎ (formed V1 (s .command) ≡ false) → lawful e (alone e y) (other s) ≡ true
       rule (inl q) = or-right (not (formed V1 (s .command))) (both (f q))
         where
-          both : (expects e c ≡ false) × (leaves e c ≡ false) → (not (expects e c) && not (leaves e c)) ≡ true
+          both : (expectsMark e c ≡ false) × (leavesMark e c ≡ false) → (not (expectsMark e c) && not (leavesMark e c)) ≡ true
           both w = rw (w .0, w .1)
       rule (inr q) = rw q
 
@@ -334,7 +335,7 @@ module _ (ruled : ℕ → Bool) (y : Desks) (j : Joint ruled y) (d : ℕ) (r : r
       go (inr x) = subst (λ (t : Bool). P e (cond t a (f e))) (sym x) (q e x)
 
   -- It sends an order, or goes down: no log changes, and nothing of the store.
-  joint-order : (s : Sent) (line from : ℕ) → SentBytes s → lawful d (seenBy d y) (order s line from) ≡ true → Joint ruled (afterDeskStep y (own d (order s line from)))
+  joint-order : (s : Sent) (line from : ℕ) → SentBytes s → lawful d (seenBy d y) (order s line from) ≡ true → Joint ruled (afterDeskStep y (byDesk d (order s line from)))
   unfolding afterDeskStep afterStep
   joint-order s line from b h =
       record {
@@ -349,7 +350,7 @@ module _ (ruled : ℕ → Bool) (y : Desks) (j : Joint ruled y) (d : ℕ) (r : r
             (λ q. side-of d (afterStep d (alone d y) (order s line from)) (kept-order d (alone d y) mine s line from b h)) (λ n x q. j .side n q) e;
       }
 
-  joint-crash : Joint ruled (afterDeskStep y (own d crash))
+  joint-crash : Joint ruled (afterDeskStep y (byDesk d crash))
   unfolding afterDeskStep afterStep
   joint-crash =
       record {
@@ -412,7 +413,7 @@ module _ (ruled : ℕ → Bool) (y : Desks) (j : Joint ruled y) (d : ℕ) (r : r
                   (j .texts k .marked w l ∙ sym (unborne-meant d (alone d y) mine budget q qb h k b (y .meant) l));
             }
 
-    joint-append : Joint ruled (afterDeskStep y (own d (append budget q)))
+    joint-append : Joint ruled (afterDeskStep y (byDesk d (append budget q)))
     unfolding afterDeskStep afterStep
     joint-append =
         record {
@@ -489,7 +490,7 @@ module _ (ruled : ℕ → Bool) (y : Desks) (j : Joint ruled y) (d : ℕ) (r : r
                   subst (λ (g : List ℕ). rewritten (records g) l k (length (records g)) (text l (at before k)) ≡ y .meant k l) (renewed-there (at before k .mark .desk) b) (j .texts k .marked w l);
             }
 
-    joint-renew : Joint ruled (afterDeskStep y (own d renew))
+    joint-renew : Joint ruled (afterDeskStep y (byDesk d renew))
     unfolding afterDeskStep afterStep
     joint-renew =
         record {
@@ -578,7 +579,7 @@ module _ (ruled : ℕ → Bool) (y : Desks) (j : Joint ruled y) (d : ℕ) (r : r
         knows-there k (rises up b m) held q = absurd (never-both (q .bearing) (away k (at before k) b))
         knows-there k (rises up b m) free q = inl (ap (λ (c : Mark). eqb (c .desk) e) m ∙ away k (at before k) b)
 
-    joint-recover : Joint ruled (afterDeskStep y (own d (recover pairs lines)))
+    joint-recover : Joint ruled (afterDeskStep y (byDesk d (recover pairs lines)))
     unfolding afterDeskStep afterStep
     joint-recover =
         record {
@@ -625,16 +626,16 @@ module _ (ruled : ℕ → Bool) (y : Desks) (j : Joint ruled y) (d : ℕ) (r : r
         go (preparing p f) = (
           inl (eqb-true (cmd-o .expected .desk) 0
               (and-right (not (isWrite cmd-o)) (eqb (cmd-o .expected .desk) 0)
-              (and-left (not (isWrite cmd-o) && eqb (cmd-o .expected .desk) 0) (leaves d cmd-o) p))),
-          inr (eqb-true (cmd-o .next .desk) d (and-right (not (isWrite cmd-o) && eqb (cmd-o .expected .desk) 0) (leaves d cmd-o) p)),
+              (and-left (not (isWrite cmd-o) && eqb (cmd-o .expected .desk) 0) (leavesMark d cmd-o) p))),
+          inr (eqb-true (cmd-o .next .desk) d (and-right (not (isWrite cmd-o) && eqb (cmd-o .expected .desk) 0) (leavesMark d cmd-o) p)),
         )
         go (releasing p f) = (
-          inr (eqb-true (cmd-o .expected .desk) d (and-right (not (isWrite cmd-o)) (expects d cmd-o) (and-left (not (isWrite cmd-o) && expects d cmd-o) (eqb (cmd-o .next .desk) 0) p))),
-          inl (eqb-true (cmd-o .next .desk) 0 (and-right (not (isWrite cmd-o) && expects d cmd-o) (eqb (cmd-o .next .desk) 0) p)),
+          inr (eqb-true (cmd-o .expected .desk) d (and-right (not (isWrite cmd-o)) (expectsMark d cmd-o) (and-left (not (isWrite cmd-o) && expectsMark d cmd-o) (eqb (cmd-o .next .desk) 0) p))),
+          inl (eqb-true (cmd-o .next .desk) 0 (and-right (not (isWrite cmd-o) && expectsMark d cmd-o) (eqb (cmd-o .next .desk) 0) p)),
         )
         go (writing p f) = (
-          inr (eqb-true (cmd-o .expected .desk) d (and-right (isWrite cmd-o) (expects d cmd-o) (and-left (isWrite cmd-o && expects d cmd-o) (leaves d cmd-o) p))),
-          inr (eqb-true (cmd-o .next .desk) d (and-right (isWrite cmd-o && expects d cmd-o) (leaves d cmd-o) p)),
+          inr (eqb-true (cmd-o .expected .desk) d (and-right (isWrite cmd-o) (expectsMark d cmd-o) (and-left (isWrite cmd-o && expectsMark d cmd-o) (leavesMark d cmd-o) p))),
+          inr (eqb-true (cmd-o .next .desk) d (and-right (isWrite cmd-o && expectsMark d cmd-o) (leavesMark d cmd-o) p)),
         )
 
     landed : Kept d (afterStep d (alone d y) (arrive i))
@@ -672,7 +673,7 @@ module _ (ruled : ℕ → Bool) (y : Desks) (j : Joint ruled y) (d : ℕ) (r : r
                 stand-as ruled (λ (e : ℕ). y .part e .log) (λ (e : ℕ). y .part e .log) (alone d y .meant k) (y .meant k) k (at (decode V1 (got-o .image)) k) (λ n. refl) (meant-own k first)
                 (stand-own k (at (decode V1 (got-o .image)) k) (alone d y .meant k) last-now (own-landed k))
 
-    joint-arrive : Joint ruled (afterDeskStep y (own d (arrive i)))
+    joint-arrive : Joint ruled (afterDeskStep y (byDesk d (arrive i)))
     unfolding afterDeskStep afterStep
     joint-arrive =
         record {
@@ -694,7 +695,7 @@ module _ (ruled : ℕ → Bool) (y : Desks) (j : Joint ruled y) (d : ℕ) (r : r
 -- ---- a run
 
 joint-own : (ruled : ℕ → Bool) (y : Desks) (j : Joint ruled y) (d : ℕ) (m : Step) → StepBytes m → ruled d ≡ true → ownStep m ≡ true → lawful d
-    (seenBy d y) m ≡ true → Joint ruled (afterDeskStep y (own d m))
+    (seenBy d y) m ≡ true → Joint ruled (afterDeskStep y (byDesk d m))
 joint-own ruled y j d (other s) b r w h = absurd (never-both refl (sym w))
 joint-own ruled y j d (order s line from) b r w h = joint-order ruled y j d r s line from b h
 joint-own ruled y j d (arrive i) b r w h = joint-arrive ruled y j d r i h
@@ -705,12 +706,12 @@ joint-own ruled y j d renew b r w h = joint-renew ruled y j d r h
 
 pub joint-next : (ruled : ℕ → Bool) (y : Desks) (m : DeskStep) → Joint ruled y → DeskStepBytes m → lawfulDeskStep ruled y m ≡ true → Joint ruled (afterDeskStep y m)
 joint-next ruled y (outside s) j b h = joint-outside ruled y j s b h
-joint-next ruled y (own d m) j b h =
+joint-next ruled y (byDesk d m) j b h =
     let two = and-left (ruled d && ownStep m) (lawful d (seenBy d y) m) h in
     joint-own ruled y j d m b (and-left (ruled d) (ownStep m) two) (and-right (ruled d) (ownStep m) two) (and-right (ruled d && ownStep m) (lawful d (seenBy d y) m) h)
 
 joint-run : (ruled : ℕ → Bool) (y : Desks) (steps : List DeskStep) → Joint ruled y → AllDeskSteps steps → lawfulDeskSteps ruled y steps ≡ true → Joint ruled (afterDeskSteps y steps)
-unfolding afterDeskSteps lawfulDeskSteps
+unfolding foldl everyAlong
 joint-run ruled y [] j b h = j
 joint-run ruled y (m ∷ steps) j b h =
     joint-run ruled (afterDeskStep y m) steps

@@ -18,7 +18,7 @@ use Rattle.redo_log_claims.specs.Life.{Renewal}
 use Rattle.redo_log_claims.proofs.Life.{renews}
 use Rattle.redo_recovery_model.specs.Recovery.{recordIn, due}
 use Rattle.redo_recovery_model.specs.Claims.{sideIs, rewrites, rewritten}
-use Rattle.transactions.specs.System.{OneDesk, Order, Shown, Holding, unknown, held, free, renew, commandIn, expects, leaves, writesOut, lawful, afterStep}
+use Rattle.transactions.specs.System.{OneDesk, Order, Shown, Holding, unknown, held, free, renew, commandIn, expectsMark, leavesMark, writesOut, lawful, afterStep}
 use Rattle.transactions.proofs.Records.{All, all-map, Ordered, ordered-none}
 use Rattle.transactions.proofs.Due.{rewritten-none}
 use Rattle.transactions.proofs.Serving.{at}
@@ -71,7 +71,7 @@ module _ (d : ℕ) (y : OneDesk) (k : Kept d y) (h : lawful d y renew ≡ true) 
   not-ready : (j : ℕ) (card : Card) (o : Order) → writesOut d (commandIn (o .sent)) ≡ true → Ready rs j card o → Ready [] j card o
   not-ready j card o p w =
       let c : Command = commandIn (o .sent) in
-      let some = some-written c (and-left (isWrite c) (expects d c) (and-left (isWrite c && expects d c) (leaves d c) p)) in
+      let some = some-written c (and-left (isWrite c) (expectsMark d c) (and-left (isWrite c && expectsMark d c) (leavesMark d c) p)) in
       absurd (never-both (some .1) (sym (w .place (some .0)) ∙ quiet (some .0) j (o .line)))
 
   fine-now : (j : ℕ) (card : Card) (o : Order) → Fine d rs j card o → Fine d [] j card o

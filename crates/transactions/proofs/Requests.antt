@@ -35,8 +35,8 @@ use Rattle.transactions.specs.System.{
   other,
   crash,
   commandIn,
-  expects,
-  leaves,
+  expectsMark,
+  leavesMark,
   prepares,
   lawful,
   outcome,
@@ -177,14 +177,14 @@ module _ (d : ℕ) (y : OneDesk) (k : Kept d y) (s : Sent) (b : SentBytes s) (h 
     abbrev t : Taken (k .cs) s
     t = taken (k .cs) s (k .good) z
 
-    apart : (not (expects d c) && not (leaves d c)) ≡ true
+    apart : (not (expectsMark d c) && not (leavesMark d c)) ≡ true
     apart = if-so (formed V1 (s .command)) h (t .wellFormed)
 
     unborne : bears d (at (k .cs) (c .card)) ≡ false
-    unborne = subst (λ (m : ℕ). eqb m d ≡ false) (t .fits) (not-true (expects d c) (and-left (not (expects d c)) (not (leaves d c)) apart))
+    unborne = subst (λ (m : ℕ). eqb m d ≡ false) (t .fits) (not-true (expectsMark d c) (and-left (not (expectsMark d c)) (not (leavesMark d c)) apart))
 
     unborne-now : bears d (at new (c .card)) ≡ false
-    unborne-now = ap (λ (m : ℕ). eqb m d) (ap (λ m. m .desk) (t .mark)) ∙ not-true (leaves d c) (and-right (not (expects d c)) (not (leaves d c)) apart)
+    unborne-now = ap (λ (m : ℕ). eqb m d) (ap (λ m. m .desk) (t .mark)) ∙ not-true (leavesMark d c) (and-right (not (expectsMark d c)) (not (leavesMark d c)) apart)
 
     grows : at (k .cs) (c .card) .pair .x ≤ at new (c .card) .pair .x
     grows = omega (arith, t .x)
@@ -235,7 +235,9 @@ module _ (d : ℕ) (y : OneDesk) (k : Kept d y) (s : Sent) (b : SentBytes s) (h 
         knows-with d rs (y .orders) (v ∷ y .shown) new (c .card) (heardOf d s (outcome y s .answer) (y .holds (c .card))) (y .holds)
         (knows-heard d rs (y .orders) (v ∷ y .shown) (c .card) (at new (c .card)) s (outcome y s .answer) (y .holds (c .card))
         (knows-here (y .holds (c .card)) (k .knows (c .card)))
-        (λ p q. absurd (never-both (and-right (not (isWrite c) && eqb (c .expected .desk) 0) (leaves d c) p) (not-true (leaves d c) (and-right (not (expects d c)) (not (leaves d c)) apart))))
+        (λ p q.
+        absurd (never-both (and-right (not (isWrite c) && eqb (c .expected .desk) 0) (leavesMark d c) p)
+        (not-true (leavesMark d c) (and-right (not (expectsMark d c)) (not (leavesMark d c)) apart))))
         (λ p q. inl unborne-now))
         (λ j e.
         subst (λ (a : Card). Knows d rs (y .orders) (v ∷ y .shown) j a (y .holds j)) (sym (t .others j (ne-eqb (c .card) j (λ f. eqb-false j (c .card) e (sym f)))))

@@ -13,6 +13,7 @@ use Rattle.formats.specs.Format.{V1}
 use Rattle.lists.specs.Parts.{part, splice, tabulate, concatMap, every, zeros}
 use Rattle.lists.specs.Le.{le, toLe}
 use Rattle.lists.specs.Table.{all, allFrom}
+use Rattle.lists.specs.Runs.{foldl, everyAlong}
 use Rattle.stamps.specs.Stamp.{stamp, exclusive, noMark}
 use Rattle.commands.specs.Command.{original, wellFormed}
 use Rattle.commands.specs.Bytes.{fieldsOf, payload, formed, commandBytes}
@@ -31,7 +32,7 @@ use Rattle.redo_log.specs.Append.{stored, puts, lineBytes, stores, appended}
 use Rattle.redo_log_claims.specs.Cases.{beginOf, commitOf, emptyLog}
 use Rattle.transactions.specs.System.{OneDesk, Step, other, order, arrive, append, crash, recover, renew, oneDeskOpening, withUpdates, outcome, afterStep, afterSteps, lawfulAll}
 use Rattle.transactions.specs.Claims.{AllSteps, Clean, Blank, Moment, ShowsAll}
-use Rattle.transactions.specs.Desks.{Desks, outside, own, desksOpening, afterDeskStep, afterDeskSteps, lawfulDeskSteps, DesksMoment, DesksOnlyThen}
+use Rattle.transactions.specs.Desks.{Desks, outside, byDesk, desksOpening, afterDeskStep, DesksMoment, DesksOnlyThen}
 use Rattle.transactions.proofs.Claims.{fresh-clean, zeros-blank, orders-once, reads-meant, never-half}
 use Rattle.transactions.proofs.Joint.{desks-reads-meant, desks-meant-only-then}
 
@@ -59,7 +60,7 @@ moment-of steps bytes rules =
     record { image = fresh V1 1 16; log = emptyLog 8; steps = steps; store = clean; blank = blank; sent = bytes; rules = rules; led = refl }
 
 beginning : Moment 5 first
-unfolding lawfulAll afterSteps
+unfolding everyAlong foldl
 beginning = moment-of [] tt refl
 
 -- ---- what a read shows (rule 16.12)
@@ -89,7 +90,7 @@ abbrev ordered : OneDesk
 ordered = afterSteps 5 first ordering
 
 not-twice : outcome (afterStep 5 ordered (arrive 0)) prepares0 .answer .number ≡ 0 → ⊥
-unfolding lawfulAll afterSteps afterStep records recordAt serve serveBy stepped sound headerSound cardSound translationSound tailZero decode cardAt entryAt readEntry
+unfolding everyAlong foldl afterStep records recordAt serve serveBy stepped sound headerSound cardSound translationSound tailZero decode cardAt entryAt readEntry
     encode bodies pad entryBytes header shapeOk fresh replied raise entrySound commandBytes formed payload fieldsOf wellFormed all allFrom le toLe
     part splice tabulate concatMap every zeros
 not-twice = orders-once 5 ordered 0 0 (moment-of ordering ordering-bytes refl) (omega arith) (omega arith) refl refl
@@ -107,8 +108,9 @@ commit-bytes : AllSteps (append 16 (commitOf 1) ∷ [])
 unfolding toLe
 commit-bytes = (bytes-by (commitOf 1 .body) tt, tt)
 
-whole : ShowsAll 5 begun (begun .meant) × ShowsAll 5 (afterSteps 5 begun (append 16 (commitOf 1) ∷ [])) (λ k l. withUpdates (records (begun .log)) 1 l k (length (records (begun .log))) (begun .meant k l))
-unfolding lawfulAll afterSteps afterStep stored puts lineBytes stores appended shaped lastBegun opened follows total startAt recordAt recordOk goodLog records
+whole : ShowsAll 5 begun (begun .meant) × ShowsAll 5 (afterSteps 5 begun (append 16 (commitOf 1) ∷ []))
+    (λ k l. withUpdates (records (begun .log)) 1 l k (length (records (begun .log))) (begun .meant k l))
+unfolding everyAlong foldl afterStep stored puts lineBytes stores appended shaped lastBegun opened follows total startAt recordAt recordOk goodLog records
     all allFrom le toLe part splice tabulate every zeros
 whole = never-half 5 begun 16 (commitOf 1) [] (moment-of (append 16 (beginOf 1) ∷ []) begun-bytes refl) refl refl refl commit-bytes refl
 
@@ -124,7 +126,7 @@ abbrev all-first : Desks
 all-first = desksOpening (fresh V1 1 16) logs
 
 all-begin : DesksMoment but0 all-first
-unfolding lawfulDeskSteps afterDeskSteps
+unfolding everyAlong foldl
 all-begin =
     record {
       image = fresh V1 1 16;
@@ -155,24 +157,24 @@ unwritten-then : afterDeskStep nowhere (outside read) .meant ≡ nowhere .meant
 unfolding fieldsOf commandBytes le toLe part
 unwritten-then = only-then .unwritten read refl
 
-ordered-then : afterDeskStep nowhere (own 0 (order read 7 8)) .meant ≡ nowhere .meant
+ordered-then : afterDeskStep nowhere (byDesk 0 (order read 7 8)) .meant ≡ nowhere .meant
 ordered-then = only-then .ordered 0 read 7 8
 
-arrived-then : afterDeskStep nowhere (own 0 (arrive 9)) .meant ≡ nowhere .meant
+arrived-then : afterDeskStep nowhere (byDesk 0 (arrive 9)) .meant ≡ nowhere .meant
 arrived-then = only-then .arrived 0 9
 
-uncounted-then : afterDeskStep nowhere (own 70000 (append 99 (commitOf 1))) .meant ≡ nowhere .meant
+uncounted-then : afterDeskStep nowhere (byDesk 70000 (append 99 (commitOf 1))) .meant ≡ nowhere .meant
 unfolding goodLog shaped
 uncounted-then = only-then .uncounted 70000 99 (commitOf 1) 22 refl
 
-uncommitted-then : afterDeskStep nowhere (own 0 (append 99 (beginOf 1))) .meant ≡ nowhere .meant
+uncommitted-then : afterDeskStep nowhere (byDesk 0 (append 99 (beginOf 1))) .meant ≡ nowhere .meant
 uncommitted-then = only-then .uncommitted 0 99 (beginOf 1) refl
 
-crashed-then : afterDeskStep nowhere (own 0 crash) .meant ≡ nowhere .meant
+crashed-then : afterDeskStep nowhere (byDesk 0 crash) .meant ≡ nowhere .meant
 crashed-then = only-then .crashed 0
 
-recovered-then : afterDeskStep nowhere (own 0 (recover (record { s = []; x = [] }) 9)) .meant ≡ nowhere .meant
+recovered-then : afterDeskStep nowhere (byDesk 0 (recover (record { s = []; x = [] }) 9)) .meant ≡ nowhere .meant
 recovered-then = only-then .recovered 0 (record { s = []; x = [] }) 9
 
-renewed-then : afterDeskStep nowhere (own 0 renew) .meant ≡ nowhere .meant
+renewed-then : afterDeskStep nowhere (byDesk 0 renew) .meant ≡ nowhere .meant
 renewed-then = only-then .renews 0

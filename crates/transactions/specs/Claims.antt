@@ -31,7 +31,7 @@ use Rattle.transactions.specs.System.{
   oneDeskOpening,
   commandIn,
   markIn,
-  expects,
+  expectsMark,
   writtenOut,
   withUpdates,
   outcome,
@@ -148,7 +148,7 @@ RecoversMeant =
 -- Rule 16.12: every accepted read that expects no mark of the desk's shows, of its card and language, these texts.
 abbrev pub ShowsAll : ℕ → OneDesk → (ℕ → Language → List ℕ) → Type 0
 ShowsAll d y texts =
-    (s : Sent) (l : Language) → outcome y s .answer .number ≡ 0 → reads l (commandIn s) ≡ true → expects d (commandIn s) ≡ false
+    (s : Sent) (l : Language) → outcome y s .answer .number ≡ 0 → reads l (commandIn s) ≡ true → expectsMark d (commandIn s) ≡ false
     → take (outcome y s .answer .length) (outcome y s .reply) ≡ texts (commandIn s .card) l
 
 -- It shows the text that is meant.

@@ -7,6 +7,7 @@ use mathlib.Core.List.{List, [], _∷_}
 use mathlib.Core.Bool.{Bool, true, false, cond, not, _&&_, _||_}
 use lib.ListN.{getD, take}
 use lib.Dec.{eqb}
+use Rattle.lists.specs.Runs.{foldl, everyAlong}
 use Rattle.formats.specs.Format.{V1}
 use Rattle.commands.specs.Command.{Language, isWrite, reads}
 use Rattle.commands.specs.Bytes.{formed}
@@ -18,7 +19,7 @@ use Rattle.redo_log.specs.Log.{LogRecord, commitKind, goodLog, records}
 use Rattle.redo_log.specs.Append.{appendNumber}
 use Rattle.redo_recovery_model.specs.Recovery.{Pairs}
 use Rattle.redo_recovery_model.specs.Claims.{textIn, textOf}
-use Rattle.transactions.specs.System.{OneDesk, Order, Shown, Holding, unknown, Step, other, order, arrive, append, crash, recover, renew, noOrder, commandIn, markIn, lawful, afterStep}
+use Rattle.transactions.specs.System.{OneDesk, Order, Shown, Holding, unknown, Step, other, order, arrive, append, crash, recover, renew, byDoer, noOrder, commandIn, markIn, lawful, afterStep}
 use Rattle.transactions.specs.Claims.{StepBytes, Clean, Blank}
 
 -- ---- what there is
@@ -61,22 +62,17 @@ pub data DeskStep : Type 0 where
   -- lent bytes of somebody who is under no rules, or of a desk under no mark, reach the store
   outside : (s : Sent) → DeskStep
   -- a step of desk d: it sends an order, one arrives, it appends to its log, it goes down
-  own : (d : ℕ) (m : Step) → DeskStep
+  byDesk : (d : ℕ) (m : Step) → DeskStep
 
+-- Rule 16.1: what desk d does itself, and what the post brings of it.
 abbrev pub ownStep : Step → Bool
-ownStep (other s) = false
-ownStep (order s line from) = true
-ownStep (arrive i) = true
-ownStep (append budget r) = true
-ownStep crash = true
-ownStep (recover pairs lines) = true
-ownStep renew = true
+ownStep m = byDoer false true true m
 
 -- Rule 16.1: some desks are under the rules. Who is not names none of them in a mark.
 abbrev pub lawfulDeskStep : (ℕ → Bool) → Desks → DeskStep → Bool
 lawfulDeskStep ruled y (outside s) =
     not (formed V1 (s .command)) || not (ruled (commandIn s .expected .desk)) && not (ruled (commandIn s .next .desk))
-lawfulDeskStep ruled y (own d m) = ruled d && ownStep m && lawful d (seenBy d y) m
+lawfulDeskStep ruled y (byDesk d m) = ruled d && ownStep m && lawful d (seenBy d y) m
 
 -- ---- what it changes
 
@@ -98,26 +94,24 @@ afterDeskStep y (outside s) =
       meant = afterStep 0 (seenBy 0 y) (other s) .meant;
       part = λ e. partOf (afterStep e (seenBy e y) (other s));
     }
-afterDeskStep y (own d m) =
+afterDeskStep y (byDesk d m) =
     record {
       image = afterStep d (seenBy d y) m .image;
       meant = afterStep d (seenBy d y) m .meant;
       part = λ e. cond (eqb e d) (partOf (afterStep d (seenBy d y) m)) (metBy e y d m);
     }
 
-unfoldable pub afterDeskSteps : Desks → List DeskStep → Desks
-afterDeskSteps y [] = y
-afterDeskSteps y (m ∷ steps) = afterDeskSteps (afterDeskStep y m) steps
+abbrev pub afterDeskSteps : Desks → List DeskStep → Desks
+afterDeskSteps y steps = foldl afterDeskStep y steps
 
-unfoldable pub lawfulDeskSteps : (ℕ → Bool) → Desks → List DeskStep → Bool
-lawfulDeskSteps ruled y [] = true
-lawfulDeskSteps ruled y (m ∷ steps) = lawfulDeskStep ruled y m && lawfulDeskSteps ruled (afterDeskStep y m) steps
+abbrev pub lawfulDeskSteps : (ℕ → Bool) → Desks → List DeskStep → Bool
+lawfulDeskSteps ruled y steps = everyAlong (lawfulDeskStep ruled) afterDeskStep y steps
 
 -- ---- what is claimed
 
 abbrev pub DeskStepBytes : DeskStep → Type 0
 DeskStepBytes (outside s) = SentBytes s
-DeskStepBytes (own d m) = StepBytes m
+DeskStepBytes (byDesk d m) = StepBytes m
 
 abbrev pub AllDeskSteps : List DeskStep → Type 0
 AllDeskSteps [] = Unit {0}
@@ -152,16 +146,16 @@ DesksCommitAtOnce = (ruled : ℕ → Bool) (y : Desks) → DesksMoment ruled y �
 pub record DesksOnlyThen (y : Desks) : Type 0 where
   pub refused : (s : Sent) (n : ℕ) → serve V1 (y .image) (s .command) (s .lent) .answer .number ≡ suc n → afterDeskStep y (outside s) .meant ≡ y .meant
   pub unwritten : (s : Sent) → isWrite (commandIn s) ≡ false → afterDeskStep y (outside s) .meant ≡ y .meant
-  pub ordered : (d : ℕ) (s : Sent) (line from : ℕ) → afterDeskStep y (own d (order s line from)) .meant ≡ y .meant
-  pub arrived : (d i : ℕ) → afterDeskStep y (own d (arrive i)) .meant ≡ y .meant
+  pub ordered : (d : ℕ) (s : Sent) (line from : ℕ) → afterDeskStep y (byDesk d (order s line from)) .meant ≡ y .meant
+  pub arrived : (d i : ℕ) → afterDeskStep y (byDesk d (arrive i)) .meant ≡ y .meant
   pub uncounted :
       (d budget : ℕ) (r : LogRecord) (n : ℕ) → appendNumber budget (y .part d .log) r ≡ suc n
-      → afterDeskStep y (own d (append budget r)) .meant ≡ y .meant
+      → afterDeskStep y (byDesk d (append budget r)) .meant ≡ y .meant
   pub uncommitted :
-      (d budget : ℕ) (r : LogRecord) → eqb (r .kind) commitKind ≡ false → afterDeskStep y (own d (append budget r)) .meant ≡ y .meant
-  pub crashed : (d : ℕ) → afterDeskStep y (own d crash) .meant ≡ y .meant
-  pub recovered : (d : ℕ) (pairs : Pairs) (lines : ℕ) → afterDeskStep y (own d (recover pairs lines)) .meant ≡ y .meant
-  pub renews : (d : ℕ) → afterDeskStep y (own d renew) .meant ≡ y .meant
+      (d budget : ℕ) (r : LogRecord) → eqb (r .kind) commitKind ≡ false → afterDeskStep y (byDesk d (append budget r)) .meant ≡ y .meant
+  pub crashed : (d : ℕ) → afterDeskStep y (byDesk d crash) .meant ≡ y .meant
+  pub recovered : (d : ℕ) (pairs : Pairs) (lines : ℕ) → afterDeskStep y (byDesk d (recover pairs lines)) .meant ≡ y .meant
+  pub renews : (d : ℕ) → afterDeskStep y (byDesk d renew) .meant ≡ y .meant
 
 abbrev pub DesksMeantOnlyThen : Type 0
 DesksMeantOnlyThen = (y : Desks) → DesksOnlyThen y

@@ -14,6 +14,7 @@ use Rattle.formats.specs.Format.{V1}
 use Rattle.lists.specs.Parts.{every}
 use Rattle.lists.specs.Search.{any}
 use Rattle.lists.specs.Table.{settled}
+use Rattle.lists.specs.Runs.{foldl, everyAlong}
 use Rattle.stamps.specs.declared.Mark.{Mark}
 use Rattle.commands.specs.declared.Command.{Command}
 use Rattle.commands.specs.Command.{Language, isWrite, writes, verifier, update}
@@ -87,6 +88,16 @@ pub data Step : Type 0 where
   -- rule 16.18: the desk's log begins again (rule 11.27)
   renew : Step
 
+-- One of three, by who does a step: somebody else, the post that brings an order of the desk, the desk itself.
+abbrev pub byDoer : Bool → Bool → Bool → Step → Bool
+byDoer else post desk (other s) = else
+byDoer else post desk (order s line from) = desk
+byDoer else post desk (arrive i) = post
+byDoer else post desk (append budget r) = desk
+byDoer else post desk crash = desk
+byDoer else post desk (recover pairs lines) = desk
+byDoer else post desk renew = desk
+
 -- ---- words of the rules
 
 abbrev pub commandIn : Sent → Command
@@ -99,22 +110,22 @@ abbrev pub storedX : List ℕ → ℕ → ℕ
 storedX image k = getD (decode V1 image .cards) k (noCard V1) .pair .x
 
 -- A command expects, or leaves, a mark of desk d.
-abbrev pub expects : ℕ → Command → Bool
-expects d c = eqb (c .expected .desk) d
+abbrev pub expectsMark : ℕ → Command → Bool
+expectsMark d c = eqb (c .expected .desk) d
 
-abbrev pub leaves : ℕ → Command → Bool
-leaves d c = eqb (c .next .desk) d
+abbrev pub leavesMark : ℕ → Command → Bool
+leavesMark d c = eqb (c .next .desk) d
 
 -- Rule 16.3, the three kinds of orders: one prepares a card that bears no mark, one writes to a card under the desk's
 -- mark, one takes the mark off.
 abbrev pub prepares : ℕ → Command → Bool
-prepares d c = not (isWrite c) && eqb (c .expected .desk) 0 && leaves d c
+prepares d c = not (isWrite c) && eqb (c .expected .desk) 0 && leavesMark d c
 
 abbrev pub writesOut : ℕ → Command → Bool
-writesOut d c = isWrite c && expects d c && leaves d c
+writesOut d c = isWrite c && expectsMark d c && leavesMark d c
 
 abbrev pub releases : ℕ → Command → Bool
-releases d c = not (isWrite c) && expects d c && eqb (c .next .desk) 0
+releases d c = not (isWrite c) && expectsMark d c && eqb (c .next .desk) 0
 
 -- Line i of the log is an update of card k that is due.
 abbrev pub dueFor : List LogRecord → ℕ → ℕ → Bool
@@ -206,7 +217,7 @@ nothingDue rs = every (λ i. not (due rs i)) (length rs)
 
 abbrev pub lawful : ℕ → OneDesk → Step → Bool
 -- rule 16.3: nobody else names the desk in a mark; malformed bytes may be any
-lawful d y (other s) = not (formed V1 (s .command)) || not (expects d (commandIn s)) && not (leaves d (commandIn s))
+lawful d y (other s) = not (formed V1 (s .command)) || not (expectsMark d (commandIn s)) && not (leavesMark d (commandIn s))
 lawful d y (order s line from) =
     ltb from (length (y .shown))
     && opensAbove (commandIn s) (getD (y .shown) from noShown)
@@ -259,6 +270,10 @@ shownBy pairs rs reach (suc i) shown =
 abbrev pub forgetting : List LogRecord → (ℕ → Holding) → ℕ → Holding
 forgetting rs holds k = cond (writtenOut rs k 0 (length rs)) (holds k) unknown
 
+-- The same, but for what the desk knows of the cards.
+abbrev pub withHolds : (ℕ → Holding) → OneDesk → OneDesk
+withHolds holds y = record { image = y .image; log = y .log; meant = y .meant; orders = y .orders; shown = y .shown; holds = holds }
+
 unfoldable pub afterStep : ℕ → OneDesk → Step → OneDesk
 afterStep d y (other s) =
     record {
@@ -298,8 +313,7 @@ afterStep d y (append budget r) =
       shown = y .shown;
       holds = y .holds;
     }
-afterStep d y crash =
-    record { image = y .image; log = y .log; meant = y .meant; orders = y .orders; shown = y .shown; holds = λ k. unknown }
+afterStep d y crash = withHolds (λ k. unknown) y
 afterStep d y (recover pairs lines) =
     let r = recovering pairs (records (y .log)) (y .image) lines in
     record {
@@ -315,11 +329,9 @@ afterStep d y renew =
 
 -- ---- runs: steps in the order in which they happen
 
-unfoldable pub afterSteps : ℕ → OneDesk → List Step → OneDesk
-afterSteps d y [] = y
-afterSteps d y (m ∷ steps) = afterSteps d (afterStep d y m) steps
+abbrev pub afterSteps : ℕ → OneDesk → List Step → OneDesk
+afterSteps d y steps = foldl (afterStep d) y steps
 
 -- Each step is by the rules, in the system as the steps before it left it.
-unfoldable pub lawfulAll : ℕ → OneDesk → List Step → Bool
-lawfulAll d y [] = true
-lawfulAll d y (m ∷ steps) = lawful d y m && lawfulAll d (afterStep d y m) steps
+abbrev pub lawfulAll : ℕ → OneDesk → List Step → Bool
+lawfulAll d y steps = everyAlong (lawful d) (afterStep d) y steps

@@ -18,6 +18,8 @@ use mathlib.Core.Bool.{Bool, true, false, _&&_}
 use Rattle.lists.specs.Parts.{part, splice, tabulate, concatMap, every, zeros}
 use Rattle.lists.specs.Le.{le, toLe}
 use Rattle.lists.specs.Table.{all, allFrom}
+use Rattle.lists.specs.Runs.{foldl, everyAlong}
+use Rattle.lists.proofs.Runs.{Walked, walk, walk-is, foldl-append, along-append}
 use Rattle.commands.specs.Command.{wellFormed}
 use Rattle.commands.specs.Bytes.{fieldsOf, payload, formed, commandBytes}
 use Rattle.guard.specs.Entry.{entrySound}
@@ -33,7 +35,7 @@ use Rattle.redo_recovery_model.specs.Recovery.{Pairs, FitsPairs, due, recoveryS
 use Rattle.redo_recovery_model.specs.Claims.{rewritten}
 use Rattle.transactions.specs.System.{OneDesk, Step, other, order, arrive, append, crash, recover, renew, lawful, withUpdates, shownBy, afterStep, afterSteps, lawfulAll}
 use Rattle.store_model.specs.Cases.{text205, text401}
-use Rattle.transactions.specs.Desks.{Desks, DeskStep, own, lawfulDeskStep, afterDeskStep, afterDeskSteps, lawfulDeskSteps}
+use Rattle.transactions.specs.Desks.{Desks, DeskStep, byDesk, lawfulDeskStep, afterDeskStep, afterDeskSteps, lawfulDeskSteps}
 use Rattle.transactions_cases.specs.Cases.{
   begins,
   preparesBoth,
@@ -150,7 +152,7 @@ unfolding stepsTest stepTest sentTest pairsTest belowTest commandBytes toLe
 are-bytes = refl
 
 are-lawful : lawfulAll 5 atFirst rewriting ≡ true
-unfolding lawfulAll afterSteps afterStep withUpdates rewritten due stored puts lineBytes stores appended shaped lastBegun opened follows total startAt
+unfolding everyAlong foldl afterStep withUpdates rewritten due stored puts lineBytes stores appended shaped lastBegun opened follows total startAt
     recordAt recordOk goodLog records serve serveBy stepped sound headerSound cardSound translationSound tailZero decode cardAt entryAt readEntry
     encode bodies pad entryBytes header shapeOk fresh replied raise entrySound commandBytes formed payload fieldsOf wellFormed all allFrom le toLe
     part splice tabulate concatMap every zeros recovering recoveryStep recoverySent shownBy
@@ -177,18 +179,11 @@ met =
     }
 
 -- Each run is walked once, and what is asked of it follows.
-record Walked : Type 0 where
-  world : OneDesk
-  rules : Bool
+abbrev walked : OneDesk → List Step → Walked OneDesk
+walked y steps = walk (lawful 5) (afterStep 5) y steps
 
-walk : OneDesk → List Step → Walked
-walk y [] = record { world = y; rules = true }
-walk y (m ∷ steps) = let rest = walk (afterStep 5 y m) steps in record { world = rest .world; rules = lawful 5 y m && rest .rules }
-
-walk-is : (y : OneDesk) (steps : List Step) → (walk y steps .world ≡ afterSteps 5 y steps) × (walk y steps .rules ≡ lawfulAll 5 y steps)
-unfolding afterSteps lawfulAll walk
-walk-is y [] = (refl, refl)
-walk-is y (m ∷ steps) = let rest = walk-is (afterStep 5 y m) steps in (rest .0, ap (λ (b : Bool). lawful 5 y m && b) (rest .1))
+walked-is : (y : OneDesk) (steps : List Step) → (walked y steps .left ≡ afterSteps 5 y steps) × (walked y steps .passed ≡ lawfulAll 5 y steps)
+walked-is y steps = walk-is (lawful 5) (afterStep 5) y steps
 
 -- A run in parts, walked once: what is seen after each part, and whether all of it is by the rules.
 record WalkedParts : Type 0 where
@@ -199,9 +194,9 @@ record WalkedParts : Type 0 where
 walkParts : OneDesk → List (List Step) → WalkedParts
 walkParts y [] = record { end = y; rules = true; sees = [] }
 walkParts y (part ∷ parts) =
-    let a = walk y part in
-    let rest = walkParts (a .world) parts in
-    record { end = rest .end; rules = a .rules && rest .rules; sees = see (a .world) ∷ rest .sees }
+    let a = walked y part in
+    let rest = walkParts (a .left) parts in
+    record { end = rest .end; rules = a .passed && rest .rules; sees = see (a .left) ∷ rest .sees }
 
 record PartsAre (y : OneDesk) (parts : List (List Step)) : Type 0 where
   end-is : afterAll y parts ≡ walkParts y parts .end
@@ -212,13 +207,13 @@ parts-are : (y : OneDesk) (parts : List (List Step)) → PartsAre y parts
 unfolding walkParts
 parts-are y [] = record { end-is = refl; rules-are = refl; sees-are = refl }
 parts-are y (part ∷ parts) =
-    let a = walk-is y part in
-    let z : OneDesk = walk y part .world in
+    let a = walked-is y part in
+    let z : OneDesk = walked y part .left in
     let rest = parts-are z parts in
     record {
       end-is = ap (λ (w : OneDesk). afterAll w parts) (sym (a .0)) ∙ rest .end-is;
       rules-are = ap (λ (b : Bool). b && inOrder (afterSteps 5 y part) parts) (sym (a .1)) ∙ ap
-          (λ (w : OneDesk). walk y part .rules && inOrder w parts) (sym (a .0)) ∙ ap (λ (b : Bool). walk y part .rules && b) (rest .rules-are);
+          (λ (w : OneDesk). walked y part .passed && inOrder w parts) (sym (a .0)) ∙ ap (λ (b : Bool). walked y part .passed && b) (rest .rules-are);
       sees-are = ap (λ (w : OneDesk). see w ∷ seenAfter w parts) (sym (a .0)) ∙ ap (λ (l : List Seen). see z ∷ l) (rest .sees-are);
     }
 
@@ -249,7 +244,7 @@ toldWhole = (
 )
 
 walked-whole : told (walkParts atFirst wholeRun) ≡ toldWhole
-unfolding walkParts walk lawfulAll afterSteps afterStep withUpdates rewritten due stored puts lineBytes stores appended shaped lastBegun opened
+unfolding walkParts walk everyAlong foldl afterStep withUpdates rewritten due stored puts lineBytes stores appended shaped lastBegun opened
     follows total startAt recordAt recordOk goodLog records serve serveBy stepped sound headerSound cardSound translationSound tailZero decode cardAt
     entryAt readEntry encode bodies pad entryBytes header shapeOk fresh replied raise entrySound commandBytes formed payload fieldsOf wellFormed all
     allFrom le toLe part splice tabulate concatMap every zeros
@@ -259,7 +254,7 @@ abbrev readBetween : Shows × Shows
 readBetween = (record { number = 0; text = text205 }, record { number = 4; text = [] })
 
 walked-between : readsBetween (walkParts atFirst between .end) ≡ readBetween
-unfolding walkParts walk lawfulAll afterSteps afterStep withUpdates rewritten due stored puts lineBytes stores appended shaped lastBegun opened
+unfolding walkParts walk everyAlong foldl afterStep withUpdates rewritten due stored puts lineBytes stores appended shaped lastBegun opened
     follows total startAt recordAt recordOk goodLog records serve serveBy stepped sound headerSound cardSound translationSound tailZero decode cardAt
     entryAt readEntry encode bodies pad entryBytes header shapeOk fresh replied raise entrySound commandBytes formed payload fieldsOf wellFormed all
     allFrom le toLe part splice tabulate concatMap every zeros
@@ -277,71 +272,66 @@ ordinary =
     }
 
 cut : Cut
-unfolding lawfulAll afterSteps afterStep withUpdates rewritten due stored puts lineBytes stores appended shaped lastBegun opened follows total startAt
+unfolding everyAlong foldl afterStep withUpdates rewritten due stored puts lineBytes stores appended shaped lastBegun opened follows total startAt
     recordAt recordOk goodLog records serve serveBy stepped sound headerSound cardSound translationSound tailZero decode cardAt entryAt readEntry
     encode bodies pad entryBytes header shapeOk fresh replied raise entrySound commandBytes formed payload fieldsOf wellFormed all allFrom le toLe
     part splice tabulate concatMap every zeros
 cut = record { rules = refl; sees15 = refl; freed = refl; rules16 = refl; sees16 = refl }
 
 crash-recovered : CrashRecovered
-unfolding lawfulAll afterSteps afterStep withUpdates rewritten due stored puts lineBytes stores appended shaped lastBegun opened follows total startAt
+unfolding everyAlong foldl afterStep withUpdates rewritten due stored puts lineBytes stores appended shaped lastBegun opened follows total startAt
     recordAt recordOk goodLog records serve serveBy stepped sound headerSound cardSound translationSound tailZero decode cardAt entryAt readEntry
     encode bodies pad entryBytes header shapeOk fresh replied raise entrySound commandBytes formed payload fieldsOf wellFormed all allFrom le toLe
     part splice tabulate concatMap every zeros
 crash-recovered = record { rules = refl; sees = refl }
 
 hazard : Hazard
-unfolding lawfulAll afterSteps afterStep withUpdates rewritten due stored puts lineBytes stores appended shaped lastBegun opened follows total startAt
+unfolding everyAlong foldl afterStep withUpdates rewritten due stored puts lineBytes stores appended shaped lastBegun opened follows total startAt
     recordAt recordOk goodLog records serve serveBy stepped sound headerSound cardSound translationSound tailZero decode cardAt entryAt readEntry
     encode bodies pad entryBytes header shapeOk fresh replied raise entrySound commandBytes formed payload fieldsOf wellFormed all allFrom le toLe
     part splice tabulate concatMap every zeros recovered recovering recoveryStep recoverySent shownBy
 hazard = record { rules = refl; sees = refl; before = refl; after = refl }
 
 rewritten-twice : Rewritten
-unfolding lawfulAll afterSteps afterStep withUpdates rewritten due stored puts lineBytes stores appended shaped lastBegun opened follows total startAt
+unfolding everyAlong foldl afterStep withUpdates rewritten due stored puts lineBytes stores appended shaped lastBegun opened follows total startAt
     recordAt recordOk goodLog records serve serveBy stepped sound headerSound cardSound translationSound tailZero decode cardAt entryAt readEntry
     encode bodies pad entryBytes header shapeOk fresh replied raise entrySound commandBytes formed payload fieldsOf wellFormed all allFrom le toLe
     part splice tabulate concatMap every zeros recovering recoveryStep recoverySent shownBy
 rewritten-twice = record { rules = refl; sees = refl; met = met }
 
 renewed-log : Renewed
-unfolding lawfulAll afterSteps afterStep withUpdates rewritten due stored puts lineBytes stores appended shaped lastBegun opened follows total startAt
+unfolding everyAlong foldl afterStep withUpdates rewritten due stored puts lineBytes stores appended shaped lastBegun opened follows total startAt
     recordAt recordOk goodLog records serve serveBy stepped sound headerSound cardSound translationSound tailZero decode cardAt entryAt readEntry
     encode bodies pad entryBytes header shapeOk fresh replied raise entrySound commandBytes formed payload fieldsOf wellFormed all allFrom le toLe
     part splice tabulate concatMap every zeros
 renewed-log = record { rules = refl; sees = refl; lines = refl }
-
-after-more : (y : OneDesk) (a b : List Step) → afterSteps 5 y (a ++ b) ≡ afterSteps 5 (afterSteps 5 y a) b
-unfolding afterSteps
-after-more y [] b = refl
-after-more y (m ∷ a) b = after-more (afterStep 5 y m) a b
 
 abbrev Verdict : Type 0
 Verdict = Bool × (Bool × (Bool × Bool))
 
 abbrev verdict : List Step → Step → List Step → Verdict
 verdict lead wrong rest =
-    let a = walk atFirst lead in
-    let b = walk (afterStep 5 (a .world) wrong) rest in
-    (a .rules, (lawful 5 (a .world) wrong, (b .rules, agrees (b .world) 0)))
+    let a = walked atFirst lead in
+    let b = walked (afterStep 5 (a .left) wrong) rest in
+    (a .passed, (lawful 5 (a .left) wrong, (b .passed, agrees (b .left) 0)))
 
 broken-at : (lead : List Step) (wrong : Step) (rest : List Step) → verdict lead wrong rest ≡ (true, (false, (true, false))) → BrokenAt lead wrong rest
-unfolding afterSteps
+unfolding foldl
 broken-at lead wrong rest e =
-    let a = walk-is atFirst lead in
-    let y = walk atFirst lead .world in
-    let b = walk-is (afterStep 5 y wrong) rest in
+    let a = walked-is atFirst lead in
+    let y = walked atFirst lead .left in
+    let b = walked-is (afterStep 5 y wrong) rest in
     record {
       before = sym (a .1) ∙ ap (λ (v : Verdict). v .0) e;
       refused = ap (λ (w : OneDesk). lawful 5 w wrong) (sym (a .0)) ∙ ap (λ (v : Verdict). v .1 .0) e;
       after = ap (λ (w : OneDesk). lawfulAll 5 (afterStep 5 w wrong) rest) (sym (a .0)) ∙ sym (b .1) ∙ ap (λ (v : Verdict). v .1 .1 .0) e;
       broken =
-          ap (λ (w : OneDesk). agrees w 0) (after-more atFirst lead (wrong ∷ rest) ∙ ap (λ (w : OneDesk). afterSteps 5 (afterStep 5 w wrong) rest) (sym (a .0)) ∙ sym (b .0))
+          ap (λ (w : OneDesk). agrees w 0) (foldl-append (afterStep 5) atFirst lead (wrong ∷ rest) ∙ ap (λ (w : OneDesk). afterSteps 5 (afterStep 5 w wrong) rest) (sym (a .0)) ∙ sym (b .0))
           ∙ ap (λ (v : Verdict). v .1 .1 .1) e;
     }
 
 rules-needed : OrderRulesNeeded
-unfolding walk lawfulAll afterSteps afterStep withUpdates rewritten due stored puts lineBytes stores appended shaped lastBegun opened follows total
+unfolding walk everyAlong foldl afterStep withUpdates rewritten due stored puts lineBytes stores appended shaped lastBegun opened follows total
     startAt recordAt recordOk goodLog records serve serveBy stepped sound headerSound cardSound translationSound tailZero decode cardAt entryAt
     readEntry encode bodies pad entryBytes header shapeOk fresh replied raise entrySound commandBytes formed payload fieldsOf wellFormed all allFrom
     le toLe part splice tabulate concatMap every zeros recovering recoveryStep recoverySent shownBy
@@ -366,77 +356,63 @@ rules-needed =
     }
 
 -- The same of many desks.
-record WalkedDesks : Type 0 where
-  desks : Desks
-  rules : Bool
+abbrev walkedDesks : Desks → List DeskStep → Walked Desks
+walkedDesks y steps = walk (lawfulDeskStep bothRuled) afterDeskStep y steps
 
-walkDesks : Desks → List DeskStep → WalkedDesks
-walkDesks y [] = record { desks = y; rules = true }
-walkDesks y (m ∷ steps) = let rest = walkDesks (afterDeskStep y m) steps in record { desks = rest .desks; rules = lawfulDeskStep bothRuled y m && rest .rules }
+walked-desks-is : (y : Desks) (steps : List DeskStep)
+    → (walkedDesks y steps .left ≡ afterDeskSteps y steps) × (walkedDesks y steps .passed ≡ lawfulDeskSteps bothRuled y steps)
+walked-desks-is y steps = walk-is (lawfulDeskStep bothRuled) afterDeskStep y steps
 
-walk-desks-is : (y : Desks) (steps : List DeskStep) → (walkDesks y steps .desks ≡ afterDeskSteps y steps) × (walkDesks y steps .rules ≡ lawfulDeskSteps bothRuled y steps)
-unfolding afterDeskSteps lawfulDeskSteps walkDesks
-walk-desks-is y [] = (refl, refl)
-walk-desks-is y (m ∷ steps) = let rest = walk-desks-is (afterDeskStep y m) steps in (rest .0, ap (λ (b : Bool). lawfulDeskStep bothRuled y m && b) (rest .1))
+desks-more : (y : Desks) (a b : List DeskStep) → afterDeskSteps y (a ++ b) ≡ afterDeskSteps (afterDeskSteps y a) b
+desks-more y a b = foldl-append afterDeskStep y a b
 
-desk-steps-more : (y : Desks) (a b : List DeskStep)
-    → (afterDeskSteps y (a ++ b) ≡ afterDeskSteps (afterDeskSteps y a) b) × (lawfulDeskSteps bothRuled y (a ++ b) ≡ (lawfulDeskSteps bothRuled y a && lawfulDeskSteps bothRuled (afterDeskSteps y a) b))
-unfolding afterDeskSteps lawfulDeskSteps
-desk-steps-more y [] b = (refl, refl)
-desk-steps-more y (m ∷ a) b =
-    let rest = desk-steps-more (afterDeskStep y m) a b in (
-      rest .0,
-      ap (λ (t : Bool). lawfulDeskStep bothRuled y m && t) (rest .1) ∙ assoc (lawfulDeskStep bothRuled y m)
-          (lawfulDeskSteps bothRuled (afterDeskStep y m) a) (lawfulDeskSteps bothRuled (afterDeskSteps (afterDeskStep y m) a) b),
-    )
-  where
-    assoc : (p q r : Bool) → (p && (q && r)) ≡ (p && q && r)
-    assoc true q r = refl
-    assoc false q r = refl
+rules-more : (y : Desks) (a b : List DeskStep)
+    → lawfulDeskSteps bothRuled y (a ++ b) ≡ (lawfulDeskSteps bothRuled y a && lawfulDeskSteps bothRuled (afterDeskSteps y a) b)
+rules-more y a b = along-append (lawfulDeskStep bothRuled) afterDeskStep y a b
 
 abbrev DesksVerdict : Type 0
 DesksVerdict = Bool × (Bool × (Bool × (Bool × (Seen × Seen))))
 
 abbrev desksVerdict : DesksVerdict
 desksVerdict =
-    let a = walkDesks twoDesks bothBegin in
-    let b = walkDesks (a .desks) sixCommits in
-    let c = walkDesks (b .desks) (sixFinishes ++ fiveCommits) in
-    (a .rules, (lawfulDeskStep bothRuled (a .desks) (own 5 (logs (commitOf 1))), (b .rules, (c .rules, (seeDesks (b .desks), seeDesks (c .desks))))))
+    let a = walkedDesks twoDesks bothBegin in
+    let b = walkedDesks (a .left) sixCommits in
+    let c = walkedDesks (b .left) (sixFinishes ++ fiveCommits) in
+    (a .passed, (lawfulDeskStep bothRuled (a .left) (byDesk 5 (logs (commitOf 1))), (b .passed, (c .passed, (seeDesks (b .left), seeDesks (c .left))))))
 
 desks-verdict : desksVerdict ≡ (true, (false, (true, (true, (seeing text190 text380 text190 text210, seeing text190 text210 text205 text401)))))
-unfolding lawfulAll afterSteps afterStep withUpdates rewritten due stored puts lineBytes stores appended shaped lastBegun opened follows total startAt
+unfolding everyAlong foldl afterStep withUpdates rewritten due stored puts lineBytes stores appended shaped lastBegun opened follows total startAt
     recordAt recordOk goodLog records serve serveBy stepped sound headerSound cardSound translationSound tailZero decode cardAt entryAt readEntry
     encode bodies pad entryBytes header shapeOk fresh replied raise entrySound commandBytes formed payload fieldsOf wellFormed all allFrom le toLe
-    part splice tabulate concatMap every zeros lawfulDeskSteps afterDeskSteps afterDeskStep walkDesks
+    part splice tabulate concatMap every zeros afterDeskStep walk
 desks-verdict = refl
 
 two-desks : TwoDesks
 two-desks =
-    let y : Desks = walkDesks twoDesks bothBegin .desks in
-    let z : Desks = walkDesks y sixCommits .desks in
-    let a = walk-desks-is twoDesks bothBegin in
-    let b = walk-desks-is y sixCommits in
-    let c = walk-desks-is z (sixFinishes ++ fiveCommits) in
+    let y : Desks = walkedDesks twoDesks bothBegin .left in
+    let z : Desks = walkedDesks y sixCommits .left in
+    let a = walked-desks-is twoDesks bothBegin in
+    let b = walked-desks-is y sixCommits in
+    let c = walked-desks-is z (sixFinishes ++ fiveCommits) in
     let here : afterDeskSteps twoDesks bothBegin ≡ y = sym (a .0) in
     let mid : afterDeskSteps twoDesks (bothBegin ++ sixCommits) ≡ z =
-    desk-steps-more twoDesks bothBegin sixCommits .0 ∙ ap (λ (w : Desks). afterDeskSteps w sixCommits) here ∙ sym (b .0) in
-    let end : afterDeskSteps twoDesks (bothBegin ++ (sixCommits ++ (sixFinishes ++ fiveCommits))) ≡ walkDesks z (sixFinishes ++ fiveCommits) .desks =
-    desk-steps-more twoDesks bothBegin (sixCommits ++ (sixFinishes ++ fiveCommits)) .0
+    desks-more twoDesks bothBegin sixCommits ∙ ap (λ (w : Desks). afterDeskSteps w sixCommits) here ∙ sym (b .0) in
+    let end : afterDeskSteps twoDesks (bothBegin ++ (sixCommits ++ (sixFinishes ++ fiveCommits))) ≡ walkedDesks z (sixFinishes ++ fiveCommits) .left =
+    desks-more twoDesks bothBegin (sixCommits ++ (sixFinishes ++ fiveCommits))
     ∙ ap (λ (w : Desks). afterDeskSteps w (sixCommits ++ (sixFinishes ++ fiveCommits))) here
-    ∙ desk-steps-more y sixCommits (sixFinishes ++ fiveCommits) .0
+    ∙ desks-more y sixCommits (sixFinishes ++ fiveCommits)
     ∙ ap (λ (w : Desks). afterDeskSteps w (sixFinishes ++ fiveCommits)) (sym (b .0))
     ∙ sym (c .0) in
     let last : lawfulDeskSteps bothRuled y (sixCommits ++ (sixFinishes ++ fiveCommits)) ≡ true =
-    desk-steps-more y sixCommits (sixFinishes ++ fiveCommits) .1
+    rules-more y sixCommits (sixFinishes ++ fiveCommits)
     ∙ and-in (sym (b .1) ∙ ap (λ (v : DesksVerdict). v .1 .1 .0) desks-verdict)
     (ap (λ (w : Desks). lawfulDeskSteps bothRuled w (sixFinishes ++ fiveCommits)) (sym (b .0)) ∙ sym (c .1) ∙ ap (λ (v : DesksVerdict). v .1 .1 .1 .0) desks-verdict) in
     record {
       rules =
-          desk-steps-more twoDesks bothBegin (sixCommits ++ (sixFinishes ++ fiveCommits)) .1
+          rules-more twoDesks bothBegin (sixCommits ++ (sixFinishes ++ fiveCommits))
           ∙ and-in (sym (a .1) ∙ ap (λ (v : DesksVerdict). v .0) desks-verdict)
           (ap (λ (w : Desks). lawfulDeskSteps bothRuled w (sixCommits ++ (sixFinishes ++ fiveCommits))) here ∙ last);
-      early = ap (λ (w : Desks). lawfulDeskStep bothRuled w (own 5 (logs (commitOf 1)))) here ∙ ap (λ (v : DesksVerdict). v .1 .0) desks-verdict;
+      early = ap (λ (w : Desks). lawfulDeskStep bothRuled w (byDesk 5 (logs (commitOf 1)))) here ∙ ap (λ (v : DesksVerdict). v .1 .0) desks-verdict;
       first = ap seeDesks mid ∙ ap (λ (v : DesksVerdict). v .1 .1 .1 .1 .0) desks-verdict;
       last = ap seeDesks end ∙ ap (λ (v : DesksVerdict). v .1 .1 .1 .1 .1) desks-verdict;
     }

@@ -20,7 +20,7 @@ use Rattle.redo_log_claims.specs.Cases.{beginOf, updateOf, commitOf, syncedOf, 
 use Rattle.redo_recovery_model.specs.Recovery.{Pairs, recovered}
 use Rattle.redo_recovery_model.specs.Claims.{textIn, textOf}
 use Rattle.transactions.specs.Claims.{Moment}
-use Rattle.transactions.specs.Desks.{Desks, DeskStep, outside, own, desksOpening, lawfulDeskStep, afterDeskSteps, lawfulDeskSteps}
+use Rattle.transactions.specs.Desks.{Desks, DeskStep, outside, byDesk, desksOpening, lawfulDeskStep, afterDeskSteps, lawfulDeskSteps}
 use Rattle.transactions.specs.System.{OneDesk, Step, other, order, arrive, append, crash, recover, renew, oneDeskOpening, markIn, sameBytes, lawful, outcome, afterStep, afterSteps, lawfulAll}
 
 -- ---- who sends what
@@ -295,13 +295,13 @@ second =
     ∷ logs (commitOf 2)
     ∷ []
 
-abbrev pub renewing : List (List Step)
-renewing = begins ∷ preparesBoth ∷ commits ∷ writesOut0 ∷ releases0 ∷ syncs0 ∷ finishes1 ∷ renewsLog ∷ second ∷ []
+abbrev pub aroundRenewal : List (List Step)
+aroundRenewal = begins ∷ preparesBoth ∷ commits ∷ writesOut0 ∷ releases0 ∷ syncs0 ∷ finishes1 ∷ renewsLog ∷ second ∷ []
 
 pub record Renewed : Type 0 where
-  pub rules : inOrder atFirst renewing ≡ true
-  pub sees : see (afterAll atFirst renewing) ≡ seeing text205 text401 text210 text401
-  pub lines : length (records (afterAll atFirst renewing .log)) ≡ 3
+  pub rules : inOrder atFirst aroundRenewal ≡ true
+  pub sees : see (afterAll atFirst aroundRenewal) ≡ seeing text205 text401 text210 text401
+  pub lines : length (records (afterAll atFirst aroundRenewal .log)) ≡ 3
 
 -- ---- one rule broken (rule 16.15)
 
@@ -460,35 +460,35 @@ abbrev pub bothBegin : List DeskStep
 bothBegin =
     outside (command 3 0 (one 1) (one 1) noMark noMark text190 [])
     ∷ outside (command 3 1 (one 1) (one 1) noMark noMark text380 [])
-    ∷ own 5 (logs (beginOf 1))
-    ∷ own 5 (logs (updateOf 0 1 text205))
-    ∷ own 5 (logs (updateOf 1 1 text401))
-    ∷ own 6 (logs (beginOf 7))
-    ∷ own 6 (logs (updateOf 1 1 text210))
-    ∷ own 5 (order (prepare 0 (one 1) (five 2)) 0 1)
-    ∷ own 5 (order (prepare 1 (one 1) (five 2)) 0 0)
-    ∷ own 6 (order (command 5 1 (one 1) (six 2) noMark theirs [] []) 0 0)
-    ∷ own 6 (arrive 0)
-    ∷ own 5 (arrive 1)
-    ∷ own 5 (arrive 0)
+    ∷ byDesk 5 (logs (beginOf 1))
+    ∷ byDesk 5 (logs (updateOf 0 1 text205))
+    ∷ byDesk 5 (logs (updateOf 1 1 text401))
+    ∷ byDesk 6 (logs (beginOf 7))
+    ∷ byDesk 6 (logs (updateOf 1 1 text210))
+    ∷ byDesk 5 (order (prepare 0 (one 1) (five 2)) 0 1)
+    ∷ byDesk 5 (order (prepare 1 (one 1) (five 2)) 0 0)
+    ∷ byDesk 6 (order (command 5 1 (one 1) (six 2) noMark theirs [] []) 0 0)
+    ∷ byDesk 6 (arrive 0)
+    ∷ byDesk 5 (arrive 1)
+    ∷ byDesk 5 (arrive 0)
     ∷ []
 
 -- Desk 6 commits, writes out and releases.
 abbrev pub sixCommits : List DeskStep
-sixCommits = own 6 (logs (commitOf 7)) ∷ []
+sixCommits = byDesk 6 (logs (commitOf 7)) ∷ []
 
 abbrev pub sixFinishes : List DeskStep
 sixFinishes =
-    own 6 (order (command 3 1 (six 2) (six 3) theirs theirs text210 []) 1 0)
-    ∷ own 6 (arrive 0)
-    ∷ own 6 (order (command 5 1 (six 3) (six 4) theirs noMark [] []) 0 0)
-    ∷ own 6 (arrive 0)
-    ∷ own 6 (logs (syncedOf 1 7))
+    byDesk 6 (order (command 3 1 (six 2) (six 3) theirs theirs text210 []) 1 0)
+    ∷ byDesk 6 (arrive 0)
+    ∷ byDesk 6 (order (command 5 1 (six 3) (six 4) theirs noMark [] []) 0 0)
+    ∷ byDesk 6 (arrive 0)
+    ∷ byDesk 6 (logs (syncedOf 1 7))
     ∷ []
 
 -- Then desk 5 prepares card 1, and commits.
 abbrev pub fiveCommits : List DeskStep
-fiveCommits = own 5 (order (prepare 1 (six 4) (five 5)) 0 0) ∷ own 5 (arrive 0) ∷ own 5 (logs (commitOf 1)) ∷ []
+fiveCommits = byDesk 5 (order (prepare 1 (six 4) (five 5)) 0 0) ∷ byDesk 5 (arrive 0) ∷ byDesk 5 (logs (commitOf 1)) ∷ []
 
 abbrev pub seeDesks : Desks → Seen
 seeDesks y = seeing (textIn (y .image) original 0) (textIn (y .image) original 1) (y .meant 0 original) (y .meant 1 original)
@@ -496,7 +496,7 @@ seeDesks y = seeing (textIn (y .image) original 0) (textIn (y .image) original 1
 pub record TwoDesks : Type 0 where
   pub rules : lawfulDeskSteps bothRuled twoDesks (bothBegin ++ (sixCommits ++ (sixFinishes ++ fiveCommits))) ≡ true
   -- while desk 6 has card 1, desk 5 may not commit
-  pub early : lawfulDeskStep bothRuled (afterDeskSteps twoDesks bothBegin) (own 5 (logs (commitOf 1))) ≡ false
+  pub early : lawfulDeskStep bothRuled (afterDeskSteps twoDesks bothBegin) (byDesk 5 (logs (commitOf 1))) ≡ false
   pub first : seeDesks (afterDeskSteps twoDesks (bothBegin ++ sixCommits)) ≡ seeing text190 text380 text190 text210
   pub last : seeDesks (afterDeskSteps twoDesks (bothBegin ++ (sixCommits ++ (sixFinishes ++ fiveCommits)))) ≡ seeing text190 text210 text205 text401
 

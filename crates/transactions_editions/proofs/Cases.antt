@@ -3,6 +3,7 @@ use mathlib.Core.Path.{refl}
 use Rattle.lists.specs.Parts.{part, splice, tabulate, concatMap, every, zeros}
 use Rattle.lists.specs.Le.{le, toLe}
 use Rattle.lists.specs.Table.{all, allFrom}
+use Rattle.lists.specs.Runs.{foldl, everyAlong}
 use Rattle.commands.specs.Command.{wellFormed}
 use Rattle.commands.specs.Bytes.{fieldsOf, payload, formed, commandBytes}
 use Rattle.guard.specs.Entry.{entrySound}
@@ -16,14 +17,15 @@ use Rattle.redo_log.specs.Log.{shaped, lastBegun, opened, follows, total, start
 use Rattle.redo_log.specs.Append.{stored, puts, lineBytes, stores, appended}
 use Rattle.redo_recovery_model.specs.Recovery.{due}
 use Rattle.redo_recovery_model.specs.Claims.{rewritten}
-use Rattle.transactions.specs.System.{withUpdates, afterStep, afterSteps, lawfulAll}
-use Rattle.transactions.specs.Desks.{afterDeskStep, afterDeskSteps, lawfulDeskSteps}
+use Rattle.transactions.specs.System.{withUpdates, afterStep}
+use Rattle.transactions.specs.Desks.{afterDeskStep}
 use Rattle.transactions_editions.specs.Editions.{currentWith, currentBy, currentAlong}
 use Rattle.transactions_editions.specs.Desks.{desksCurrentAlong}
 use Rattle.transactions_editions.specs.Cases.{DropsChanged}
 
 pub drops-changed : DropsChanged
-unfolding desksCurrentAlong afterDeskSteps lawfulDeskSteps afterDeskStep currentWith currentBy currentAlong lawfulAll afterSteps afterStep withUpdates rewritten due stored puts lineBytes stores appended shaped
+unfolding desksCurrentAlong foldl everyAlong afterDeskStep currentWith currentBy currentAlong
+    afterStep withUpdates rewritten due stored puts lineBytes stores appended shaped
     lastBegun opened follows total startAt recordAt recordOk goodLog records serve serveBy stepped sound headerSound cardSound translationSound
     tailZero decode cardAt entryAt readEntry encode bodies pad entryBytes header shapeOk fresh replied raise entrySound commandBytes formed payload
     fieldsOf wellFormed all allFrom le toLe part splice tabulate concatMap every zeros

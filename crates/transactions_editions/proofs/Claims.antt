@@ -11,6 +11,7 @@ use Rattle.formats.specs.Format.{V1}
 use Rattle.lists.specs.Table.{Row, applies, earlier, noRow}
 use Rattle.lists.proofs.Table.{given}
 use Rattle.lists.proofs.Tests.{never-both, and-left, and-right, from-T}
+use Rattle.lists.specs.Runs.{foldl, everyAlong}
 use Rattle.stamps.specs.Stamp.{stale, tooFar, markFits}
 use Rattle.commands.specs.declared.Command.{Command}
 use Rattle.commands.specs.Command.{readsTranslation, writesTranslation, verifier, update}
@@ -59,7 +60,7 @@ module _ (d : ℕ) (y : OneDesk) (k : Kept d y) (c : ℕ → Bool) (w : Holds d 
 
 holds-run : (d : ℕ) (y : OneDesk) (c : ℕ → Bool) (steps : List Step) → Kept d y → Holds d y c → AllSteps steps → lawfulAll d y steps ≡ true
     → Holds d (afterSteps d y steps) (currentAlong d y c steps)
-unfolding afterSteps lawfulAll currentAlong
+unfolding foldl everyAlong currentAlong
 holds-run d y c [] k w b h = w
 holds-run d y c (m ∷ steps) k w b h =
     let now = and-left (lawful d y m) (lawfulAll d (afterStep d y m) steps) h in

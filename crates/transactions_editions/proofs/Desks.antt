@@ -4,12 +4,13 @@ use native.Mathlib.Omega.{arith}
 use mathlib.Core.Path.{_≡_, refl, sym, ap, _∙_, subst}
 use mathlib.Core.Logic.{_⊎_, inl, inr}
 use mathlib.Core.List.{List, [], _∷_}
-use mathlib.Core.Bool.{Bool, true, false, cond, not, _&&_, _||_, and-false}
-use borrow.Author.Tests.{eqb-true, eqb-false, eq-eqb, ne-eqb, not-true}
+use mathlib.Core.Bool.{Bool, true, false, cond, not, _&&_}
+use borrow.Author.Tests.{eqb-true, eq-eqb, ne-eqb}
 use lib.ListN.{length, getD}
 use lib.Dec.{eqb}
 use Rattle.formats.specs.Format.{V1}
-use Rattle.lists.proofs.Tests.{cases, never-both, and-left, and-right, or-left, or-right}
+use Rattle.lists.proofs.Tests.{cases, never-both, and-left, and-right, or-right}
+use Rattle.lists.specs.Runs.{foldl, everyAlong}
 use Rattle.stamps.specs.declared.Mark.{Mark}
 use Rattle.commands.specs.declared.Command.{Command}
 use Rattle.commands.specs.Command.{isWrite, writesTranslation}
@@ -22,7 +23,7 @@ use Rattle.store_model.proofs.Machine.{numberOn}
 use Rattle.redo_log.specs.Log.{LogRecord, commitKind, recordTransaction, records}
 use Rattle.redo_log.specs.Append.{appendNumber}
 use Rattle.redo_recovery_model.specs.Recovery.{Pairs, FitsPairs, recovering}
-use Rattle.transactions.specs.System.{OneDesk, Order, Shown, Step, other, order, arrive, append, crash, recover, renew, noOrder, commandIn, expects, leaves, lawful, afterStep}
+use Rattle.transactions.specs.System.{Order, Shown, Step, other, order, arrive, append, crash, recover, renew, noOrder, commandIn, expectsMark, leavesMark, lawful, afterStep}
 use Rattle.transactions.specs.Claims.{StepBytes}
 use Rattle.transactions.specs.Desks.{
   Part,
@@ -32,7 +33,7 @@ use Rattle.transactions.specs.Desks.{
   desksOpening,
   DeskStep,
   outside,
-  own,
+  byDesk,
   ownStep,
   lawfulDeskStep,
   afterDeskStep,
@@ -50,7 +51,7 @@ use Rattle.transactions.proofs.Joint.{Joint, alone, kept-alone, number-then, de
 use Rattle.transactions_editions.specs.Editions.{currentIn, currentBy, currentWith, currentAfter}
 use Rattle.transactions_editions.specs.Desks.{desksCurrentAfter, desksCurrentAlong, desksMeantCurrent, DesksEditionsAtOnce, DesksTranslationsRead}
 use Rattle.transactions_editions.proofs.Current.{cur, cur-then}
-use Rattle.transactions_editions.proofs.Steps.{Done, Tells, Turned, Holds, Moved, still, up, sent-moved, told-moved, holds-other}
+use Rattle.transactions_editions.proofs.Steps.{Done, Tells, Holds, Moved, still, up, sent-moved, told-moved, holds-other}
 use Rattle.transactions_editions.proofs.Appends.{unborne-current}
 use Rattle.transactions_editions.proofs.Claims.{holds-next, accepted, behind-then}
 
@@ -164,7 +165,7 @@ module _ (ruled : ℕ → Bool) (y : Desks) (j : Joint ruled y) (c : ℕ → Boo
       → currentBy (records (new p f d)) k (length (records (new p f d))) (cur (at (decode V1 image) k)) ≡ a k
   by-log p f image a k e = subst (λ (g : List ℕ). currentBy (records g) k (length (records g)) (cur (at (decode V1 image) k)) ≡ a k) (sym (new-here p f)) e
 
-  turned-order : (s : Sent) (line from : ℕ) → SentBytes s → lawful d (seenBy d y) (order s line from) ≡ true → JointTurned ruled (afterDeskStep y (own d (order s line from))) c
+  turned-order : (s : Sent) (line from : ℕ) → SentBytes s → lawful d (seenBy d y) (order s line from) ≡ true → JointTurned ruled (afterDeskStep y (byDesk d (order s line from))) c
   unfolding afterDeskStep afterStep
   turned-order s line from b h =
       let p = partOf (afterStep d (seenBy d y) (order s line from)) in
@@ -176,7 +177,7 @@ module _ (ruled : ℕ → Bool) (y : Desks) (j : Joint ruled y) (c : ℕ → Boo
         side = by-desk ruled y j d r (λ (n : ℕ) (q : Part). ruled n ≡ true → SideTurned n (y .image) q) p (y .part) (λ q. record { sent = hold .sent; told = hold .told }) (λ n x q. w .side n q);
       }
 
-  turned-crash : JointTurned ruled (afterDeskStep y (own d crash)) c
+  turned-crash : JointTurned ruled (afterDeskStep y (byDesk d crash)) c
   unfolding afterDeskStep afterStep
   turned-crash =
       let p = partOf (afterStep d (seenBy d y) crash) in
@@ -188,7 +189,7 @@ module _ (ruled : ℕ → Bool) (y : Desks) (j : Joint ruled y) (c : ℕ → Boo
         side = by-desk ruled y j d r (λ (n : ℕ) (q : Part). ruled n ≡ true → SideTurned n (y .image) q) p (y .part) (λ q. record { sent = hold .sent; told = hold .told }) (λ n x q. w .side n q);
       }
 
-  turned-renew : lawful d (seenBy d y) renew ≡ true → JointTurned ruled (afterDeskStep y (own d renew)) c
+  turned-renew : lawful d (seenBy d y) renew ≡ true → JointTurned ruled (afterDeskStep y (byDesk d renew)) c
   unfolding afterDeskStep afterStep
   turned-renew h =
       let p = partOf (afterStep d (seenBy d y) renew) in
@@ -201,7 +202,7 @@ module _ (ruled : ℕ → Bool) (y : Desks) (j : Joint ruled y) (c : ℕ → Boo
       }
 
   turned-append : (budget : ℕ) (q : LogRecord) → StepBytes (append budget q) → lawful d (seenBy d y) (append budget q) ≡ true
-      → JointTurned ruled (afterDeskStep y (own d (append budget q))) (currentAfter d (seenBy d y) c (append budget q))
+      → JointTurned ruled (afterDeskStep y (byDesk d (append budget q))) (currentAfter d (seenBy d y) c (append budget q))
   unfolding afterDeskStep afterStep
   turned-append budget q b h =
       let p = partOf (afterStep d (seenBy d y) (append budget q)) in
@@ -212,13 +213,14 @@ module _ (ruled : ℕ → Bool) (y : Desks) (j : Joint ruled y) (c : ℕ → Boo
         cards = λ k.
             on-same (y .image) (new p (y .part)) v a (new-there p (y .part)) (hold .plain) (λ i x. by-log p (y .part) (y .image) a i (hold .marked i x)) k refl
             (λ x.
-            ap (λ (t : Bool). cond (eqb (appendNumber budget (y .part d .log) q) 0 && eqb (q .kind) commitKind) (currentWith (records (y .part d .log)) (recordTransaction q) k (length (records (y .part d .log))) t) t)
+            ap (λ (t : Bool). cond (eqb (appendNumber budget (y .part d .log) q) 0 && eqb (q .kind) commitKind)
+            (currentWith (records (y .part d .log)) (recordTransaction q) k (length (records (y .part d .log))) t) t)
             (borne-value k x))
             (λ x. unborne-current d (alone d y) mine c budget q b h k x);
         side = by-desk ruled y j d r (λ (n : ℕ) (x : Part). ruled n ≡ true → SideTurned n (y .image) x) p (y .part) (λ x. record { sent = hold .sent; told = hold .told }) (λ n x z. w .side n z);
       }
 
-  turned-recover : (pairs : Pairs) (lines : ℕ) → FitsPairs pairs → lawful d (seenBy d y) (recover pairs lines) ≡ true → JointTurned ruled (afterDeskStep y (own d (recover pairs lines))) c
+  turned-recover : (pairs : Pairs) (lines : ℕ) → FitsPairs pairs → lawful d (seenBy d y) (recover pairs lines) ≡ true → JointTurned ruled (afterDeskStep y (byDesk d (recover pairs lines))) c
   unfolding afterDeskStep afterStep
   turned-recover pairs lines b h =
       let p = partOf (afterStep d (seenBy d y) (recover pairs lines)) in
@@ -261,7 +263,8 @@ module _ (ruled : ℕ → Bool) (y : Desks) (j : Joint ruled y) (c : ℕ → Boo
   abbrev got : Outcome
   got = serve V1 (y .image) (s .command) (s .lent)
 
-  side-met : (e : ℕ) → ruled e ≡ true → (formed V1 (s .command) ≡ true → (expects e (commandIn s) ≡ false) × (leaves e (commandIn s) ≡ false)) → SideTurned e (got .image) (partOf (afterStep e (seenBy e y) (other s)))
+  side-met : (e : ℕ) → ruled e ≡ true → (formed V1 (s .command) ≡ true → (expectsMark e (commandIn s) ≡ false) × (leavesMark e (commandIn s) ≡ false))
+      → SideTurned e (got .image) (partOf (afterStep e (seenBy e y) (other s)))
   unfolding afterStep
   side-met e r f =
       let hold : Holds e (afterStep e (alone e y) (other s)) (currentAfter e (alone e y) (aloneCurrent e y c) (other s)) =
@@ -271,7 +274,7 @@ module _ (ruled : ℕ → Bool) (y : Desks) (j : Joint ruled y) (c : ℕ → Boo
       rule : (formed V1 (s .command) ≡ true) ⊎ (formed V1 (s .command) ≡ false) → lawful e (alone e y) (other s) ≡ true
       rule (inl q) = or-right (not (formed V1 (s .command))) (both (f q))
         where
-          both : (expects e (commandIn s) ≡ false) × (leaves e (commandIn s) ≡ false) → (not (expects e (commandIn s)) && not (leaves e (commandIn s))) ≡ true
+          both : (expectsMark e (commandIn s) ≡ false) × (leavesMark e (commandIn s) ≡ false) → (not (expectsMark e (commandIn s)) && not (leavesMark e (commandIn s))) ≡ true
           both x = rw (x .0, x .1)
       rule (inr q) = rw q
 
@@ -343,7 +346,7 @@ module _ (ruled : ℕ → Bool) (y : Desks) (j : Joint ruled y) (c : ℕ → Boo
               on-own ruled y j c w d r image (new ruled y j c w d r p met) c (aloneCurrent d y c) there plainly
               (λ n q. by-log ruled y j c w d r p met image (aloneCurrent d y c) n (marking n q)) k last-now (own-value ruled y j c w d r k first)
 
-  turned-arrive : JointTurned ruled (afterDeskStep y (own d (arrive i))) c
+  turned-arrive : JointTurned ruled (afterDeskStep y (byDesk d (arrive i))) c
   unfolding afterDeskStep afterStep
   turned-arrive =
       record {
@@ -422,8 +425,9 @@ module _ (ruled : ℕ → Bool) (y : Desks) (j : Joint ruled y) (c : ℕ → Boo
 
 -- ---- a run
 
-turned-own : (ruled : ℕ → Bool) (y : Desks) (j : Joint ruled y) (c : ℕ → Bool) (w : JointTurned ruled y c) (d : ℕ) (m : Step) → StepBytes m → ruled d ≡ true → ownStep m ≡ true → lawful d (seenBy d y) m ≡ true
-    → JointTurned ruled (afterDeskStep y (own d m)) (desksCurrentAfter y c (own d m))
+turned-own : (ruled : ℕ → Bool) (y : Desks) (j : Joint ruled y) (c : ℕ → Bool) (w : JointTurned ruled y c) (d : ℕ) (m : Step)
+    → StepBytes m → ruled d ≡ true → ownStep m ≡ true → lawful d (seenBy d y) m ≡ true
+    → JointTurned ruled (afterDeskStep y (byDesk d m)) (desksCurrentAfter y c (byDesk d m))
 turned-own ruled y j c w d (other s) b r o h = absurd (never-both refl (sym o))
 turned-own ruled y j c w d (order s line from) b r o h = turned-order ruled y j c w d r s line from b h
 turned-own ruled y j c w d (arrive i) b r o h = turned-arrive ruled y j c w d r i h
@@ -435,13 +439,13 @@ turned-own ruled y j c w d renew b r o h = turned-renew ruled y j c w d r h
 turned-next : (ruled : ℕ → Bool) (y : Desks) (m : DeskStep) (c : ℕ → Bool) → Joint ruled y → JointTurned ruled y c → DeskStepBytes m → lawfulDeskStep ruled y m ≡ true
     → JointTurned ruled (afterDeskStep y m) (desksCurrentAfter y c m)
 turned-next ruled y (outside s) c j w b h = turned-outside ruled y j c w s b h
-turned-next ruled y (own d m) c j w b h =
+turned-next ruled y (byDesk d m) c j w b h =
     let two = and-left (ruled d && ownStep m) (lawful d (seenBy d y) m) h in
     turned-own ruled y j c w d m b (and-left (ruled d) (ownStep m) two) (and-right (ruled d) (ownStep m) two) (and-right (ruled d && ownStep m) (lawful d (seenBy d y) m) h)
 
 turned-run : (ruled : ℕ → Bool) (y : Desks) (c : ℕ → Bool) (steps : List DeskStep) → Joint ruled y → JointTurned ruled y c → AllDeskSteps steps → lawfulDeskSteps ruled y steps ≡ true
     → JointTurned ruled (afterDeskSteps y steps) (desksCurrentAlong y c steps)
-unfolding afterDeskSteps lawfulDeskSteps desksCurrentAlong
+unfolding foldl everyAlong desksCurrentAlong
 turned-run ruled y c [] j w b h = w
 turned-run ruled y c (m ∷ steps) j w b h =
     let now = and-left (lawfulDeskStep ruled y m) (lawfulDeskSteps ruled (afterDeskStep y m) steps) h in

@@ -33,8 +33,8 @@ use Rattle.transactions.specs.System.{
   noOrder,
   noShown,
   commandIn,
-  expects,
-  leaves,
+  expectsMark,
+  leavesMark,
   prepares,
   writesOut,
   releases,
@@ -163,14 +163,14 @@ module _ (d : ℕ) (y : OneDesk) (k : Kept d y) (c : ℕ → Bool) (w : Turned d
     t : Taken (k .cs) s
     t = taken (k .cs) s (k .good) z
 
-    rule : (not (expects d cmd) && not (leaves d cmd)) ≡ true
+    rule : (not (expectsMark d cmd) && not (leavesMark d cmd)) ≡ true
     rule = if-so (formed V1 (s .command)) h (t .wellFormed)
 
     was-off : bears d (at (k .cs) (cmd .card)) ≡ false
-    was-off = subst (λ (n : ℕ). eqb n d ≡ false) (t .fits) (not-true (expects d cmd) (and-left (not (expects d cmd)) (not (leaves d cmd)) rule))
+    was-off = subst (λ (n : ℕ). eqb n d ≡ false) (t .fits) (not-true (expectsMark d cmd) (and-left (not (expectsMark d cmd)) (not (leavesMark d cmd)) rule))
 
     is-off : bears d (at cards (cmd .card)) ≡ false
-    is-off = subst (λ (m : Mark). eqb (m .desk) d ≡ false) (sym (t .mark)) (not-true (leaves d cmd) (and-right (not (expects d cmd)) (not (leaves d cmd)) rule))
+    is-off = subst (λ (m : Mark). eqb (m .desk) d ≡ false) (sym (t .mark)) (not-true (leavesMark d cmd) (and-right (not (expectsMark d cmd)) (not (leavesMark d cmd)) rule))
 
     moved-by : (j : ℕ) → Moved d (at (k .cs) j) (at cards j)
     moved-by j = go (cases (eqb (cmd .card) j))
@@ -266,22 +266,22 @@ module _ (d : ℕ) (y : OneDesk) (c : ℕ → Bool) (w : Holds d y c) (s : Sent)
   all-written : releases d ocmd ≡ true → (d ≡ 0 → ⊥) → writtenOut ors (ocmd .card) (v .reach) (length ors) ≡ true
   all-written r some = go (or-cases (pt || rt) (writesOut d ocmd && wt) (and-right first-two (orderly d ors s line (v .reach)) h))
     where
-      expected : expects d ocmd ≡ true
-      expected = and-right (not (isWrite ocmd)) (expects d ocmd) (and-left (not (isWrite ocmd) && expects d ocmd) (eqb (ocmd .next .desk) 0) r)
+      expected : expectsMark d ocmd ≡ true
+      expected = and-right (not (isWrite ocmd)) (expectsMark d ocmd) (and-left (not (isWrite ocmd) && expectsMark d ocmd) (eqb (ocmd .next .desk) 0) r)
 
       unwritten : isWrite ocmd ≡ false
-      unwritten = not-true (isWrite ocmd) (and-left (not (isWrite ocmd)) (expects d ocmd) (and-left (not (isWrite ocmd) && expects d ocmd) (eqb (ocmd .next .desk) 0) r))
+      unwritten = not-true (isWrite ocmd) (and-left (not (isWrite ocmd)) (expectsMark d ocmd) (and-left (not (isWrite ocmd) && expectsMark d ocmd) (eqb (ocmd .next .desk) 0) r))
 
       two : (pt ≡ true) ⊎ (rt ≡ true) → writtenOut ors (ocmd .card) (v .reach) (length ors) ≡ true
       two (inr e) = and-right (releases d ocmd) (writtenOut ors (ocmd .card) (v .reach) (length ors)) e
       two (inl e) =
           let p = and-left (prepares d ocmd) (writtenOut ors (ocmd .card) 0 (length ors)) e in
-          let none = and-right (not (isWrite ocmd)) (eqb (ocmd .expected .desk) 0) (and-left (not (isWrite ocmd) && eqb (ocmd .expected .desk) 0) (leaves d ocmd) p) in
+          let none = and-right (not (isWrite ocmd)) (eqb (ocmd .expected .desk) 0) (and-left (not (isWrite ocmd) && eqb (ocmd .expected .desk) 0) (leavesMark d ocmd) p) in
           absurd (some (sym (eqb-true (ocmd .expected .desk) d expected) ∙ eqb-true (ocmd .expected .desk) 0 none))
 
       go : ((pt || rt) ≡ true) ⊎ ((writesOut d ocmd && wt) ≡ true) → writtenOut ors (ocmd .card) (v .reach) (length ors) ≡ true
       go (inl e) = two (or-cases pt rt e)
-      go (inr e) = absurd (never-both (and-left (isWrite ocmd) (expects d ocmd) (and-left (isWrite ocmd && expects d ocmd) (leaves d ocmd) (and-left (writesOut d ocmd) wt e))) unwritten)
+      go (inr e) = absurd (never-both (and-left (isWrite ocmd) (expectsMark d ocmd) (and-left (isWrite ocmd && expectsMark d ocmd) (leavesMark d ocmd) (and-left (writesOut d ocmd) wt e))) unwritten)
 
   done-new : (d ≡ 0 → ⊥) → Done d ors (at (decode V1 (y .image)) (ocmd .card)) (record { sent = s; line = line })
   done-new some r live b = go (tells (subst (λ (n : ℕ). here .pair .x ≤ n) same-x live) b)
@@ -421,17 +421,17 @@ module _ (d : ℕ) (y : OneDesk) (k : Kept d y) (c : ℕ → Bool) (w : Turned d
         (says-nothing d ars is heard (reach-unwritten unwritten))
       where
         unwritten : isWrite ac ≡ false
-        unwritten = not-true (isWrite ac) (and-left (not (isWrite ac)) (eqb (ac .expected .desk) 0) (and-left (not (isWrite ac) && eqb (ac .expected .desk) 0) (leaves d ac) p))
+        unwritten = not-true (isWrite ac) (and-left (not (isWrite ac)) (eqb (ac .expected .desk) 0) (and-left (not (isWrite ac) && eqb (ac .expected .desk) 0) (leavesMark d ac) p))
 
         borne : bears d is ≡ true
-        borne = bears-next true (and-right (not (isWrite ac) && eqb (ac .expected .desk) 0) (leaves d ac) p)
+        borne = bears-next true (and-right (not (isWrite ac) && eqb (ac .expected .desk) 0) (leavesMark d ac) p)
 
         unborne : bears d was ≡ false
         unborne =
             bears-old false
             (ne-eqb (ac .expected .desk) d
             (λ e. k .some (sym e ∙ eqb-true (ac .expected .desk) 0
-            (and-right (not (isWrite ac)) (eqb (ac .expected .desk) 0) (and-left (not (isWrite ac) && eqb (ac .expected .desk) 0) (leaves d ac) p)))))
+            (and-right (not (isWrite ac)) (eqb (ac .expected .desk) 0) (and-left (not (isWrite ac) && eqb (ac .expected .desk) 0) (leavesMark d ac) p)))))
 
         clear : (bears d was ≡ true) ⊎ Clear ars (ac .card) → Clear ars (ac .card)
         clear (inl e) = absurd (never-both e unborne)
@@ -443,26 +443,26 @@ module _ (d : ℕ) (y : OneDesk) (k : Kept d y) (c : ℕ → Bool) (w : Turned d
         arrived (λ e. stays-so unwritten ∙ sym (done p (ta .fresh) borne) ∙ w .marked (ac .card) borne) (λ e. absurd (never-both e unborne)) (λ live e. absurd (never-both e unborne))
       where
         unwritten : isWrite ac ≡ false
-        unwritten = not-true (isWrite ac) (and-left (not (isWrite ac)) (expects d ac) (and-left (not (isWrite ac) && expects d ac) (eqb (ac .next .desk) 0) p))
+        unwritten = not-true (isWrite ac) (and-left (not (isWrite ac)) (expectsMark d ac) (and-left (not (isWrite ac) && expectsMark d ac) (eqb (ac .next .desk) 0) p))
 
         borne : bears d was ≡ true
-        borne = bears-old true (and-right (not (isWrite ac)) (expects d ac) (and-left (not (isWrite ac) && expects d ac) (eqb (ac .next .desk) 0) p))
+        borne = bears-old true (and-right (not (isWrite ac)) (expectsMark d ac) (and-left (not (isWrite ac) && expectsMark d ac) (eqb (ac .next .desk) 0) p))
 
         unborne : bears d is ≡ false
-        unborne = bears-next false (ne-eqb (ac .next .desk) d (λ e. k .some (sym e ∙ eqb-true (ac .next .desk) 0 (and-right (not (isWrite ac) && expects d ac) (eqb (ac .next .desk) 0) p))))
+        unborne = bears-next false (ne-eqb (ac .next .desk) d (λ e. k .some (sym e ∙ eqb-true (ac .next .desk) 0 (and-right (not (isWrite ac) && expectsMark d ac) (eqb (ac .next .desk) 0) p))))
     by-kind (writing p f) =
         arrived (λ e. absurd (never-both borne-now e))
         (λ e. by-some ars (ac .card) (length ars) (o .line) (ready .within) line-due (cur is) (cur was) ∙ w .marked (ac .card) borne)
         (λ live e. inr (ap (λ (n : ℕ). currentBy ars (ac .card) n (cur is)) reach-now ∙ by-line ars (ac .card) (o .line) (cur is) line-due ∙ sym cur-line))
       where
         writes-it : isWrite ac ≡ true
-        writes-it = and-left (isWrite ac) (expects d ac) (and-left (isWrite ac && expects d ac) (leaves d ac) p)
+        writes-it = and-left (isWrite ac) (expectsMark d ac) (and-left (isWrite ac && expectsMark d ac) (leavesMark d ac) p)
 
         borne : bears d was ≡ true
-        borne = bears-old true (and-right (isWrite ac) (expects d ac) (and-left (isWrite ac && expects d ac) (leaves d ac) p))
+        borne = bears-old true (and-right (isWrite ac) (expectsMark d ac) (and-left (isWrite ac && expectsMark d ac) (leavesMark d ac) p))
 
         borne-now : bears d is ≡ true
-        borne-now = bears-next true (and-right (isWrite ac && expects d ac) (leaves d ac) p)
+        borne-now = bears-next true (and-right (isWrite ac && expectsMark d ac) (leavesMark d ac) p)
 
         ready : Ready ars (ac .card) was o
         ready = f (ta .fresh) borne

@@ -13,6 +13,7 @@ use Rattle.formats.specs.Format.{V1}
 use Rattle.lists.specs.Parts.{part, splice, tabulate, concatMap, every, zeros}
 use Rattle.lists.specs.Le.{le, toLe}
 use Rattle.lists.specs.Table.{all, allFrom}
+use Rattle.lists.specs.Runs.{foldl, everyAlong}
 use Rattle.commands.specs.Command.{wellFormed}
 use Rattle.commands.specs.Bytes.{fieldsOf, payload, formed, commandBytes}
 use Rattle.guard.specs.Entry.{entrySound}
@@ -30,15 +31,15 @@ use Rattle.redo_log.specs.Append.{stored, puts, lineBytes, stores, appended}
 use Rattle.redo_log_claims.specs.Cases.{emptyLog}
 use Rattle.redo_recovery_model.specs.Recovery.{due}
 use Rattle.redo_recovery_model.specs.Claims.{rewritten}
-use Rattle.transactions.specs.System.{OneDesk, Step, markIn, withUpdates, outcome, afterStep, afterSteps, lawfulAll}
+use Rattle.transactions.specs.System.{OneDesk, Step, markIn, withUpdates, outcome, afterStep, afterSteps}
 use Rattle.transactions.specs.Claims.{Moment}
 use Rattle.transactions.proofs.Claims.{fresh-clean, zeros-blank}
 use Rattle.transactions_cases.specs.Cases.{atFirst, five, command, both}
 use Rattle.transactions_cases.proofs.Cases.{belowTest, sentTest, stepTest, stepsTest, steps-tested}
 use Rattle.transactions_editions.specs.Editions.{currentIn, currentBy, meantCurrent}
 use Rattle.transactions_editions.specs.Cases.{writtenTwice, makesReady, commitsIt}
-use Rattle.transactions.specs.Desks.{Desks, desksOpening, afterDeskSteps, lawfulDeskSteps, DesksMoment}
-use Rattle.transactions_editions.specs.Desks.{desksCurrentAlong, desksMeantCurrent}
+use Rattle.transactions.specs.Desks.{Desks, desksOpening, DesksMoment}
+use Rattle.transactions_editions.specs.Desks.{desksMeantCurrent}
 use Rattle.transactions_editions.proofs.Claims.{editions-at-once, translations-read}
 use Rattle.transactions_editions.proofs.Desks.{desks-editions-at-once, desks-translations-read}
 
@@ -49,7 +50,7 @@ unfolding shapeOk all allFrom
 shape-two = tt
 
 beginning : Moment 5 atFirst
-unfolding lawfulAll afterSteps
+unfolding everyAlong foldl
 beginning =
     record {
       image = fresh V1 2 16;
@@ -70,7 +71,7 @@ unfolding stepsTest stepTest sentTest belowTest commandBytes toLe
 committing-bytes = refl
 
 committed : Moment 5 (afterSteps 5 atFirst committing)
-unfolding lawfulAll afterSteps afterStep withUpdates rewritten due stored puts lineBytes stores appended shaped lastBegun opened follows total startAt
+unfolding everyAlong foldl afterStep withUpdates rewritten due stored puts lineBytes stores appended shaped lastBegun opened follows total startAt
     recordAt recordOk goodLog records serve serveBy stepped sound headerSound cardSound translationSound tailZero decode cardAt entryAt readEntry
     encode bodies pad entryBytes header shapeOk fresh replied raise entrySound commandBytes formed payload fieldsOf wellFormed all allFrom le toLe
     part splice tabulate concatMap every zeros
@@ -133,7 +134,7 @@ abbrev all-first : Desks
 all-first = desksOpening (fresh V1 2 16) (λ (d : ℕ). emptyLog 64)
 
 all-begin : DesksMoment but0 all-first
-unfolding lawfulDeskSteps afterDeskSteps
+unfolding everyAlong foldl
 all-begin =
     record {
       image = fresh V1 2 16;

@@ -11,8 +11,31 @@ use Rattle.store_model.specs.Cases.{pair, withPairs, sends, text205, text401, l
 use Rattle.redo_log.specs.Log.{LogRecord}
 use Rattle.redo_log_claims.specs.Cases.{beginOf, updateOf, commitOf, syncedOf}
 use Rattle.transactions.specs.System.{OneDesk, Step, other, order, arrive, outcome, afterSteps}
-use Rattle.transactions.specs.Desks.{Desks, DeskStep, outside, own, seenBy, afterDeskSteps, lawfulDeskSteps}
-use Rattle.transactions_cases.specs.Cases.{atFirst, text190, text380, text210, one, five, six, theirs, bothRuled, twoDesks, command, writes1, ours, prepare, writeOut, release, logs, logsAll, inOrder, Shows, both, single}
+use Rattle.transactions.specs.Desks.{Desks, DeskStep, outside, byDesk, seenBy, afterDeskSteps, lawfulDeskSteps}
+use Rattle.transactions_cases.specs.Cases.{
+  atFirst,
+  text190,
+  text380,
+  text210,
+  one,
+  five,
+  six,
+  theirs,
+  bothRuled,
+  twoDesks,
+  command,
+  writes1,
+  ours,
+  prepare,
+  writeOut,
+  release,
+  logs,
+  logsAll,
+  inOrder,
+  Shows,
+  both,
+  single,
+}
 use Rattle.transactions_editions.specs.Editions.{currentIn, currentAlong}
 use Rattle.transactions_editions.specs.Desks.{desksCurrentAlong}
 
@@ -62,31 +85,31 @@ oneAfterTheOther =
     (outside (command 3 0 (one 1) (one 1) noMark noMark text190 [])
     ∷ outside (sends (withPairs 4 exclusive 0 (pair 0 (one 1)) (pair 0 (one 1)) noMark noMark 1 3) text380 [])
     ∷ [])
-    ∷ (own 6 (logs (beginOf 7))
-    ∷ own 6 (logs (updateOf 0 1 text210))
-    ∷ own 6 (order (command 5 0 (one 1) (six 2) noMark theirs [] []) 0 0)
-    ∷ own 6 (arrive 0)
-    ∷ own 6 (logs (commitOf 7))
+    ∷ (byDesk 6 (logs (beginOf 7))
+    ∷ byDesk 6 (logs (updateOf 0 1 text210))
+    ∷ byDesk 6 (order (command 5 0 (one 1) (six 2) noMark theirs [] []) 0 0)
+    ∷ byDesk 6 (arrive 0)
+    ∷ byDesk 6 (logs (commitOf 7))
     ∷ [])
-    ∷ (own 6 (order (command 3 0 (six 2) (six 3) theirs theirs text210 []) 1 0)
-    ∷ own 6 (arrive 0)
-    ∷ own 6 (order (command 5 0 (six 3) (six 4) theirs noMark [] []) 0 0)
-    ∷ own 6 (arrive 0)
-    ∷ own 6 (logs (syncedOf 0 7))
+    ∷ (byDesk 6 (order (command 3 0 (six 2) (six 3) theirs theirs text210 []) 1 0)
+    ∷ byDesk 6 (arrive 0)
+    ∷ byDesk 6 (order (command 5 0 (six 3) (six 4) theirs noMark [] []) 0 0)
+    ∷ byDesk 6 (arrive 0)
+    ∷ byDesk 6 (logs (syncedOf 0 7))
     ∷ [])
-    ∷ (own 5 (logs (beginOf 1))
-    ∷ own 5 (logs (updateOf 0 1 text205))
-    ∷ own 5 (logs (updateOf 0 2 text401))
-    ∷ own 5 (order (prepare 0 (six 4) (five 5)) 0 0)
-    ∷ own 5 (arrive 0)
-    ∷ own 5 (logs (commitOf 1))
+    ∷ (byDesk 5 (logs (beginOf 1))
+    ∷ byDesk 5 (logs (updateOf 0 1 text205))
+    ∷ byDesk 5 (logs (updateOf 0 2 text401))
+    ∷ byDesk 5 (order (prepare 0 (six 4) (five 5)) 0 0)
+    ∷ byDesk 5 (arrive 0)
+    ∷ byDesk 5 (logs (commitOf 1))
     ∷ [])
-    ∷ (own 5 (order (writeOut 0 (five 5) (five 6) text205) 1 0)
-    ∷ own 5 (arrive 0)
-    ∷ own 5 (order (sends (withPairs 4 exclusive 0 (pair 0 (five 6)) (pair 0 (five 7)) ours ours 3 3) text401 []) 2 0)
-    ∷ own 5 (arrive 0)
-    ∷ own 5 (order (release 0 (five 7) (five 8)) 0 0)
-    ∷ own 5 (arrive 0)
+    ∷ (byDesk 5 (order (writeOut 0 (five 5) (five 6) text205) 1 0)
+    ∷ byDesk 5 (arrive 0)
+    ∷ byDesk 5 (order (sends (withPairs 4 exclusive 0 (pair 0 (five 6)) (pair 0 (five 7)) ours ours 3 3) text401 []) 2 0)
+    ∷ byDesk 5 (arrive 0)
+    ∷ byDesk 5 (order (release 0 (five 7) (five 8)) 0 0)
+    ∷ byDesk 5 (arrive 0)
     ∷ [])
     ∷ []
 

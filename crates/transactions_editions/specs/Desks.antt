@@ -13,13 +13,13 @@ use Rattle.store_model.specs.Serve.{serve}
 use Rattle.store_model.specs.Words.{Sent}
 use Rattle.redo_log.specs.Log.{records}
 use Rattle.transactions.specs.System.{other, commandIn, markIn}
-use Rattle.transactions.specs.Desks.{Desks, DeskStep, outside, own, seenBy, desksOpening, afterDeskStep, DesksMoment}
+use Rattle.transactions.specs.Desks.{Desks, DeskStep, outside, byDesk, seenBy, desksOpening, afterDeskStep, DesksMoment}
 use Rattle.transactions_editions.specs.Editions.{currentIn, currentBy, currentAfter}
 
 -- Rule 16.19: whether the translation is meant to be current, after a step of any desk or of somebody who is under no rules.
 abbrev pub desksCurrentAfter : Desks → (ℕ → Bool) → DeskStep → ℕ → Bool
 desksCurrentAfter y c (outside s) = currentAfter 0 (seenBy 0 y) c (other s)
-desksCurrentAfter y c (own d m) = currentAfter d (seenBy d y) c m
+desksCurrentAfter y c (byDesk d m) = currentAfter d (seenBy d y) c m
 
 unfoldable pub desksCurrentAlong : Desks → (ℕ → Bool) → List DeskStep → ℕ → Bool
 desksCurrentAlong y c [] = c

@@ -14,7 +14,7 @@ use Rattle.store_model.specs.Words.{Sent}
 use Rattle.redo_log.specs.Log.{LogRecord, commitKind, recordCard, recordSide, recordTransaction, records}
 use Rattle.redo_log.specs.Append.{appendNumber}
 use Rattle.redo_recovery_model.specs.Recovery.{recordIn, entryFor}
-use Rattle.transactions.specs.System.{OneDesk, Step, other, order, arrive, append, crash, recover, renew, oneDeskOpening, commandIn, markIn, expects, dueFor, updateIn, outcome, afterStep}
+use Rattle.transactions.specs.System.{OneDesk, Step, other, order, arrive, append, crash, recover, renew, oneDeskOpening, commandIn, markIn, expectsMark, dueFor, updateIn, outcome, afterStep}
 use Rattle.transactions.specs.Claims.{Moment}
 use Rattle.numbers.specs.Numbers.{EDITION-WRONG}
 
@@ -80,5 +80,5 @@ pub record TranslationRead (d : ℕ) (y : OneDesk) (c : ℕ → Bool) (s : Sent)
 
 abbrev pub TranslationsRead : Type 0
 TranslationsRead =
-    (d : ℕ) (y : OneDesk) (m : Moment d y) (s : Sent) → readsTranslation (commandIn s) ≡ true → expects d (commandIn s) ≡ false
+    (d : ℕ) (y : OneDesk) (m : Moment d y) (s : Sent) → readsTranslation (commandIn s) ≡ true → expectsMark d (commandIn s) ≡ false
     → TranslationRead d y (meantCurrent d y m) s

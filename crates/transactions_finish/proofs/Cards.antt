@@ -5,19 +5,16 @@ use mathlib.Core.Path.{_≡_, refl, sym, ap, _∙_, subst}
 use mathlib.Core.Logic.{_⊎_, inl, inr}
 use mathlib.Core.List.{List, []}
 use mathlib.Core.Bool.{Bool, true, false, cond, not, _&&_, _||_}
-use borrow.Author.Tests.{eqb-true, eq-eqb, ne-eqb, ltb-true, ltb-false, leb-true, not-true}
+use borrow.Author.Tests.{eqb-true, eq-eqb, ne-eqb, ltb-true, ltb-false, not-true}
 use lib.ListN.{length, length-drop}
-use lib.Dec.{eqb, ltb, leb, lit<}
-use Rattle.formats.specs.Format.{V1}
+use lib.Dec.{eqb, ltb, lit<}
 use Rattle.lists.specs.Parts.{every}
-use Rattle.lists.specs.Table.{all}
 use Rattle.lists.proofs.Bytes.{Bytes-nil, Bytes-drop}
-use Rattle.lists.proofs.Tests.{cases, never-both, and-left, and-right, or-cases, all-out, from-T}
+use Rattle.lists.proofs.Tests.{cases, never-both, and-left, and-right, or-cases}
 use Rattle.stamps.specs.Stamp.{stampT}
 use Rattle.stamps.specs.declared.Mark.{Mark}
 use Rattle.commands.specs.Command.{original}
-use Rattle.image.specs.Layout.{shapeOk}
-use Rattle.image.specs.Image.{Card, Cards, GoodCards}
+use Rattle.image.specs.Image.{Card, Cards}
 use Rattle.redo_log.specs.Log.{LogRecord, mostRecords, recordCard, recordSide, recordText, records}
 use Rattle.redo_log.proofs.Records.{good-out}
 use Rattle.redo_log.proofs.ReadBack.{length-records}
@@ -28,19 +25,14 @@ use Rattle.transactions.specs.System.{dueFor, writtenOut}
 use Rattle.transactions.proofs.Records.{due-past}
 use Rattle.transactions.proofs.Serving.{at}
 use Rattle.transactions_progress.specs.Progress.{originalsDue}
-use Rattle.transaction_steps.specs.declared.ToldStep.{ToldStep}
 use Rattle.transaction_steps.specs.Steps.{firstDue, nextStep}
 use Rattle.transaction_steps_claims.specs.Follower.{Follower}
 use Rattle.transaction_steps_claims.proofs.Follower.{Going}
 use Rattle.transaction_steps_claims.proofs.Next.{Found, line-at, no-line, found}
 use Rattle.transactions_finish.specs.Finish.{linesDue}
-use Rattle.transactions_finish.proofs.Requests.{good-cards}
-use Rattle.transactions_finish.proofs.Commands.{Deed, releasing, writing, Fit, above-next}
+use Rattle.transactions_finish.proofs.Commands.{releasing, writing, Fit, above-next}
 use Rattle.transactions_finish.proofs.Walks.{
   cardsOf,
-  Path,
-  path-none,
-  path-join,
   Moved,
   moved-join,
   saw,
@@ -52,7 +44,6 @@ use Rattle.transactions_finish.proofs.Walks.{
   look-unmarked,
   telling,
   Carrying,
-  editionAfter,
   ordered,
   order-moved,
   mark-order,
@@ -177,7 +168,8 @@ module _ (d : ℕ) (small : d < 65536) (start : Follower) (begun : Going d start
             end,
             moved-join d k start z end (m .moved) (order-moved d small z (m .moved .going) k within low stamps bears reach (m .facing) releasing [] Bytes-nil (lit< tt) refl 0 told tt),
             record {
-              unmarked = ap (λ (w : Mark). eqb (w .desk) d) (mark-order d small z (m .moved .going) k within low stamps bears reach (m .facing) releasing [] Bytes-nil (lit< tt) refl 0 told tt) ∙ apart;
+              unmarked = ap (λ (w : Mark). eqb (w .desk) d)
+                  (mark-order d small z (m .moved .going) k within low stamps bears reach (m .facing) releasing [] Bytes-nil (lit< tt) refl 0 told tt) ∙ apart;
               mark = 0;
               reach = 0;
               seen = f .seen;
@@ -214,7 +206,8 @@ module _ (d : ℕ) (small : d < 65536) (start : Follower) (begun : Going d start
         carrying b q = subst (λ (l : List ℕ). Carrying (writing b) (records l) line text) (sym (m .moved .log)) (q, refl)
 
         abbrev written : Follower
-        written = ordered d small z (m .moved .going) k within low stamps bears reach (m .facing) (writing side) text (Bytes-drop 3 (r .body) (fits-records line inner .0)) short (fit-of side refl) line (told side) (carrying side refl)
+        written = ordered d small z (m .moved .going) k within low stamps bears reach (m .facing) (writing side) text
+            (Bytes-drop 3 (r .body) (fits-records line inner .0)) short (fit-of side refl) line (told side) (carrying side refl)
 
         edition-after : (b : Bool) → side ≡ b → cond b (at (cardsOf z) k .edition + 1) (at (cardsOf z) k .edition) ≡ at (cardsOf start) k .edition + originalsDue rs k (suc line)
         edition-after true q = omega (arith, edition-now, originals-next rs k line true (is-rewritten rs k line is-due ∙ q))

@@ -1,29 +1,27 @@
 -- The commands of a desk that finishes: a look, and orders on the word of what is stored, which are accepted. Assumes nothing.
-use Prim.Native.Nat.{ℕ, _+_, _≤_, _<_, max}
+use Prim.Native.Nat.{ℕ, _+_, _≤_, _<_}
 use native.Mathlib.Omega.{arith}
-use mathlib.Core.Path.{_≡_, refl, sym, ap, _∙_, subst}
+use mathlib.Core.Path.{_≡_, refl, ap, _∙_}
 use mathlib.Core.List.{List, []}
-use mathlib.Core.Bool.{Bool, true, false, cond, not, _&&_, _||_, or-true, and-false}
-use borrow.Author.Tests.{eq-eqb, ne-eqb, lt-ltb, le-leb, le-ltb, not-true}
+use mathlib.Core.Bool.{Bool, true, false, cond, or-true, and-false}
+use borrow.Author.Tests.{eq-eqb, ne-eqb, lt-ltb, le-leb, le-ltb}
 use lib.ListN.{length, getD}
-use lib.Dec.{eqb, ltb, leb, lit<}
+use lib.Dec.{eqb, lit<}
 use Rattle.formats.specs.Format.{V1}
 use Rattle.lists.specs.Parts.{Bytes}
 use Rattle.lists.specs.Table.{all, allFrom}
 use Rattle.lists.proofs.Bytes.{Bytes-nil}
-use Rattle.lists.proofs.Tests.{never-both, not-in, or-none, all-out, from-T}
-use Rattle.stamps.specs.Stamp.{stamp, stampT, stampValid, shared, exclusive, noPair, noMark, markWhole, stale, tooFar, stampTooFar, mostAhead, FitsPair, FitsMark}
+use Rattle.lists.proofs.Tests.{or-none, all-out, from-T}
+use Rattle.stamps.specs.Stamp.{stamp, stampT, stampValid, shared, exclusive, noPair, noMark, markWhole, tooFar, mostAhead, FitsMark}
 use Rattle.stamps.proofs.Stamp.{stamp-valid}
-use Rattle.stamps.specs.declared.Pair.{Pair}
 use Rattle.stamps.specs.declared.Mark.{Mark}
 use Rattle.commands.specs.declared.Command.{Command}
-use Rattle.commands.specs.Command.{wellFormed, verifier, update, opensNone, FitsCommand}
-use Rattle.commands.specs.Bytes.{fieldsOf, payload, formed, commandBytes}
+use Rattle.commands.specs.Command.{wellFormed, verifier, update, FitsCommand}
+use Rattle.commands.specs.Bytes.{payload, formed, commandBytes}
 use Rattle.commands.proofs.CommandBytes.{fields-command, formed-command, payload-command, Bytes-command}
 use Rattle.guard.specs.Entry.{FitsEntry, entrySound, entryChecks}
 use Rattle.guard.specs.Judge.{wrongEdition, editionsSpent, replyShort}
 use Rattle.image.specs.Image.{Card, Cards, GoodCards, view}
-use Rattle.image.specs.Layout.{shapeOk}
 use Rattle.store_model.specs.Words.{Sent}
 use Rattle.store_model.specs.Claims.{SentBytes}
 use Rattle.store_model.proofs.Machine.{numberOn}

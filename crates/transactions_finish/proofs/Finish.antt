@@ -13,13 +13,13 @@ use Rattle.formats.specs.Format.{V1}
 use Rattle.lists.specs.Parts.{every}
 use Rattle.lists.proofs.Every.{every-in, every-out}
 use Rattle.lists.proofs.Tests.{cases, never-both, and-in, and-left, and-right, or-right, all-out, from-T}
+use Rattle.lists.specs.Runs.{foldl}
 use Rattle.stamps.specs.Stamp.{stampT}
 use Rattle.commands.specs.Command.{Language, isWrite}
 use Rattle.guard.specs.Judge.{lastEdition}
 use Rattle.image.specs.Layout.{mostCards, shapeOk}
-use Rattle.image.specs.Image.{Card, Cards, noCard, decode}
+use Rattle.image.specs.Image.{Card, noCard, decode}
 use Rattle.redo_log.specs.Log.{LogRecord, mostRecords, commitKind, syncedKind, recordCard, recordSide, recordText, recordTransaction, recordCount, startAt, records}
-use Rattle.redo_log.proofs.ReadBack.{length-records}
 use Rattle.redo_log_claims.specs.Cases.{syncedOf}
 use Rattle.redo_recovery_model.specs.Recovery.{recordIn, due}
 use Rattle.redo_recovery_model.proofs.Sending.{fits-log}
@@ -30,7 +30,6 @@ use Rattle.transactions.proofs.Serving.{at}
 use Rattle.transactions.proofs.Requests.{if-so}
 use Rattle.transactions.proofs.Claims.{kept-always, refines, meant-only-then}
 use Rattle.transactions_progress.specs.Progress.{originalsDue, editionBefore, canWrite}
-use Rattle.transaction_steps.specs.declared.LastSeen.{LastSeen}
 use Rattle.transaction_steps.specs.declared.ToldStep.{ToldStep}
 use Rattle.transaction_steps.specs.Steps.{noteStep, lastDue, nextStep}
 use Rattle.transaction_steps_claims.specs.Follower.{
@@ -53,10 +52,10 @@ use Rattle.transaction_steps_claims.proofs.Next.{clear-out}
 use Rattle.transaction_steps_claims.proofs.Ends.{more-lines, idle-at, idle-all, was-due, noted-done}
 use Rattle.transactions_finish.specs.Finish.{linesDue, cardsDue, lineLeft, stampsLeft, ownDoing, ownDoings, startsAgain, Finished, Finishes, CanAlwaysFinish}
 use Rattle.transactions_finish.proofs.Requests.{good-cards}
-use Rattle.transactions_finish.proofs.Walks.{cardsOf, Path, path-none, path-more, path-join, Moved, saw}
+use Rattle.transactions_finish.proofs.Walks.{cardsOf, Path, path-none, path-more, path-join, saw}
 use Rattle.transactions_finish.proofs.Cards.{Writable, Settled, CardDone, card-done}
 use Rattle.transactions_finish.proofs.Inside.{bare-always}
-use Rattle.transactions_finish.proofs.Notes.{last-fits, note-card, note-transaction, note-bytes, noteStores, noted, note-number, note-records, note-length, note-count, note-end}
+use Rattle.transactions_finish.proofs.Notes.{last-fits, note-card, note-transaction, note-bytes, noteStores, noted, note-records, note-length, note-count, note-end}
 
 -- ---- the desk's own steps leave what is meant
 
@@ -71,7 +70,7 @@ own-one d z (dropping k) o = absurd (never-both o refl)
 own-one d z falling o = absurd (never-both o refl)
 
 own-meant : (d : ℕ) (z : Follower) (doings : List Doing) → ownDoings doings ≡ true → afterDoings d z doings .desk .meant ≡ z .desk .meant
-unfolding ownDoings afterDoings
+unfolding ownDoings foldl
 own-meant d z [] o = refl
 own-meant d z (a ∷ doings) o =
     own-meant d (afterDoing d z a) doings (and-right (ownDoing a) (ownDoings doings) o) ∙ own-one d z a (and-left (ownDoing a) (ownDoings doings) o)
@@ -336,7 +335,8 @@ module _ (d : ℕ) (small : d < 65536) (start : Follower) (begun : Going d start
                   ));
             }
           where
-            go : (j : ℕ) → k ≤ j → j < many → (ltb k j ≡ true) ⊎ (ltb k j ≡ false) → writtenOut (more-lines now (q .going .kept .ordered) j r) j 0 (length (more-lines now (q .going .kept .ordered) j r)) ≡ true
+            go : (j : ℕ) → k ≤ j → j < many → (ltb k j ≡ true) ⊎ (ltb k j ≡ false)
+                → writtenOut (more-lines now (q .going .kept .ordered) j r) j 0 (length (more-lines now (q .going .kept .ordered) j r)) ≡ true
             go j a b (inl p) = idle-all now (q .going .kept .ordered) j r refl (q .done j (ltb-true k j p) b)
             go j a b (inr p) =
                 subst (λ (i : ℕ). writtenOut (more-lines now (q .going .kept .ordered) i r) i 0 (length (more-lines now (q .going .kept .ordered) i r)) ≡ true) (omega (arith, a, ltb-false k j p))

@@ -1,17 +1,18 @@
 -- Of a card that is not in the image nothing is due: a commit is made where its cards are held, and those are there. Assumes
 -- nothing.
-use Prim.Native.Nat.{ℕ, zero, suc, _≤_, _<_}
+use Prim.Native.Nat.{ℕ, zero, suc, _≤_}
 use native.Mathlib.Omega.{arith}
 use mathlib.Core.Path.{_≡_, refl, sym, ap, _∙_, subst}
 use mathlib.Core.Logic.{_⊎_, inl, inr}
 use mathlib.Core.List.{List, [], _∷_}
-use mathlib.Core.Bool.{Bool, true, false, _&&_}
+use mathlib.Core.Bool.{true, false}
 use borrow.Author.Tests.{eqb-true, ltb-true, leb-true}
 use lib.ListN.{length, getD, List·getD-eq-default}
-use lib.Dec.{eqb, ltb, leb}
+use lib.Dec.{eqb, leb}
 use Rattle.formats.specs.Format.{V1}
 use Rattle.lists.specs.Parts.{every}
 use Rattle.lists.proofs.Tests.{cases, and-left, and-right}
+use Rattle.lists.specs.Runs.{foldl, everyAlong}
 use Rattle.image.specs.Image.{Card, Cards, noCard, encode, decode}
 use Rattle.store_model.specs.Words.{Sent}
 use Rattle.store_model.specs.Claims.{SentBytes}
@@ -25,7 +26,27 @@ use Rattle.redo_recovery_model.specs.Claims.{rewrites}
 use Rattle.redo_recovery_model.proofs.Steps.{R}
 use Rattle.redo_recovery_model.proofs.Sending.{fits-log}
 use Rattle.redo_recovery_model.proofs.Texts.{decode-is}
-use Rattle.transactions.specs.System.{OneDesk, Order, Step, other, order, arrive, append, crash, recover, renew, noOrder, oneDeskOpening, isHeld, rewritable, lawful, outcome, afterStep, afterSteps, lawfulAll}
+use Rattle.transactions.specs.System.{
+  OneDesk,
+  Order,
+  Step,
+  other,
+  order,
+  arrive,
+  append,
+  crash,
+  recover,
+  renew,
+  noOrder,
+  oneDeskOpening,
+  isHeld,
+  rewritable,
+  lawful,
+  outcome,
+  afterStep,
+  afterSteps,
+  lawfulAll,
+}
 use Rattle.transactions.specs.Claims.{StepBytes, AllSteps, Moment}
 use Rattle.transactions.proofs.Records.{more}
 use Rattle.transactions.proofs.Due.{no-more, same-commit}
@@ -115,7 +136,7 @@ module _ (d : ℕ) (y : OneDesk) (w : Kept d y) (q : Bare y) where
   bare-next renew b h = bare-renew
 
 bare-run : (d : ℕ) (y : OneDesk) (steps : List Step) → Kept d y → Bare y → AllSteps steps → lawfulAll d y steps ≡ true → Bare (afterSteps d y steps)
-unfolding afterSteps lawfulAll
+unfolding foldl everyAlong
 bare-run d y [] w q b h = q
 bare-run d y (m ∷ steps) w q b h =
     let now = and-left (lawful d y m) (lawfulAll d (afterStep d y m) steps) h in

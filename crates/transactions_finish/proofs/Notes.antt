@@ -1,10 +1,10 @@
 -- A note in the log: that it is appended, what room it leaves, and what is due after it. Assumes nothing.
-use Prim.Native.Nat.{ℕ, zero, suc, _+_, _*_, _≤_, _<_}
+use Prim.Native.Nat.{ℕ, zero, suc, _+_, _≤_, _<_}
 use native.Mathlib.Omega.{arith}
 use mathlib.Core.Path.{_≡_, refl, sym, ap, _∙_, subst}
 use mathlib.Core.Logic.{_⊎_, inl, inr}
 use mathlib.Core.List.{List, [], _∷_, _++_}
-use mathlib.Core.Bool.{Bool, true, false, cond, not, _&&_, _||_}
+use mathlib.Core.Bool.{Bool, true, false, cond, not}
 use borrow.Author.Tests.{ne-eqb, le-ltb, ltb-true, ltb-false}
 use lib.ListN.{length}
 use lib.Dec.{eqb, ltb, lit<}
@@ -14,7 +14,25 @@ use Rattle.lists.proofs.Bytes.{Bytes-nil, Bytes-append}
 use Rattle.lists.proofs.Le.{le-toLe, le-part-bound, Bytes-toLe}
 use Rattle.lists.proofs.Parts.{length-part}
 use Rattle.lists.proofs.Tests.{cases, and-in, or-none}
-use Rattle.redo_log.specs.Log.{LogRecord, bodiesFrom, mostRecords, beginKind, syncedKind, recordCard, recordTransaction, shaped, follows, lastBegun, opened, startAt, lengthAt, recordAt, recordCount, goodLog, records}
+use Rattle.redo_log.specs.Log.{
+  LogRecord,
+  bodiesFrom,
+  mostRecords,
+  beginKind,
+  syncedKind,
+  recordCard,
+  recordTransaction,
+  shaped,
+  follows,
+  lastBegun,
+  opened,
+  startAt,
+  lengthAt,
+  recordAt,
+  recordCount,
+  goodLog,
+  records,
+}
 use Rattle.redo_log.specs.Append.{accepts, lacks, appendNumber, appended}
 use Rattle.redo_log.proofs.Records.{good-record, ok-inside}
 use Rattle.redo_log.proofs.ReadBack.{length-records, record-of}

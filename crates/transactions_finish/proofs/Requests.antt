@@ -2,20 +2,18 @@
 use Prim.Native.Nat.{ℕ, zero, suc}
 use mathlib.Core.Path.{_≡_, refl, sym, ap, _∙_, subst}
 use mathlib.Core.List.{List, [], _∷_}
-use mathlib.Core.Bool.{Bool, true, false, cond, not}
+use mathlib.Core.Bool.{Bool, true, false, not}
 use lib.ListN.{length}
 use lib.Dec.{eqb, ltb}
 use Rattle.formats.specs.Format.{V1}
 use Rattle.lists.specs.Table.{first, row}
-use Rattle.lists.specs.Parts.{Bytes}
-use Rattle.stamps.specs.declared.Pair.{Pair}
-use Rattle.stamps.specs.Stamp.{noPair, stale, tooFar, markFits}
+use Rattle.stamps.specs.Stamp.{stale, tooFar, markFits}
 use Rattle.commands.specs.declared.Command.{Command}
 use Rattle.commands.specs.Command.{verifier, update}
 use Rattle.commands.specs.Bytes.{formed, payload}
 use Rattle.guard.specs.declared.Answer.{Answer}
 use Rattle.guard.specs.declared.Entry.{Entry}
-use Rattle.guard.specs.Judge.{raise, wrongEdition, editionsSpent, replyShort}
+use Rattle.guard.specs.Judge.{wrongEdition, editionsSpent, replyShort}
 use Rattle.guard.specs.Replies.{blankReply, replied}
 use Rattle.image.specs.Image.{Card, Cards, GoodCards, encode, decode}
 use Rattle.image_claims.proofs.Claims.{goodEncodes}

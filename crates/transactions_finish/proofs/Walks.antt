@@ -1,22 +1,22 @@
 -- A desk that takes its own steps: a look, and an order that is accepted at once. Assumes nothing.
-use Prim.Native.Nat.{ℕ, zero, suc, _+_, _≤_, _<_, max}
+use Prim.Native.Nat.{ℕ, zero, suc, _+_, _<_, max}
 use native.Mathlib.Omega.{arith}
 use mathlib.Core.Path.{_≡_, refl, sym, ap, _∙_, subst}
-use mathlib.Core.Logic.{_⊎_, inl, inr}
 use mathlib.Core.List.{List, [], _∷_}
-use mathlib.Core.Bool.{Bool, true, false, cond, not, _&&_, _||_}
-use borrow.Author.Tests.{eqb-true, eqb-false, eq-eqb, ne-eqb, lt-ltb}
+use mathlib.Core.Bool.{Bool, true, false, cond, not, _&&_}
+use borrow.Author.Tests.{eqb-true, eq-eqb, ne-eqb, lt-ltb}
 use lib.ListN.{length, getD}
 use lib.Dec.{eqb, ltb}
 use Rattle.formats.specs.Format.{V1}
 use Rattle.lists.specs.Parts.{Bytes}
 use Rattle.lists.specs.Table.{settled}
 use Rattle.lists.proofs.Tests.{and-in, and-left, and-right, or-left, or-right, eqb-comm}
-use Rattle.stamps.specs.Stamp.{stampT, largerOfEach}
+use Rattle.lists.specs.Runs.{foldl, everyAlong}
+use Rattle.stamps.specs.Stamp.{stampT}
 use Rattle.stamps.specs.declared.Pair.{Pair}
 use Rattle.stamps.specs.declared.Mark.{Mark}
 use Rattle.commands.specs.declared.Command.{Command}
-use Rattle.commands.specs.Command.{original, isWrite, writes, verifier, update}
+use Rattle.commands.specs.Command.{original, isWrite, writes, update}
 use Rattle.commands.specs.Bytes.{formed, payload}
 use Rattle.guard.specs.declared.Answer.{Answer}
 use Rattle.guard.specs.Judge.{raise}
@@ -27,7 +27,7 @@ use Rattle.store_model.specs.Claims.{SentBytes}
 use Rattle.store_model.proofs.Machine.{numberOn}
 use Rattle.redo_log.specs.Log.{LogRecord, recordSide, recordText, records}
 use Rattle.redo_recovery_model.specs.Recovery.{recordIn}
-use Rattle.transactions.specs.System.{OneDesk, Shown, noShown, commandIn, markIn, sameBytes, prepares, writesOut, releases, opensAbove, outcome, afterStep, reachOf}
+use Rattle.transactions.specs.System.{Shown, noShown, commandIn, sameBytes, prepares, writesOut, releases, opensAbove, outcome, afterStep, reachOf}
 use Rattle.transactions.proofs.Serving.{at, then, taken, kept, stepped-here}
 use Rattle.transaction_steps.specs.declared.LastSeen.{LastSeen}
 use Rattle.transaction_steps.specs.declared.ToldStep.{ToldStep}
@@ -55,7 +55,27 @@ use Rattle.transaction_steps_claims.specs.Follower.{
 use Rattle.transaction_steps_claims.proofs.Follower.{Going, one}
 use Rattle.transactions_finish.specs.Finish.{ownDoing, ownDoings}
 use Rattle.transactions_finish.proofs.Requests.{shows-entry, good-cards, number-on, cards-on, pair-on, mark-on, others-then, count-then, room-then}
-use Rattle.transactions_finish.proofs.Commands.{sends, above, above-more, above-next, looking, look-formed, look-fields, look-bytes, Deed, releasing, writing, nextOf, orderOf, Fit, order-update, order-formed, order-fields, order-payload, order-bytes, order-taken}
+use Rattle.transactions_finish.proofs.Commands.{
+  sends,
+  above,
+  above-more,
+  looking,
+  look-formed,
+  look-fields,
+  look-bytes,
+  Deed,
+  releasing,
+  writing,
+  nextOf,
+  orderOf,
+  Fit,
+  order-update,
+  order-formed,
+  order-fields,
+  order-payload,
+  order-bytes,
+  order-taken,
+}
 
 abbrev pub cardsOf : Follower → Cards
 cardsOf z = decode V1 (z .desk .image)
@@ -70,16 +90,16 @@ pub record Path (d : ℕ) (z end : Follower) : Type 0 where
   pub led : afterDoings d z doings ≡ end
 
 pub path-none : (d : ℕ) (z : Follower) → Path d z z
-unfolding ownDoings allAsTold afterDoings
+unfolding ownDoings everyAlong foldl
 path-none d z = record { doings = []; bytes = tt; own = refl; told = refl; led = refl }
 
 pub path-more : (d : ℕ) (z end : Follower) (a : Doing) → DoingBytes a → ownDoing a ≡ true → asTold d z a ≡ true → Path d (afterDoing d z a) end → Path d z end
-unfolding ownDoings allAsTold afterDoings
+unfolding ownDoings everyAlong foldl
 path-more d z end a b o t p = record { doings = a ∷ p .doings; bytes = (b, p .bytes); own = and-in o (p .own); told = and-in t (p .told); led = p .led }
 
 path-onto : (d : ℕ) (z mid end : Follower) (doings : List Doing) → AllDoings doings → ownDoings doings ≡ true → allAsTold d z doings ≡ true → afterDoings d z doings ≡ mid
     → Path d mid end → Path d z end
-unfolding ownDoings allAsTold afterDoings
+unfolding ownDoings everyAlong foldl
 path-onto d z mid end [] b o t e p = subst (λ (w : Follower). Path d w end) (sym e) p
 path-onto d z mid end (a ∷ doings) b o t e p =
     path-more d z end a (b .0) (and-left (ownDoing a) (ownDoings doings) o) (and-left (asTold d z a) (allAsTold d (afterDoing d z a) doings) t)
@@ -155,7 +175,8 @@ module _ (d : ℕ) (small : d < 65536) (z : Follower) (g : Going d z) (k : ℕ) 
   apart = ne-eqb 0 d (λ e. some (sym e))
 
   look-told : asTold d z (incoming look true) ≡ true
-  look-told = or-right (not (formed V1 (look .command))) (subst (λ (c : Command). (not (eqb (c .expected .desk) d) && not (eqb (c .next .desk) d)) ≡ true) (sym (look-fields d k small some low)) (rw apart))
+  look-told = or-right (not (formed V1 (look .command)))
+      (subst (λ (c : Command). (not (eqb (c .expected .desk) d) && not (eqb (c .next .desk) d)) ≡ true) (sym (look-fields d k small some low)) (rw apart))
 
   look-own : ownDoing (incoming look true) ≡ true
   look-own = subst (λ (c : Command). not (isWrite c) ≡ true) (sym (look-fields d k small some low)) refl
@@ -270,12 +291,14 @@ carries d rs s k card (writing true) size line f m w =
     let out : writesOut d (commandIn s) ≡ true = subst (λ (c : Command). writesOut d c ≡ true) (sym f) (rw (eq-eqb (card .mark .desk) d m)) in
     let act : commandIn s .act ≡ 3 = ap (λ (c : Command). c .act) f in
     and-in (and-in (eq-eqb line line refl) out)
-    (and-in (eq-eqb (commandIn s .act) _ (act ∙ sym (ap (λ (b : Bool). cond b 3 4) (w .0)))) (subst (λ (l : List ℕ). sameBytes (payload V1 (s .command)) l ≡ true) (w .1) (same-refl (payload V1 (s .command)))))
+    (and-in (eq-eqb (commandIn s .act) _ (act ∙ sym (ap (λ (b : Bool). cond b 3 4) (w .0))))
+    (subst (λ (l : List ℕ). sameBytes (payload V1 (s .command)) l ≡ true) (w .1) (same-refl (payload V1 (s .command)))))
 carries d rs s k card (writing false) size line f m w =
     let out : writesOut d (commandIn s) ≡ true = subst (λ (c : Command). writesOut d c ≡ true) (sym f) (rw (eq-eqb (card .mark .desk) d m)) in
     let act : commandIn s .act ≡ 4 = ap (λ (c : Command). c .act) f in
     and-in (and-in (eq-eqb line line refl) out)
-    (and-in (eq-eqb (commandIn s .act) _ (act ∙ sym (ap (λ (b : Bool). cond b 3 4) (w .0)))) (subst (λ (l : List ℕ). sameBytes (payload V1 (s .command)) l ≡ true) (w .1) (same-refl (payload V1 (s .command)))))
+    (and-in (eq-eqb (commandIn s .act) _ (act ∙ sym (ap (λ (b : Bool). cond b 3 4) (w .0))))
+    (subst (λ (l : List ℕ). sameBytes (payload V1 (s .command)) l ≡ true) (w .1) (same-refl (payload V1 (s .command)))))
 
 -- What its answer tells.
 step-is : (d : ℕ) (s : Sent) (k : ℕ) (card : Card) (deed : Deed) (size line mark : ℕ) → (d ≡ 0 → ⊥) → commandIn s ≡ orderOf d k card deed size → card .mark .desk ≡ d

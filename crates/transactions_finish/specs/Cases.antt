@@ -15,7 +15,7 @@ use Rattle.redo_recovery_model.specs.Claims.{textIn}
 use Rattle.transactions.specs.System.{OneDesk, Step, oneDeskOpening, markIn, nothingDue, afterSteps}
 use Rattle.transactions.specs.Claims.{Moment}
 use Rattle.transactions_cases.specs.Cases.{text210, one, five, restarted, reading, writeOut, release, begins, preparesBoth, commits, writesOut0, releases0, overtaken}
-use Rattle.transaction_steps_claims.specs.Follower.{Follower, Doing, incoming, arriving, sending, logging, afterDoings, allAsTold}
+use Rattle.transaction_steps_claims.specs.Follower.{Doing, incoming, arriving, sending, logging, afterDoings, allAsTold}
 use Rattle.transactions_finish.specs.Finish.{roomToFinish, ownDoings, startsAgain}
 
 -- Card 0 is written out and released, and not noted; the desk goes down, and desk 1 writes the card.

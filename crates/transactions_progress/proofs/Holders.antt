@@ -6,6 +6,7 @@ use mathlib.Core.Bool.{Bool, true, cond, not, _&&_}
 use borrow.Author.Tests.{eqb-true, eq-eqb}
 use lib.Dec.{eqb}
 use Rattle.lists.proofs.Tests.{and-left, and-right}
+use Rattle.lists.specs.Runs.{foldl, everyAlong}
 use Rattle.transactions.specs.System.{OneDesk, Holding, unknown, Step, crash, lawful, afterStep, afterSteps, lawfulAll}
 use Rattle.transactions.specs.Claims.{AllSteps}
 use Rattle.transactions_progress.specs.Holders.{
@@ -71,7 +72,7 @@ rule-is d y (comes m) h = and-right (not (isAct m)) (lawful d (held-by y) m) h
 
 runs-as : (d : ℕ) (y : Holders) (actings : List Acting) → lawfulActings d y actings ≡ true
     → (lawfulAll d (held-by y) (stepsFor actings) ≡ true) × (afterSteps d (held-by y) (stepsFor actings) ≡ held-by (afterActings d y actings))
-unfolding lawfulActings afterActings lawfulAll afterSteps
+unfolding everyAlong foldl
 runs-as d y [] h = (refl, refl)
 runs-as d y (a ∷ actings) h =
     let now = and-left (lawfulActing d y a) (lawfulActings d (afterActing d y a) actings) h in

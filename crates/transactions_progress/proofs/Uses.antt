@@ -13,6 +13,7 @@ use Rattle.formats.specs.Format.{V1}
 use Rattle.lists.specs.Parts.{part, splice, tabulate, concatMap, every, zeros}
 use Rattle.lists.specs.Le.{le, toLe}
 use Rattle.lists.specs.Table.{all, allFrom}
+use Rattle.lists.specs.Runs.{foldl, everyAlong}
 use Rattle.commands.specs.Command.{original, wellFormed}
 use Rattle.commands.specs.Bytes.{fieldsOf, payload, formed, commandBytes}
 use Rattle.guard.specs.Entry.{entrySound}
@@ -29,17 +30,17 @@ use Rattle.redo_log_claims.specs.Claims.{appendedAll}
 use Rattle.redo_log_claims.specs.Cases.{beginOf, updateOf, emptyLog}
 use Rattle.redo_recovery_model.specs.Recovery.{Pairs, due, recovered}
 use Rattle.redo_recovery_model.specs.Claims.{textIn, rewritten}
-use Rattle.transactions.specs.System.{OneDesk, order, arrive, recover, withUpdates, afterStep, afterSteps, lawfulAll}
+use Rattle.transactions.specs.System.{OneDesk, order, arrive, recover, withUpdates, afterStep, afterSteps}
 use Rattle.transactions.specs.Claims.{Clean, Blank, Moment}
 use Rattle.transactions.proofs.Claims.{fresh-clean, zeros-blank}
 use Rattle.transactions_cases.specs.Cases.{atFirst, text190, one, five, writes1, prepare, logs, upToCommit}
 use Rattle.transactions_cases.proofs.Cases.{belowTest, bytes-tested, sentTest, pairsTest, pairs-tested, stepTest, step-tested, stepsTest, steps-tested}
 use Rattle.transactions_progress.specs.Progress.{originalsDue, canFinish, goodPairs}
-use Rattle.transactions_progress.specs.Holders.{seenAs, ActingBytes, holdersOpening, afterActings, lawfulActings}
+use Rattle.transactions_progress.specs.Holders.{seenAs, ActingBytes, holdersOpening}
 use Rattle.transactions_progress.specs.Cases.{loggedOnce, eachUnder, handedOver, afterHandover}
 use Rattle.transactions_progress.proofs.Claims.{recovery-taken, one-step-finishes}
 use Rattle.transactions_progress.proofs.Holders.{holders-are-one}
-use Rattle.transactions_progress.proofs.Cases.{handover-cases}
+use Rattle.transactions_progress.proofs.Cases.{progress-runs}
 
 shape-two : T (shapeOk V1 2 16)
 unfolding shapeOk all allFrom
@@ -109,7 +110,7 @@ abbrev after : OneDesk
 after = afterSteps 5 atFirst upToCommit
 
 committed : Moment 5 after
-unfolding lawfulAll afterSteps afterStep withUpdates rewritten due stored puts lineBytes stores appended shaped lastBegun opened follows total startAt
+unfolding everyAlong foldl afterStep withUpdates rewritten due stored puts lineBytes stores appended shaped lastBegun opened follows total startAt
     recordAt recordOk goodLog records serve serveBy stepped sound headerSound cardSound translationSound tailZero decode cardAt entryAt readEntry
     encode bodies pad entryBytes header shapeOk fresh replied raise entrySound commandBytes formed payload fieldsOf wellFormed all allFrom le toLe
     part splice tabulate concatMap every zeros
@@ -130,7 +131,7 @@ unfolding pairsTest belowTest
 finish-fits = refl
 
 finishes : textIn (afterStep 5 after (recover (eachUnder (five 3)) (length (records (after .log)))) .image) original 0 ≡ after .meant 0 original
-unfolding originalsDue lawfulAll afterSteps afterStep withUpdates rewritten due stored puts lineBytes stores appended shaped lastBegun opened follows total startAt
+unfolding originalsDue everyAlong foldl afterStep withUpdates rewritten due stored puts lineBytes stores appended shaped lastBegun opened follows total startAt
     recordAt recordOk goodLog records serve serveBy stepped sound headerSound cardSound translationSound tailZero decode cardAt entryAt readEntry
     encode bodies pad entryBytes header shapeOk fresh replied raise entrySound commandBytes formed payload fieldsOf wellFormed all allFrom le toLe
     part splice tabulate concatMap every zeros
@@ -149,8 +150,8 @@ handed-bytes = (
 )
 
 handed-moment : Moment 5 (seenAs (afterHandover .holder) afterHandover)
-handed-moment = holders-are-one 5 1 (fresh V1 2 16) (emptyLog 64) handedOver clean blank handed-bytes (handover-cases .rules)
+handed-moment = holders-are-one 5 1 (fresh V1 2 16) (emptyLog 64) handedOver clean blank handed-bytes (progress-runs .1 .rules)
 
 untouched : Moment 5 (seenAs 70000 (holdersOpening 70000 (fresh V1 2 16) (emptyLog 0)))
-unfolding lawfulActings afterActings
+unfolding everyAlong foldl
 untouched = holders-are-one 5 70000 (fresh V1 2 16) (emptyLog 0) [] clean shortest tt refl

@@ -92,3 +92,9 @@ pub record HandoverCases : Type 0 where
   pub minded : lawful 5 (seenAs 1 afterHandover) (logs (commitOf 1)) ≡ true
   pub former : lawfulActing 5 afterHandover (acts 1 (logs (commitOf 1))) ≡ false
   pub new : lawfulActing 5 afterHandover (acts 2 (logs (commitOf 1))) ≡ false
+
+-- ---- all of them
+
+-- One table: what can be written, and a log that is taken over.
+abbrev pub ProgressRuns : Type 0
+ProgressRuns = FinishCases × HandoverCases

@@ -7,7 +7,8 @@ use mathlib.Core.Path.{_≡_}
 use mathlib.Core.List.{List, [], _∷_}
 use mathlib.Core.Bool.{Bool, true, false, cond, not, _&&_}
 use lib.Dec.{eqb}
-use Rattle.transactions.specs.System.{OneDesk, Holding, unknown, Step, other, order, arrive, append, crash, recover, renew, oneDeskOpening, lawful, afterStep}
+use Rattle.lists.specs.Runs.{foldl, everyAlong}
+use Rattle.transactions.specs.System.{OneDesk, Holding, unknown, Step, byDoer, oneDeskOpening, lawful, withHolds, afterStep}
 use Rattle.transactions.specs.Claims.{StepBytes, Clean, Blank, Moment}
 
 -- ---- what there is
@@ -21,15 +22,7 @@ pub record Holders : Type 0 where
 
 -- The system of the desk, as one of them sees it.
 abbrev pub seenAs : ℕ → Holders → OneDesk
-seenAs who y =
-    record {
-      image = y .desk .image;
-      log = y .desk .log;
-      meant = y .desk .meant;
-      orders = y .desk .orders;
-      shown = y .desk .shown;
-      holds = y .minds who;
-    }
+seenAs who y = withHolds (y .minds who) (y .desk)
 
 -- ---- what can happen
 
@@ -41,14 +34,9 @@ pub data Acting : Type 0 where
   -- an order arrives, or somebody else's request
   comes : (m : Step) → Acting
 
+-- Rule 16.23: what somebody does for the desk, and the post does not.
 abbrev pub isAct : Step → Bool
-isAct (other s) = false
-isAct (order s line from) = true
-isAct (arrive i) = false
-isAct (append budget r) = true
-isAct crash = true
-isAct (recover pairs lines) = true
-isAct renew = true
+isAct m = byDoer false false true m
 
 -- Rule 16.23: only the holder acts, by the rules of the desk and by its own mind.
 abbrev pub lawfulActing : ℕ → Holders → Acting → Bool
@@ -77,13 +65,11 @@ afterActing d y (comes m) =
       minds = λ e. afterStep d (seenAs e y) m .holds;
     }
 
-unfoldable pub afterActings : ℕ → Holders → List Acting → Holders
-afterActings d y [] = y
-afterActings d y (a ∷ actings) = afterActings d (afterActing d y a) actings
+abbrev pub afterActings : ℕ → Holders → List Acting → Holders
+afterActings d y actings = foldl (afterActing d) y actings
 
-unfoldable pub lawfulActings : ℕ → Holders → List Acting → Bool
-lawfulActings d y [] = true
-lawfulActings d y (a ∷ actings) = lawfulActing d y a && lawfulActings d (afterActing d y a) actings
+abbrev pub lawfulActings : ℕ → Holders → List Acting → Bool
+lawfulActings d y actings = everyAlong (lawfulActing d) (afterActing d) y actings
 
 -- ---- what is claimed
 

@@ -11,6 +11,8 @@ use Rattle.lists.specs.Parts.{every}
 use Rattle.formats.specs.Format.{Format, V1}
 use Rattle.lists.specs.Table.{settled}
 use Rattle.lists.proofs.Tests.{never-both, and-left, and-right, and-in, or-right}
+use Rattle.lists.specs.Runs.{foldl, everyAlong}
+use Rattle.lists.proofs.Runs.{foldl-append}
 use Rattle.stamps.specs.Stamp.{exclusive}
 use Rattle.stamps.specs.declared.Pair.{Pair}
 use Rattle.commands.specs.Command.{verifier, update}
@@ -64,7 +66,7 @@ use Rattle.transactions.specs.Desks.{
   Desks,
   DeskStep,
   outside,
-  own,
+  byDesk,
   ownStep,
   seenBy,
   desksOpening,
@@ -104,16 +106,11 @@ fit-none (learn who card pair) e = tt
 fit-none (appendTo desk budget r) e = absurd (never-both refl (sym e))
 fit-none (renewLog desk) e = absurd (never-both refl (sym e))
 
-systemAfter-both : (y : System) (a b : List Move) → systemAfter y (a ++ b) ≡ systemAfter (systemAfter y a) b
-unfolding systemAfter
-systemAfter-both y [] b = refl
-systemAfter-both y (m ∷ a) b = systemAfter-both (stepTo y m) a b
-
 -- ---- the store among the desks is of version 1, with these bytes
 
 record Has (image : List ℕ) (y : System) : Type 0 where
-  version : y .version ≡ V1
-  bytes : y .image ≡ image
+  version : y .store .version ≡ V1
+  bytes : y .store .image ≡ image
 
 has-send : (image : List ℕ) (y : System) (s : Sent) → Has image y → Has (serve V1 image (s .command) (s .lent) .image) (stepTo y (send s))
 unfolding stepTo
@@ -121,12 +118,12 @@ has-send image y s h =
     record {
       version = h .version;
       bytes =
-          ap (λ (v : Format). serve v (y .image) (s .command) (s .lent) .image) (h .version)
+          ap (λ (v : Format). serve v (y .store .image) (s .command) (s .lent) .image) (h .version)
           ∙ ap (λ (i : List ℕ). serve V1 i (s .command) (s .lent) .image) (h .bytes);
     }
 
 has-each : (l : List Sent) (image : List ℕ) (y : System) → Has image y → Has (imageAfter V1 image (reverse l)) (systemAfter y (sendEach l))
-unfolding systemAfter imageAfter
+unfolding foldl imageAfter
 has-each [] image y h = h
 has-each (s ∷ l) image y h =
     subst (λ (i : List ℕ). Has i (systemAfter (stepTo y (send s)) (sendEach l)))
@@ -172,7 +169,7 @@ module _ (ruled : ℕ → Bool) (z : Desks) (j : Joint ruled z) where
       all-at (λ (o : Order). Safe d (traceOf d) (cardFor o) (at (decode V1 (z .image)) (cardFor o)) o) (z .part d .orders) i noOrder
       (ltb-true i (length (z .part d .orders)) h) (j .side d r .sent) .bytes
 
-  fit-own : (d : ℕ) (m : Step) → ruled d ≡ true → StepBytes m → lawful d (seenBy d z) m ≡ true → AllFit (movesOf z (own d m))
+  fit-own : (d : ℕ) (m : Step) → ruled d ≡ true → StepBytes m → lawful d (seenBy d z) m ≡ true → AllFit (movesOf z (byDesk d m))
   fit-own d (other s) r b h = tt
   fit-own d (order s line from) r b h = tt
   fit-own d (arrive i) r b h = (order-bytes d i r h, tt)
@@ -185,12 +182,12 @@ module _ (ruled : ℕ → Bool) (z : Desks) (j : Joint ruled z) where
 
   fit-step : (m : DeskStep) → DeskStepBytes m → lawfulDeskStep ruled z m ≡ true → AllFit (movesOf z m)
   fit-step (outside s) b h = (b, tt)
-  fit-step (own d m) b h =
+  fit-step (byDesk d m) b h =
       let two = and-left (ruled d && ownStep m) (lawful d (seenBy d z) m) h in
       fit-own d m (and-left (ruled d) (ownStep m) two) b (and-right (ruled d && ownStep m) (lawful d (seenBy d z) m) h)
 
-  has-own : (y : System) (d : ℕ) (m : Step) → ownStep m ≡ true → Has (z .image) y → Has (afterDeskStep z (own d m) .image) (systemAfter y (movesOf z (own d m)))
-  unfolding systemAfter afterDeskStep afterStep
+  has-own : (y : System) (d : ℕ) (m : Step) → ownStep m ≡ true → Has (z .image) y → Has (afterDeskStep z (byDesk d m) .image) (systemAfter y (movesOf z (byDesk d m)))
+  unfolding foldl afterDeskStep afterStep
   has-own y d (other s) e h = absurd (never-both refl (sym e))
   has-own y d (order s line from) e h = h
   has-own y d (arrive i) e h = has-send (z .image) y (getD (z .part d .orders) i noOrder .sent) h
@@ -204,9 +201,9 @@ module _ (ruled : ℕ → Bool) (z : Desks) (j : Joint ruled z) where
       (has-each (reverse sent) (z .image) y h)
 
   has-step : (y : System) (m : DeskStep) → lawfulDeskStep ruled z m ≡ true → Has (z .image) y → Has (afterDeskStep z m .image) (systemAfter y (movesOf z m))
-  unfolding systemAfter afterDeskStep afterStep
+  unfolding foldl afterDeskStep afterStep
   has-step y (outside s) h w = has-send (z .image) y s w
-  has-step y (own d m) h w = has-own y d m (and-right (ruled d) (ownStep m) (and-left (ruled d && ownStep m) (lawful d (seenBy d z) m) h)) w
+  has-step y (byDesk d m) h w = has-own y d m (and-right (ruled d) (ownStep m) (and-left (ruled d && ownStep m) (lawful d (seenBy d z) m) h)) w
 
 -- ---- a run
 
@@ -216,7 +213,7 @@ record Runs (z : Desks) (deals : List Deal) (y : System) : Type 0 where
 
 runs : (ruled : ℕ → Bool) (z : Desks) (deals : List Deal) (y : System) → Joint ruled z → AllDeskSteps (stepsIn deals) → lawfulDeskSteps ruled z (stepsIn deals) ≡ true → sendsAlong deals ≡ true
     → Has (z .image) y → Runs z deals y
-unfolding movesIn stepsIn sendsAlong lawfulDeskSteps afterDeskSteps systemAfter
+unfolding movesIn stepsIn sendsAlong everyAlong foldl
 runs ruled z [] y j b h e w = record { fits = tt; has = w }
 runs ruled z (beside m ∷ deals) y j b h e w =
     let now = and-left (sendsNone m) (sendsAlong deals) e in
@@ -230,7 +227,7 @@ runs ruled z (along m ∷ deals) y j b h e w =
     record {
       fits = fit-both (movesOf z m) (movesIn (afterDeskStep z m) deals) (fit-step ruled z j m (b .0) now) (rest .fits);
       has =
-          subst (Has (afterDeskSteps (afterDeskStep z m) (stepsIn deals) .image)) (sym (systemAfter-both y (movesOf z m) (movesIn (afterDeskStep z m) deals))) (rest .has);
+          subst (Has (afterDeskSteps (afterDeskStep z m) (stepsIn deals) .image)) (sym (foldl-append stepTo y (movesOf z m) (movesIn (afterDeskStep z m) deals))) (rest .has);
     }
 
 pub both-are-one : BothAreOne
@@ -275,14 +272,14 @@ module _ (y : System) (who card : ℕ) (pair : Pair) (s : Sent) (p : Proposes y 
   unfolding stepTo learnt
   knows-now = rw (eq-eqb who who refl, eq-eqb card card refl)
 
-  made-now : Among new (stepTo knew (propose who card exclusive) .made)
+  made-now : Among new (stepTo knew (propose who card exclusive) .desks .made)
   unfolding stepTo
   made-now = subst (λ (k : Known). Among new
       (settled (proposed k exclusive .number)
       (withMade (record { card = card; mode = exclusive; pair = proposed k exclusive .pair })
-      (nowKnows who card (proposed k exclusive .known .pair) knew)) knew .made)) (sym knows-now)
-      (subst (λ (n : ℕ). Among new (settled n (withMade new (nowKnows who card (proposed known exclusive .known .pair) knew)) knew .made))
-      (sym (p .number)) (among-here new (knew .made)))
+      (nowKnows who card (proposed k exclusive .known .pair) knew)) knew .desks .made)) (sym knows-now)
+      (subst (λ (n : ℕ). Among new (settled n (withMade new (nowKnows who card (proposed known exclusive .known .pair) knew)) knew .desks .made))
+      (sym (p .number)) (among-here new (knew .desks .made)))
 
   is-made-by : (made : List Made) → Among new made → isMade made (commandIn s .card) (commandIn s .mode) (update (commandIn s)) ≡ true
   is-made-by made a =
@@ -297,7 +294,7 @@ module _ (y : System) (who card : ℕ) (pair : Pair) (s : Sent) (p : Proposes y 
       same-self q = and-in (eq-eqb (q .s) (q .s) refl) (eq-eqb (q .x) (q .x) refl)
 
   may-order : MayOrder y who card pair s
-  unfolding systemAfter
+  unfolding foldl
   may-order =
       record {
         ordered = λ v e x.
@@ -305,9 +302,9 @@ module _ (y : System) (who card : ℕ) (pair : Pair) (s : Sent) (p : Proposes y 
             and-in (and-in (eq-eqb (v .card) (commandIn s .card) (e ∙ sym (p .card-is))) (eq-eqb (verifier (commandIn s) .x) (v .x) (p .relies ∙ sym x)))
             (lt-ltb (v .x) (update (commandIn s) .x) (subst (λ (q : Pair). v .x < q .x) (sym (p .opens)) (subst (λ (n : ℕ). n < proposed known exclusive .pair .x) (sym x) up)));
         arrives = λ later version.
-            subst (λ (v : Format). sendsMade v (systemAfter (stepTo knew (propose who card exclusive)) later .made) s ≡ true) (sym version)
+            subst (λ (v : Format). sendsMade v (systemAfter (stepTo knew (propose who card exclusive)) later .desks .made) s ≡ true) (sym version)
             (or-right (not (formed V1 (s .command)))
-            (is-made-by (systemAfter (stepTo knew (propose who card exclusive)) later .made)
+            (is-made-by (systemAfter (stepTo knew (propose who card exclusive)) later .desks .made)
             (made-run (stepTo knew (propose who card exclusive)) later new made-now)));
       }
 

@@ -12,6 +12,7 @@ use Rattle.formats.specs.Format.{V1}
 use Rattle.lists.specs.Parts.{part}
 use Rattle.lists.specs.Le.{le, toLe}
 use Rattle.lists.specs.Table.{all, allFrom}
+use Rattle.lists.specs.Runs.{foldl, everyAlong}
 use Rattle.stamps.specs.Stamp.{stamp, exclusive, noMark}
 use Rattle.commands.specs.Command.{original}
 use Rattle.commands.specs.Bytes.{fieldsOf, commandBytes}
@@ -22,11 +23,11 @@ use Rattle.store_model.specs.Cases.{pair}
 use Rattle.redo_log_claims.specs.Cases.{emptyLog}
 use Rattle.redo_recovery_model.specs.Claims.{textIn}
 use Rattle.desk_proposals.specs.Propose.{learnt, nextT, pairFor, proposed}
-use Rattle.desk_system.specs.System.{System, propose, learn, send, opening, allowed, stepTo, systemAfter, byRules}
+use Rattle.desk_system.specs.System.{System, propose, learn, send, opening, allowed, stepTo, systemAfter}
 use Rattle.desk_system.specs.Claims.{ByRules, finally}
 use Rattle.desk_system_cases.specs.Trials.{twoPlaces}
 use Rattle.transactions.specs.System.{commandIn, opensAbove, markIn}
-use Rattle.transactions.specs.Desks.{Desks, desksOpening, afterDeskSteps, lawfulDeskSteps, DesksMoment}
+use Rattle.transactions.specs.Desks.{Desks, desksOpening, afterDeskSteps, DesksMoment}
 use Rattle.transactions.proofs.Claims.{zeros-blank}
 use Rattle.transactions_cases.specs.Cases.{command, ours}
 use Rattle.transactions_system.specs.Together.{movesIn, stepsIn, sendsAlong, ByBoth, OneRun, Proposes, MayOrder}
@@ -45,7 +46,7 @@ dealtEnd = afterDeskSteps (desksOpening (fresh V1 1 16) logs) (stepsIn dealt)
 one-run : OneRun 1 16 twoPlaces fiveRuled logs dealt
 one-run = both-are-one 1 16 twoPlaces fiveRuled logs dealt (dealt-by-both .rules)
 
-dealt-store : finally V1 1 16 twoPlaces logs (movesIn (desksOpening (fresh V1 1 16) logs) dealt) .image ≡ dealtEnd .image
+dealt-store : finally V1 1 16 twoPlaces logs (movesIn (desksOpening (fresh V1 1 16) logs) dealt) .store .image ≡ dealtEnd .image
 dealt-store = one-run .store
 
 dealt-rules : ByRules V1 1 16 twoPlaces logs (movesIn (desksOpening (fresh V1 1 16) logs) dealt)
@@ -55,7 +56,7 @@ dealt-moment : DesksMoment fiveRuled dealtEnd
 dealt-moment = one-run .moment
 
 -- Of a card that is not there, too.
-dealt-premised : premise 9 (commandsIn (finally V1 1 16 twoPlaces logs (movesIn (desksOpening (fresh V1 1 16) logs) dealt) .log)) ≡ true
+dealt-premised : premise 9 (commandsIn (finally V1 1 16 twoPlaces logs (movesIn (desksOpening (fresh V1 1 16) logs) dealt) .store .trace)) ≡ true
 dealt-premised = one-run .premised 9
 
 dealt-refines : fiveRuled (markIn (dealtEnd .image) 0 .desk) ≡ false → textIn (dealtEnd .image) original 0 ≡ dealtEnd .meant 0 original
@@ -71,7 +72,7 @@ unfolding shapeOk all allFrom
 shape-one = tt
 
 idle : ByBoth 1 16 twoPlaces nobody (λ d. emptyLog 0) []
-unfolding movesIn stepsIn sendsAlong byRules lawfulDeskSteps
+unfolding movesIn stepsIn sendsAlong everyAlong
 idle = record { shape = shape-one; nobody = refl; blank = λ d. zeros-blank 2201 (omega arith) (omega arith); bytes = tt; sends = refl; moves = refl; steps = refl }
 
 idle-moment : DesksMoment nobody (afterDeskSteps (desksOpening (fresh V1 1 16) (λ d. emptyLog 0)) (stepsIn []))
@@ -99,5 +100,5 @@ ordered7 : opensAbove (commandIn prepares7) (record { card = 7; x = 0; reach = 3
 ordered7 = may-order .ordered (record { card = 7; x = 0; reach = 3 }) refl refl
 
 arrives7 : allowed (systemAfter start (learn last 7 (pair 0 0) ∷ propose last 7 exclusive ∷ [])) (send prepares7) ≡ true
-unfolding systemAfter stepTo proposed pairFor nextT learnt
+unfolding foldl stepTo proposed pairFor nextT learnt
 arrives7 = may-order .arrives [] refl

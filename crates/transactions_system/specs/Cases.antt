@@ -16,7 +16,7 @@ use Rattle.redo_recovery_model.specs.Claims.{textIn}
 use Rattle.desk_system.specs.System.{begin, propose, learn}
 use Rattle.desk_system_cases.specs.Trials.{twoPlaces}
 use Rattle.transactions.specs.System.{order, arrive, recover, markIn}
-use Rattle.transactions.specs.Desks.{outside, own, desksOpening, afterDeskSteps}
+use Rattle.transactions.specs.Desks.{outside, byDesk, desksOpening, afterDeskSteps}
 use Rattle.transactions_cases.specs.Cases.{text190, one, five, command, prepare, release, logs, bothUnder}
 use Rattle.transactions_system.specs.Together.{Deal, beside, along, stepsIn, ByBoth}
 
@@ -31,19 +31,19 @@ dealt =
     ∷ beside (propose (one 0) 0 exclusive)
     ∷ along (outside (command 3 0 0 (one 0) noMark noMark text190 []))
     ∷ beside (begin (five 0))
-    ∷ along (own 5 (logs (beginOf 1)))
-    ∷ along (own 5 (logs (updateOf 0 1 text205)))
+    ∷ along (byDesk 5 (logs (beginOf 1)))
+    ∷ along (byDesk 5 (logs (updateOf 0 1 text205)))
     ∷ beside (learn (five 0) 0 (pair 0 (one 0)))
     ∷ beside (propose (five 0) 0 exclusive)
-    ∷ along (own 5 (order (prepare 0 (one 0) (five 0)) 0 0))
-    ∷ along (own 5 (arrive 0))
-    ∷ along (own 5 (logs (commitOf 1)))
+    ∷ along (byDesk 5 (order (prepare 0 (one 0) (five 0)) 0 0))
+    ∷ along (byDesk 5 (arrive 0))
+    ∷ along (byDesk 5 (logs (commitOf 1)))
     ∷ beside (propose (five 0) 0 exclusive)
-    ∷ along (own 5 (recover (bothUnder (five 1)) 3))
+    ∷ along (byDesk 5 (recover (bothUnder (five 1)) 3))
     ∷ beside (propose (five 0) 0 exclusive)
-    ∷ along (own 5 (order (release 0 (five 1) (five 2)) 0 0))
-    ∷ along (own 5 (arrive 0))
-    ∷ along (own 5 (logs (syncedOf 0 1)))
+    ∷ along (byDesk 5 (order (release 0 (five 1) (five 2)) 0 0))
+    ∷ along (byDesk 5 (arrive 0))
+    ∷ along (byDesk 5 (logs (syncedOf 0 1)))
     ∷ []
 
 pub record Dealt : Type 0 where

@@ -22,7 +22,7 @@ use Rattle.desk_system.specs.System.{System, Move, begin, propose, atQueue, los
 use Rattle.desk_system.specs.Claims.{ByRules, finally}
 use Rattle.transactions.specs.System.{Shown, other, order, arrive, append, crash, recover, renew, noOrder, commandIn, opensAbove}
 use Rattle.transactions.specs.Claims.{Blank}
-use Rattle.transactions.specs.Desks.{Desks, DeskStep, outside, own, desksOpening, afterDeskStep, afterDeskSteps, lawfulDeskSteps, AllDeskSteps, DesksMoment, DesksRefine}
+use Rattle.transactions.specs.Desks.{Desks, DeskStep, outside, byDesk, desksOpening, afterDeskStep, afterDeskSteps, lawfulDeskSteps, AllDeskSteps, DesksMoment, DesksRefine}
 
 -- ---- one run
 
@@ -40,13 +40,13 @@ sendEach = map send
 
 abbrev pub movesOf : Desks → DeskStep → List Move
 movesOf z (outside s) = send s ∷ []
-movesOf z (own d (other s)) = []
-movesOf z (own d (order s line from)) = []
-movesOf z (own d (arrive i)) = send (getD (z .part d .orders) i noOrder .sent) ∷ []
-movesOf z (own d (append budget r)) = []
-movesOf z (own d crash) = []
-movesOf z (own d renew) = []
-movesOf z (own d (recover pairs lines)) = sendEach (reverse (recovering pairs (records (z .part d .log)) (z .image) lines .sent))
+movesOf z (byDesk d (other s)) = []
+movesOf z (byDesk d (order s line from)) = []
+movesOf z (byDesk d (arrive i)) = send (getD (z .part d .orders) i noOrder .sent) ∷ []
+movesOf z (byDesk d (append budget r)) = []
+movesOf z (byDesk d crash) = []
+movesOf z (byDesk d renew) = []
+movesOf z (byDesk d (recover pairs lines)) = sendEach (reverse (recovering pairs (records (z .part d .log)) (z .image) lines .sent))
 
 -- The run as moves of section 10, and as steps of section 16.
 unfoldable pub movesIn : Desks → List Deal → List Move
@@ -94,11 +94,11 @@ pub record ByBoth (n c : ℕ) (places : ℕ → ℕ → List Waiting) (ruled : �
 -- demand 3's premise is kept, and a commit is one step.
 pub record OneRun (n c : ℕ) (places : ℕ → ℕ → List Waiting) (ruled : ℕ → Bool) (logs : ℕ → List ℕ) (deals : List Deal) : Type 0 where
   pub store :
-      finally V1 n c places logs (movesIn (desksOpening (fresh V1 n c) logs) deals) .image
+      finally V1 n c places logs (movesIn (desksOpening (fresh V1 n c) logs) deals) .store .image
       ≡ afterDeskSteps (desksOpening (fresh V1 n c) logs) (stepsIn deals) .image
   pub conduct : ByRules V1 n c places logs (movesIn (desksOpening (fresh V1 n c) logs) deals)
   pub moment : DesksMoment ruled (afterDeskSteps (desksOpening (fresh V1 n c) logs) (stepsIn deals))
-  pub premised : (k : ℕ) → premise k (commandsIn (finally V1 n c places logs (movesIn (desksOpening (fresh V1 n c) logs) deals) .log)) ≡ true
+  pub premised : (k : ℕ) → premise k (commandsIn (finally V1 n c places logs (movesIn (desksOpening (fresh V1 n c) logs) deals) .store .trace)) ≡ true
   pub refines : DesksRefine ruled (afterDeskSteps (desksOpening (fresh V1 n c) logs) (stepsIn deals))
 
 abbrev pub BothAreOne : Type 0
@@ -123,7 +123,7 @@ pub record Proposes (y : System) (who card : ℕ) (pair : Pair) (s : Sent) : Typ
 pub record MayOrder (y : System) (who card : ℕ) (pair : Pair) (s : Sent) : Type 0 where
   pub ordered : (v : Shown) → v .card ≡ card → v .x ≡ pair .x → opensAbove (commandIn s) v ≡ true
   pub arrives :
-      (later : List Move) → systemAfter y (learn who card pair ∷ propose who card exclusive ∷ later) .version ≡ V1
+      (later : List Move) → systemAfter y (learn who card pair ∷ propose who card exclusive ∷ later) .store .version ≡ V1
       → allowed (systemAfter y (learn who card pair ∷ propose who card exclusive ∷ later)) (send s) ≡ true
 
 abbrev pub ProposalsOrder : Type 0

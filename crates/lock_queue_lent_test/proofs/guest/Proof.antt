@@ -3,6 +3,7 @@ use mathlib.Core.Path.{sym, ap}
 use Prim.Native.Nat.{ℕ}
 use native.Mathlib.Nat.{add-zero}
 use Rattle.stamps.specs.Stamp.{shared}
+use Rattle.lock_queue.specs.Queue.{waiting}
 use borrow.Author.Needs.{needs}
 use Rattle.lock_queue_lent_test.proofs.guest.Statement.{statement}
 use Rattle.lock_queue_lent_test.proofs.guest.Tie as tie
@@ -17,7 +18,7 @@ add-t6 : tie.Need-add-t6
 add-t6 c = search needs
 
 returns : tie.Need-returns
-returns c = ap (λ (s : ℕ). record { mode = shared; pair = record { s = s; x = 0 } }) (sym (add-zero _))
+returns c = ap (λ (s : ℕ). waiting shared s 0) (sym (add-zero _))
 
 pub guest-spec : {M : Type 1} → statement M
 guest-spec = tie.close (tie.spec mul-t3 mul-t5 add-t6 returns)

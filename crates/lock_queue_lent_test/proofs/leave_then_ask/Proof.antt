@@ -78,7 +78,7 @@ use denote.Triple.Clauses.{ensured, lasts}
 use Rattle.lock_queue.specs.Queue.{State, mostPlaces}
 use Rattle.lock_queue.specs.Requests.{Request, asks, leaves, answer, after}
 use Rattle.lock_queue.specs.declared.Waiting.{Waiting}
-use Rattle.lock_queue_lent.specs.Slice.{held}
+use Rattle.lock_queue_lent.specs.Slice.{lentState}
 use Rattle.lock_queue_lent.specs.declared.Kept.{Kept}
 use Rattle.lock_queue_lent.specs.declared.LentOutcome.{LentOutcome}
 use Rattle.lock_queue_lent_test.specs.declared.Turn.{Turn}
@@ -139,7 +139,7 @@ sval b ys = sliceVal (b, 0) (length ys)
 
 -- what a call says of its reply and of the list at exit
 abbrev Came : Request → List Waiting → Kept → LentOutcome → List Waiting → Type 0
-Came r ys k y zs = (y .answer ≡ answer (length ys) (held ys k) r) × (held zs (y .kept) ≡ after (length ys) (held ys k) r)
+Came r ys k y zs = (y .answer ≡ answer (length ys) (lentState ys k) r) × (lentState zs (y .kept) ≡ after (length ys) (lentState ys k) r)
 
 module _ {M : Type 1} (𝓤 : URA M) (H : Heap 𝓤) (A : Atoms 𝓤) (mem : Memory → SProp 𝓤) (run : Routine → Fun 𝓤) where
   -- the contracts that the proof cites
@@ -198,10 +198,10 @@ module _ {M : Type 1} (𝓤 : URA M) (H : Heap 𝓤) (A : Atoms 𝓤) (W : Given
 
   -- both answers, of 32 places
   came : (y z : LentOutcome) (zs us : List Waiting) → length zs ≡ mostPlaces → Came (leaves d) ys k y zs → Came (asks x) zs (y .kept) z us →
-      (y .answer ≡ answer mostPlaces (held ys k) (leaves d)) × (z .answer ≡ answer mostPlaces (after mostPlaces (held ys k) (leaves d)) (asks x))
+      (y .answer ≡ answer mostPlaces (lentState ys k) (leaves d)) × (z .answer ≡ answer mostPlaces (after mostPlaces (lentState ys k) (leaves d)) (asks x))
   came y z zs us l e f = (
-    e .0 ∙ ap (λ (m : ℕ). answer m (held ys k) (leaves d)) long,
-    f .0 ∙ ap (λ (m : ℕ). answer m (held zs (y .kept)) (asks x)) l ∙ ap (λ (q : State). answer mostPlaces q (asks x)) (e .1 ∙ ap (λ (m : ℕ). after m (held ys k) (leaves d)) long),
+    e .0 ∙ ap (λ (m : ℕ). answer m (lentState ys k) (leaves d)) long,
+    f .0 ∙ ap (λ (m : ℕ). answer m (lentState zs (y .kept)) (asks x)) l ∙ ap (λ (q : State). answer mostPlaces q (asks x)) (e .1 ∙ ap (λ (m : ℕ). after m (lentState ys k) (leaves d)) long),
   )
 
   exits : (y z : LentOutcome) (zs us : List Waiting) → length zs ≡ mostPlaces → Came (leaves d) ys k y zs → Came (asks x) zs

@@ -4,7 +4,7 @@ use Prim.Native.Nat.{ℕ, _+_, _*_}
 use borrow.Author.Tests.{eq-eqb}
 use Rattle.lists.specs.Parts.{tabulate}
 use Rattle.lists.specs.Table.{all, allFrom}
-use Rattle.lock_queue.specs.Queue.{mostPlaces, stands}
+use Rattle.lock_queue.specs.Queue.{mostPlaces, waiting, stands}
 use Rattle.lock_queue.specs.Good.{distinct, good}
 use Rattle.lock_queue.specs.Requests.{joined, removed, without, upgrading, queueJoined, asks, leaves, number, after}
 use Rattle.lock_queue_claims.specs.Trials.{guest, crowded}
@@ -27,7 +27,7 @@ unfolding number upgrading queueJoined after good all allFrom distinct stands jo
 afresh = refl
 
 -- or denied, where it is exclusive and its s too small
-denied : both 458752 (record { mode = 2; pair = record { s = 4297195520; x = 4297195520 } }) ≡ 11
+denied : both 458752 (waiting 2 4297195520 4297195520) ≡ 11
 unfolding number upgrading queueJoined after good all allFrom distinct stands joined without removed tabulate
 denied = refl
 

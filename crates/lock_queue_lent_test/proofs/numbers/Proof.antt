@@ -7,7 +7,7 @@ use Rattle.lock_queue.specs.Requests.{asks, leaves, answered, number, answer, a
 use Rattle.lock_queue_claims.specs.Trials.{guest, crowded}
 use Rattle.lock_queue.specs.declared.LockAnswer.{LockAnswer}
 use Rattle.lock_queue.specs.declared.Waiting.{Waiting}
-use Rattle.lock_queue_lent.specs.Slice.{held}
+use Rattle.lock_queue_lent.specs.Slice.{lentState}
 use Rattle.lock_queue_lent.specs.declared.Kept.{Kept}
 use Rattle.lock_queue_lent_test.specs.declared.Turn.{Turn}
 use borrow.Author.Needs.{needs}
@@ -19,13 +19,13 @@ abbrev keeps : Waiting → Kept
 keeps w = record { count = mostPlaces; largest = record { s = w .pair .s; x = 0 } }
 
 came : (t : Turn) (places : List Waiting) (last : Waiting) (d : ℕ) (new : Waiting) → places ≡ crowded .places → last ≡ guest mostPlaces →
-    (t .left .answer ≡ answer mostPlaces (held places (keeps last)) (leaves d)) × (t .asked .answer ≡ answer mostPlaces (after mostPlaces (held places (keeps last)) (leaves d)) (asks new)) →
+    (t .left .answer ≡ answer mostPlaces (lentState places (keeps last)) (leaves d)) × (t .asked .answer ≡ answer mostPlaces (after mostPlaces (lentState places (keeps last)) (leaves d)) (asks new)) →
     t .left .answer .number * 100 + t .asked .answer .number ≡ number mostPlaces crowded (leaves d) * 100 + number mostPlaces (after mostPlaces crowded (leaves d)) (asks new)
 unfolding answer answered
 came t places last d new e f said = λ i. left i * 100 + asked i
   where
-    same : held places (keeps last) ≡ crowded
-    same = λ i. held (e i) (keeps (f i))
+    same : lentState places (keeps last) ≡ crowded
+    same = λ i. lentState (e i) (keeps (f i))
 
     left : t .left .answer .number ≡ number mostPlaces crowded (leaves d)
     left = ap (λ (a : LockAnswer). a .number) (said .0) ∙ ap (λ (q : State). number mostPlaces q (leaves d)) same

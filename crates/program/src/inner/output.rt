@@ -14,7 +14,8 @@ pub const MOST_INPUT: usize = 65536;
 // The lines of the stream behind an image of `size` bytes with this room: as `put_printed`, on a copy of the image and a reply buffer of zeros.
 pub fn answers(input: &[u8], size: usize, room: usize, out: &mut [u8], at: usize) -> usize
     requires { ⌜ Ready (now input) size room (now out) at ⌝ }
-    ensures { λ r. ⌜ Put at (mostPrinted (drop size (now (input .entry)))) (printed (take size (now (input .entry))) (replicate room 0) (drop size (now (input .entry)))) (now (out .entry)) (now (out .exit)) r ⌝ }
+    ensures { λ r. ⌜ Put at (mostPrinted (drop size (now (input .entry))))
+        (printed (take size (now (input .entry))) (replicate room 0) (drop size (now (input .entry)))) (now (out .entry)) (now (out .exit)) r ⌝ }
 {
     let mut image = [0u8; image::MOST_BYTES];
     let mut reply = [0u8; image::MOST_ROOM];

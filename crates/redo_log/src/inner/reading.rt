@@ -88,7 +88,8 @@ pub fn may_join(kind: u8, body: &[u8], last: u32, running: bool) -> bool
 
 // Whether record i keeps the rules.
 fn record_ok(log: &[u8], i: usize, stop: usize, last: u32, running: bool) -> bool
-    requires { ⌜ (i < 200) × (2201 ≤ length (now log)) × (length (now log) ≤ 65536) × (stop ≡ startAt (now log) i) × (stop ≤ length (now log)) × (last ≡ lastBegun (recordAt (now log)) i) × (running ≡ opened (recordAt (now log)) i) ⌝ }
+    requires { ⌜ (i < 200) × (2201 ≤ length (now log)) × (length (now log) ≤ 65536) × (stop ≡ startAt (now log) i)
+        × (stop ≤ length (now log)) × (last ≡ lastBegun (recordAt (now log)) i) × (running ≡ opened (recordAt (now log)) i) ⌝ }
     ensures { λ r. ⌜ r ≡ recordOk (now (log .entry)) i ⌝ }
 {
     let at = TABLE + LINE * i;

@@ -29,7 +29,8 @@ pub fn carry(
     text: &[u8],
     reply: &mut [u8],
 ) -> Answer
-    requires { ⌜ (sound (formatOf v) (now image) ≡ true) × (c .card < countOf (now image)) × (c .language < translations (formatOf v)) × (length (now text) ≡ c .length) × (wellFormed c ≡ true) × (new ≡ update c) ⌝ }
+    requires { ⌜ (sound (formatOf v) (now image) ≡ true) × (c .card < countOf (now image)) × (c .language < translations (formatOf v))
+        × (length (now text) ≡ c .length) × (wellFormed c ≡ true) × (new ≡ update c) ⌝ }
     ensures answer { λ r. ⌜ r ≡ carried (formatOf v) (now (image .entry)) c (now (text .entry)) (now (reply .entry)) .answer ⌝ }
     ensures image { λ _. ⌜ now (image .exit) ≡ carried (formatOf v) (now (image .entry)) c (now (text .entry)) (now (reply .entry)) .image ⌝ }
     ensures reply { λ _. ⌜ now (reply .exit) ≡ carried (formatOf v) (now (image .entry)) c (now (text .entry)) (now (reply .entry)) .reply ⌝ }

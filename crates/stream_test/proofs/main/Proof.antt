@@ -8,7 +8,7 @@ use lib.ListN.{set, replicate}
 use Rattle.lists.specs.Le.{le}
 use Rattle.lists.specs.Parts.{part}
 use Rattle.formats.specs.Format.{V1}
-use Rattle.stream.specs.Stream.{extent, whole, nextAt, onward, endWithin, endOf}
+use Rattle.stream.specs.Stream.{whole, nextAt, onward, endWithin, endOf}
 use Rattle.stream_test.proofs.main.Statement.{statement}
 use Rattle.stream_test.proofs.main.Tie as tie
 
@@ -16,19 +16,19 @@ abbrev bytes : List ℕ
 bytes = set (replicate 120 0) 50 3
 
 first : onward 0 (nextAt V1 bytes 0) ≡ 55
-unfolding le part extent whole nextAt
+unfolding le part whole nextAt
 first = refl
 
 second : onward 55 (nextAt V1 bytes 55) ≡ 107
-unfolding le part extent whole nextAt
+unfolding le part whole nextAt
 second = refl
 
 none : onward 107 (nextAt V1 bytes 107) ≡ 107
-unfolding le part extent whole nextAt
+unfolding le part whole nextAt
 none = refl
 
 end : endOf V1 bytes ≡ 107
-unfolding le part extent whole endWithin endOf
+unfolding le part whole endWithin endOf
 end = refl
 
 array-write-bytes : tie.Need-array-write-bytes

@@ -89,7 +89,8 @@ returns-5 c =
     (and-left (goodLog (start .args .log .now)) _ good) (survey .survey-of .ensures) in
     c .plain3 .ensures
     ∙ step-release (start .args .log .now) (start .args .desk) (start .args .card) (start .args .going) (start .args .seen) good (scan .scan-of .result)
-    (survey .survey-of .result) found (not-false _ (survey .before .if2 .left)) (c .before .before .before .before .before .before .if3 .left) (c .before .before .before .if4 .left) (eq-eqb _ _ (c .before .if5 .taken))
+    (survey .survey-of .result) found (not-false _ (survey .before .if2 .left)) (c .before .before .before .before .before .before .if3 .left)
+    (c .before .before .before .if4 .left) (eq-eqb _ _ (c .before .if5 .taken))
 
 plain-requires-4 : tie.Need-plain-requires-4
 plain-requires-4 c κs = search needs
@@ -105,7 +106,8 @@ returns-6 c =
     (and-left (goodLog (start .args .log .now)) _ good) (survey .survey-of .ensures) in
     c .plain4 .ensures
     ∙ step-nothing (start .args .log .now) (start .args .desk) (start .args .card) (start .args .going) (start .args .seen) good (scan .scan-of .result)
-    (survey .survey-of .result) found (not-false _ (survey .before .if2 .left)) (c .before .before .before .before .before .before .if3 .left) (c .before .before .before .if4 .left) (ne-eqb _ _ (c .before .if5 .left))
+    (survey .survey-of .result) found (not-false _ (survey .before .if2 .left))
+    (c .before .before .before .before .before .before .if3 .left) (c .before .before .before .if4 .left) (ne-eqb _ _ (c .before .if5 .left))
 
 pub next-step-spec : {M : Type 1} → statement M
 next-step-spec =

@@ -1,6 +1,6 @@
 -- Loaded, asked, written. Assumes nothing.
+use Rattle.lock_queue.specs.Queue.{waiting}
 use Rattle.lock_queue.specs.Requests.{asks}
-use Rattle.lock_queue_lent.specs.Arrays.{waiting}
 use Rattle.exports_desks.proofs.Exits.{exits}
 use borrow.Author.Needs.{needs}
 use Rattle.exports_desks.proofs.queues.lupaniele_ask.Statement.{statement}

@@ -1,7 +1,6 @@
 -- By the kind of the record, and by the card in its body. Assumes nothing.
 use native.Mathlib.Omega.{arith}
 use mathlib.Core.Path.{sym, _∙_}
-use Rattle.redo_log.specs.Log.{recordAt}
 use Rattle.redo_log.proofs.Records.{update-body}
 use Rattle.transaction_steps.proofs.Laws.{not-update, update-is}
 use borrow.Author.Needs.{needs}

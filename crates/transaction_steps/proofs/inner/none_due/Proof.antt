@@ -2,7 +2,7 @@
 use native.Mathlib.Omega.{arith}
 use Prim.Native.Nat.{ℕ, _-_, _≤_, _<_}
 use mathlib.Core.Path.{_≡_, sym, ap, _∙_, subst}
-use mathlib.Core.Bool.{Bool, true, not}
+use mathlib.Core.Bool.{true, not}
 use Rattle.lists.specs.Parts.{every}
 use Rattle.lists.proofs.Every.{every-none, every-more, every-fail}
 use Rattle.redo_log.specs.Log.{recordCount, recordAt, lastBegun, records}
@@ -61,7 +61,8 @@ loop-again : tie.Need-loop-again Inv-loop μ-loop
 loop-again c =
     let at4 = c .before .before .before .before in
     let start = at4 .before .before .before in
-    (omega arith, c .last-at .ensures, every-more (λ j. not (due (records (start .args .log .now)) j)) (at4 .loop .i) (at4 .loop .inv .2) (ap not (sym (c .before .before .is-due .ensures) ∙ c .before .if1 .left)))
+    let last = ap not (sym (c .before .before .is-due .ensures) ∙ c .before .if1 .left) in
+    (omega arith, c .last-at .ensures, every-more (λ j. not (due (records (start .args .log .now)) j)) (at4 .loop .i) (at4 .loop .inv .2) last)
 
 returns-2 : tie.Need-returns-2 Inv-loop μ-loop
 returns-2 c =

@@ -1,7 +1,7 @@
 -- The loop: what the first lines say. The measure is how many are left. Assumes nothing.
 use native.Mathlib.Omega.{arith}
 use Prim.Native.Nat.{ℕ, _-_, _≤_, _<_}
-use mathlib.Core.Path.{_≡_, sym, ap, _∙_, subst}
+use mathlib.Core.Path.{_≡_, ap, _∙_, subst}
 use Rattle.redo_log.specs.Log.{recordCount, recordAt, lastBegun, records}
 use Rattle.redo_log.proofs.Records.{good-out}
 use Rattle.transaction_steps.specs.inner.Surveyed.{surveyed}

@@ -1,5 +1,4 @@
 -- Its parts one after the other. Assumes nothing.
-use native.Mathlib.Omega.{arith}
 use Rattle.image.specs.inner.Write.{entryWith}
 use borrow.Author.Needs.{needs}
 use Rattle.image.proofs.inner.write.store_entry.Statement.{statement}

@@ -114,7 +114,8 @@ returns c =
     let at4 = c .before .before .before .before in
     let at11 = at4 .before .before .before .before .before .before .before in
     let at16 = at11 .before .before .before .before .before in
-    running-done (at16 .loop .inv .0) (running-stops (at16 .loop .inv .0) (at16 .loop .line) (at16 .loop .inv .2) (at11 .many .ensures .0) (at4 .if1 .taken)) (search needs) (c .before .before .put-last .ensures)
+    running-done (at16 .loop .inv .0) (running-stops (at16 .loop .inv .0) (at16 .loop .line) (at16 .loop .inv .2) (at11 .many .ensures .0) (at4 .if1 .taken))
+    (search needs) (c .before .before .put-last .ensures)
 
 pub put-printed-spec : {M : Type 1} → statement M
 put-printed-spec =
