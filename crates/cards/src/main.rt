@@ -1,4 +1,6 @@
 // The program: an image and a stream of commands from standard input, an answer to each on standard output.
+#![tactic(auto)]
+
 ghost use Rattle.std.specs.Prelude.{◌≡◌};
 ghost use Rattle.program.specs.Program.{output_of};
 

@@ -1,4 +1,6 @@
 // A command: its numbers, its rules, and its bytes.
+#![tactic(auto)]
+
 pub mod inner;
 
 ghost use Rattle.std.specs.Prelude.{◌≡◌, cond, ◌+◌, ◌≤◌, length};
@@ -15,7 +17,7 @@ use stamps::{EXCLUSIVE, Mark, Pair, mark_whole, session_ok, stamp_valid};
 
 // The numbers of a command. Its payload stands behind the fixed part in the lent bytes. `opened` is what was sent as the
 // update pair, zeros where that is the verifier too. `language` is the translation that is read or written.
-#[derive(Drop)]
+#[derive(Clone, Copy)]
 pub struct Command {
     pub act: u8,
     pub mode: u8,
@@ -161,14 +163,14 @@ impl Command {
 // ---- A command in bytes.
 
 // Lent bytes as a command.
-#[derive(Drop)]
+#[derive(Clone, Copy)]
 pub enum Parsed {
     Malformed,
     Formed(Command),
 }
 
 // Lent bytes as a command, of which the update pair is told.
-#[derive(Drop)]
+#[derive(Clone, Copy)]
 pub enum Opened {
     Malformed,
     By(Pair),

@@ -1,4 +1,6 @@
 // What a desk knows of one card, and the pairs that it proposes for it (docs/RULES.md, section 10).
+#![tactic(auto)]
+
 pub mod inner;
 
 ghost use Rattle.std.specs.Prelude.{◌≡◌};
@@ -8,7 +10,7 @@ use numbers::ACCEPTED;
 use stamps::{NO_PAIR, Pair, larger_of_each};
 
 // What a desk knows of one card: its own desk and start, and the largest s and x that it has heard of there.
-#[derive(Drop)]
+#[derive(Clone, Copy)]
 pub struct Known {
     pub desk: u16,
     pub start: u16,
@@ -16,7 +18,7 @@ pub struct Known {
 }
 
 // A proposal's number, its pair (zeros with a refusal), and what the desk knows then.
-#[derive(Drop)]
+#[derive(Clone, Copy)]
 pub struct Proposed {
     pub number: u8,
     pub pair: Pair,

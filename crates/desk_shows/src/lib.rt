@@ -1,10 +1,12 @@
 // The text that a desk shows: a part of one of the two buffers that it lends, the one of the language asked for.
+#![tactic(auto)]
+
 ghost use Rattle.std.specs.Prelude.{◌≡◌, ◌≤◌, length, take};
 ghost use Rattle.lists.specs.Table.{first, settled};
 ghost use Rattle.desk_shows.specs.Show.{held_text, of, behind_asked, show_rows, shown_number, shown_part};
 
 // The languages that can be asked for.
-#[derive(Drop)]
+#[derive(Clone, Copy)]
 pub enum Asked {
     Original,
     Translation,

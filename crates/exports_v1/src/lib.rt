@@ -1,5 +1,7 @@
 // The library for Rust and C, with images and commands of version 1: each function is exported under its plain name, takes any input, and answers what the libraries answer.
 // A slice is a pointer and a length, a reference to a number or to an array a pointer.
+#![tactic(auto)]
+
 pub mod images;
 pub mod outputs;
 pub mod streams;

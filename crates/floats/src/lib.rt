@@ -1,1 +1,2 @@
 // Numbers of f64, as definitions: no function.
+#![tactic(auto)]

@@ -1,4 +1,6 @@
 // The versions of images and of commands.
+#![tactic(auto)]
+
 pub mod inner;
 
 // A version in code: whether it is the second. It is a plain value, since the compiler lends an enum to a call and sees only plain values through calls;

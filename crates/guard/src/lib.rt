@@ -1,4 +1,6 @@
 // The guard of one card: an entry that judges a command, and what is answered, a number and the seven reply fields.
+#![tactic(auto)]
+
 pub mod entries;
 pub mod inner;
 
@@ -20,7 +22,7 @@ pub fn behind(edition: u16, from: u16) -> bool
 
 // What the store keeps of one card beside its texts (Minuet: a guard's state for a shared resource): the largest pair accepted, the
 // commit mark, the edition of the original, the edition that the translation was made from, and the lengths of the two texts.
-#[derive(Drop)]
+#[derive(Clone, Copy)]
 pub struct Entry {
     pub pair: Pair,
     pub mark: Mark,
@@ -41,7 +43,7 @@ pub const NO_ENTRY: Entry = Entry {
 };
 
 // The number that an entry gives, and the entry as it now is.
-#[derive(Drop)]
+#[derive(Clone, Copy)]
 pub struct Judged {
     pub number: u8,
     pub entry: Entry,
@@ -50,7 +52,7 @@ pub struct Judged {
 // ---- What is answered: a number and the seven reply fields.
 
 // A number and the seven reply fields.
-#[derive(Drop)]
+#[derive(Clone, Copy)]
 pub struct Answer {
     pub number: u8,
     pub pair: Pair,

@@ -1,4 +1,6 @@
 // The history engine: it keeps the accepted commands as bytes, end to end, and finds each answer in them; there is no image.
+#![tactic(auto)]
+
 pub mod inner;
 
 ghost use Rattle.std.specs.Prelude.{◌≡◌};
@@ -17,7 +19,7 @@ pub const MOST_PAYLOAD: usize = 32768;
 pub const SIZE: usize = 43168;
 
 // What a request is answered, and how many of the lent bytes are used after it.
-#[derive(Drop)]
+#[derive(Clone, Copy)]
 pub struct HistoryAnswer {
     pub answer: Answer,
     pub used: usize,

@@ -1,4 +1,6 @@
 // The image: the bytes of a store's cards. When bytes are a sound image, and a fresh one.
+#![tactic(auto)]
+
 pub mod inner;
 
 ghost use Rattle.std.specs.Prelude.{◌≡◌, length};
@@ -47,7 +49,7 @@ pub fn sound(v: Version, image: &[u8]) -> bool
 // ---- The image in front of some bytes, of version 1.
 
 // The size of an image, how many cards it has, and the room that each of its texts has.
-#[derive(Drop)]
+#[derive(Clone, Copy)]
 pub struct Dimensions {
     pub size: usize,
     pub cards: u16,

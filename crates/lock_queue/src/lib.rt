@@ -1,4 +1,6 @@
 // The lock queue of one card: desks ask for the lock and leave, or are taken out when they fell silent; each answer says whether the desk holds it.
+#![tactic(auto)]
+
 pub mod inner;
 mod judge;
 mod leases;
@@ -15,7 +17,7 @@ use stamps::{NO_PAIR, Pair};
 pub const MOST_PLACES: usize = 32;
 
 // An entry that waits for the lock: 1 shared or 2 exclusive, and the pair that its desk proposed.
-#[derive(Drop)]
+#[derive(Clone, Copy)]
 pub struct Waiting {
     pub mode: u8,
     pub pair: Pair,
@@ -28,13 +30,13 @@ pub const NO_WAITING: Waiting = Waiting {
 };
 
 // The places of a queue by value. How many of them are lent is told apart.
-#[derive(Drop)]
+#[derive(Clone, Copy)]
 pub struct Places {
     pub at: [Waiting; MOST_PLACES],
 }
 
 // A queue: its places, of which the first `count` are taken, and the largest stamps, s and x, that were accepted in it so far.
-#[derive(Drop)]
+#[derive(Clone, Copy)]
 pub struct Queue {
     pub places: Places,
     pub count: usize,
@@ -42,7 +44,7 @@ pub struct Queue {
 }
 
 // The number, whether the desk holds the lock, the largest pair, and how many entries were looked at.
-#[derive(Drop)]
+#[derive(Clone, Copy)]
 pub struct LockAnswer {
     pub number: u8,
     pub holds: bool,
@@ -51,21 +53,21 @@ pub struct LockAnswer {
 }
 
 // An answer, and the queue as it now is.
-#[derive(Drop)]
+#[derive(Clone, Copy)]
 pub struct LockOutcome {
     pub answer: LockAnswer,
     pub queue: Queue,
 }
 
 // A lease term: its period, in seconds, and by how much two clocks may drift apart in one second.
-#[derive(Drop)]
+#[derive(Clone, Copy)]
 pub struct Lease {
     pub period: f64,
     pub drift: f64,
 }
 
 // A desk and start that is held failed since the time `begin`, its lease term, and the time now.
-#[derive(Drop)]
+#[derive(Clone, Copy)]
 pub struct LeaseExpiry {
     pub desk: u32,
     pub lease: Lease,

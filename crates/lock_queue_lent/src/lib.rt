@@ -1,4 +1,6 @@
 // The lock queue of one card in lent memory, as a slice of waiting entries or (in `inner`) as arrays of numbers: it is loaded, judged by value, and stored back.
+#![tactic(auto)]
+
 pub mod inner;
 mod lent;
 
@@ -14,14 +16,14 @@ use stamps::Pair;
 // ---- Between lent places and places by value: a lent slice of waiting entries is loaded, and the queue as it then is stored back.
 
 // What a queue keeps beside its places: how many of them are taken, and the largest stamps, s and x, that were accepted in it so far.
-#[derive(Drop)]
+#[derive(Clone, Copy)]
 pub struct Kept {
     pub count: usize,
     pub largest: Pair,
 }
 
 // An answer, and what the queue now keeps.
-#[derive(Drop)]
+#[derive(Clone, Copy)]
 pub struct LentOutcome {
     pub answer: LockAnswer,
     pub kept: Kept,

@@ -1,4 +1,6 @@
 // The queue over lent places, by trial n: 32 stand in 32 places, one leaves, and the next ask is judged afresh.
+#![tactic(auto)]
+
 ghost use Rattle.std.specs.Prelude.{◌≡◌, ◌*◌, ◌+◌};
 ghost use Rattle.lock_queue.specs.Queue.{most_places};
 ghost use Rattle.lock_queue.specs.Requests.{asks, leaves, number, answer, after};
@@ -10,7 +12,7 @@ use lock_queue_lent::{Kept, LentOutcome};
 use stamps::Pair;
 
 // What a leave and then an ask came to.
-#[derive(Drop)]
+#[derive(Clone, Copy)]
 struct Turn {
     left: LentOutcome,
     asked: LentOutcome,

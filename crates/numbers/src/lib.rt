@@ -1,4 +1,5 @@
 // The numbers that the store answers with, each named once: the names of crates/numbers/specs/Numbers.
+#![tactic(auto)]
 
 // Accepted.
 pub const ACCEPTED: u8 = 0;

@@ -1,4 +1,6 @@
 // The program's whole output for an input, as bytes in a lent buffer.
+#![tactic(auto)]
+
 pub mod inner;
 
 ghost use Rattle.std.specs.Prelude.{◌≡◌, length};

@@ -1,4 +1,6 @@
 // A desk's redo log, in lent bytes: whether it is good, its records, and an append that may be cut after any store of one byte.
+#![tactic(auto)]
+
 pub mod inner;
 
 ghost use Rattle.std.specs.Prelude.{◌≡◌};

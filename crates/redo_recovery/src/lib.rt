@@ -1,4 +1,6 @@
 // Recovery from a desk's redo log: each update that is due is sent through the guard, as a request by itself.
+#![tactic(auto)]
+
 pub mod inner;
 
 ghost use Rattle.std.specs.Prelude.{◌≡◌};
@@ -6,7 +8,7 @@ ghost use Rattle.redo_recovery_model.specs.Recovery.{recovered};
 ghost use Rattle.redo_recovery.specs.Recover.{pairs_of, recovery_answer};
 
 // A number, and the line of the record whose write was refused; line 0 where none was.
-#[derive(Drop)]
+#[derive(Clone, Copy)]
 pub struct Recovered {
     pub number: u8,
     pub line: u8,

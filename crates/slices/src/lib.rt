@@ -1,4 +1,6 @@
 // Little-endian numbers in byte slices, of any byte count and of the fixed widths, and the loops over parts of byte slices that the layers above share.
+#![tactic(auto)]
+
 pub mod inner;
 
 ghost use Rattle.std.specs.Prelude.{◌≡◌};

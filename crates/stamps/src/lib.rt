@@ -1,10 +1,12 @@
 // Stamps, pairs of stamps and commit marks: what a session is named by, when a pair is stale or too far ahead, and what the stored pair becomes.
+#![tactic(auto)]
+
 ghost use Rattle.std.specs.Prelude.{◌≡◌, max};
 ghost use Rattle.lists.specs.Table.{all};
 ghost use Rattle.stamps.specs.Stamp.{stamp_valid, own, desk_of, session_checks, stale, stamp_too_far, too_far, larger_of_each, mark_whole, mark_fits};
 
 // Two stamps, s for shared and x for exclusive (Minuet: a session identifier). Zero means none.
-#[derive(Drop)]
+#[derive(Clone, Copy)]
 pub struct Pair {
     pub s: u64,
     pub x: u64,
@@ -14,7 +16,7 @@ pub struct Pair {
 pub const NO_PAIR: Pair = Pair { s: 0, x: 0 };
 
 // A commit mark (Minuet: a commit session identifier). Both zero means none.
-#[derive(Drop)]
+#[derive(Clone, Copy)]
 pub struct Mark {
     pub desk: u16,
     pub transaction: u32,

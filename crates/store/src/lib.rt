@@ -1,4 +1,6 @@
 // The store: one request on an image, and a run of a stream.
+#![tactic(auto)]
+
 pub mod inner;
 
 ghost use Rattle.std.specs.Prelude.{◌∷◌};
@@ -32,7 +34,7 @@ pub fn answer(
 // ---- A run: the commands of a stream judged one after another on one image.
 
 // How many commands a run judged, and the byte of the stream where it stopped.
-#[derive(Drop)]
+#[derive(Clone, Copy)]
 pub struct Ran {
     pub count: usize,
     pub end: usize,

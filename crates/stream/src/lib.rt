@@ -1,4 +1,6 @@
 // A stream: commands end to end, and a reader of it, which has the lent stream and a place in it.
+#![tactic(auto)]
+
 ghost use Rattle.std.specs.Prelude.{◌≡◌};
 ghost use Rattle.formats.specs.Format.{format_of};
 ghost use Rattle.stream.specs.Stream.{next_at, onward, end_of, begun, passed};
@@ -10,7 +12,7 @@ use slices::inner::fixed_width::read_u16;
 // ---- A stream: commands end to end.
 
 // What stands at a place of a stream: a whole command, and the place behind it; or none that is whole.
-#[derive(Drop)]
+#[derive(Clone, Copy)]
 pub enum Next {
     Whole(usize),
     Cut,
@@ -48,7 +50,7 @@ pub fn next_from(v: Version, stream: &[u8], at: usize) -> usize
 // ---- A reader of version 1 commands: the lent stream, and a place in it.
 
 // A reader: the lent stream, and the place that it has come to.
-#[derive(Drop)]
+#[derive(Clone, Copy)]
 pub struct Reader<'a> {
     pub stream: &'a [u8],
     pub at: usize,

@@ -1,4 +1,6 @@
 // The reader's step and the walk on one stream: a command with three bytes of payload, one with none, and thirteen bytes more.
+#![tactic(auto)]
+
 fn main() {
     let mut bytes = [0u8; 120];
     bytes[50] = 3;

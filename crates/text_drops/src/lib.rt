@@ -1,11 +1,13 @@
 // A drop, the temperature at which a drum is emptied, in Celsius or Fahrenheit, and whether two drops are near enough to be the same.
+#![tactic(auto)]
+
 pub mod inner;
 
 ghost use Rattle.std.specs.Prelude.{◌≡◌};
 ghost use Rattle.text_drops.specs.Drop.{in_fahrenheit, near};
 
 // A drop in degrees of its own scale.
-#[derive(Drop)]
+#[derive(Clone, Copy)]
 pub enum Drop {
     Celsius(f64),
     Fahrenheit(f64),

@@ -1,4 +1,6 @@
 // Structured texts: whether bytes are one, and whether two texts say the same drops.
+#![tactic(auto)]
+
 pub mod inner;
 
 ghost use Rattle.std.specs.Prelude.{◌≡◌, true, ◌↔◌};
@@ -12,7 +14,7 @@ use inner::walk::Walk;
 pub const DEEPEST: usize = 8;
 
 // Two texts agree; the first is ill formed; the second is; or the place in the first where they differ.
-#[derive(Drop)]
+#[derive(Clone, Copy)]
 pub enum Agreement {
     Agree,
     FirstIll,

@@ -1,1 +1,2 @@
 // What is claimed of structured texts, and worked cases: no function.
+#![tactic(auto)]

@@ -15,7 +15,7 @@ use slices::inner::fixed_width as le;
 
 // What the log says of a card: whether something is due; the first line that is due and not below the reach, or 200; the transaction of the last line
 // that is due; and whether the transaction begun last changes the card.
-#[derive(Drop)]
+#[derive(Clone, Copy)]
 pub struct Survey {
     pub due: bool,
     pub line: u16,

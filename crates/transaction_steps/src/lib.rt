@@ -1,4 +1,6 @@
 // The next step of a transaction for a card, from a desk's log and from what it has last seen of the card (docs/RULES.md, rules 16.24 to 16.28).
+#![tactic(auto)]
+
 pub mod inner;
 
 ghost use Rattle.std.specs.Prelude.{◌≡◌};
@@ -29,7 +31,7 @@ pub const BAD: u8 = 8;
 
 // What a desk has seen of a card: whether the command that it last sent for the card was answered; whether that was a prepare that was accepted; the
 // desk in the mark that the answer shows; and how many lines of the log are written out.
-#[derive(Drop)]
+#[derive(Clone, Copy)]
 pub struct LastSeen {
     pub known: bool,
     pub held: bool,
@@ -38,7 +40,7 @@ pub struct LastSeen {
 }
 
 // A step; the line of the log that is to be written, and the transaction that is to be noted as synced. Both are 0 with other steps.
-#[derive(Drop)]
+#[derive(Clone, Copy)]
 pub struct ToldStep {
     pub step: u8,
     pub line: u8,

@@ -14,7 +14,7 @@ use guard::Entry;
 use stream::Next;
 
 // Of some bytes: how many commands they hold, how many payload bytes these have in all, and the byte where they end.
-#[derive(Drop)]
+#[derive(Clone, Copy)]
 pub struct Totals {
     pub count: usize,
     pub payloads: usize,
@@ -22,7 +22,7 @@ pub struct Totals {
 }
 
 // A part of some bytes.
-#[derive(Drop)]
+#[derive(Clone, Copy)]
 pub struct Span {
     pub start: usize,
     pub end: usize,

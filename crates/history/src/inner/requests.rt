@@ -15,7 +15,7 @@ use guard::Judged;
 use numbers::{ACCEPTED, HISTORY_FULL};
 
 // What an entry says of a command, and the byte where the kept commands end.
-#[derive(Drop)]
+#[derive(Clone, Copy)]
 pub struct Weighed {
     pub judged: Judged,
     pub end: usize,

@@ -25,7 +25,7 @@ pub fn places_of(modes: &[u8; 32], s: &[u64; 32], x: &[u64; 32]) -> Places
 }
 
 // The places as three arrays.
-#[derive(Drop)]
+#[derive(Clone, Copy)]
 pub struct Columns {
     pub modes: [u8; 32],
     pub s: [u64; 32],

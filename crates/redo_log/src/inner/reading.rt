@@ -15,7 +15,7 @@ pub const COMMIT: u8 = 3;
 pub const SYNCED: u8 = 4;
 
 // What a scan of a log finds.
-#[derive(Drop)]
+#[derive(Clone, Copy)]
 pub struct Scan {
     pub good: bool,
     pub stop: usize,

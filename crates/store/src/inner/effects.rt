@@ -31,7 +31,7 @@ fn body_at(v: Version, image: &[u8], k: u16, side: u8) -> usize
 }
 
 // What an accepted command comes to: the entry as it then is, and the length of the text that it reads, 0 if it reads none.
-#[derive(Drop)]
+#[derive(Clone, Copy)]
 pub struct Effect {
     pub entry: Entry,
     pub length: u16,

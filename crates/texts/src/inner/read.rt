@@ -2,7 +2,7 @@ ghost use Rattle.std.specs.Prelude.{◌≡◌, ℕ, ◌+◌, ◌≤◌, length, 
 ghost use Rattle.texts.specs.inner.Read.{ReadsSection, ReadsStep, ReadsSteps};
 
 // What reading at a place finds: the place behind what stands there, or that nothing well formed does.
-#[derive(Drop)]
+#[derive(Clone, Copy)]
 pub enum Extent {
     Past(usize),
     Ill,

@@ -6,7 +6,7 @@ ghost use Rattle.texts.specs.inner.Walk.{drop_there, TwoSections, TwoRuns, TwoSt
 use text_drops::Drop;
 
 // What a walk over two texts finds: the places behind what was walked, or the unmatched place of the first.
-#[derive(Drop)]
+#[derive(Clone, Copy)]
 pub enum Walk {
     Same(usize, usize),
     Differ(usize),
