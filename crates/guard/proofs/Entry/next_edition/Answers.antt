@@ -11,7 +11,7 @@ pub overflow_add-result : goal.overflow_add-result
 overflow_add-result c =
     let unspent : eqb c.args.self.edition 65535 ≡ false = rw
     (sym c.writes_original.ensures ∙ c.if-writes_original.true) at c.requires in
-    omega (arith, c.struct_known-1.given, eqb-false c.args.self.edition 65535 unspent)
+    omega (arith, eqb-false c.args.self.edition 65535 unspent)
 
 pub returns-then-writes_original : goal.returns-then-writes_original
 unfolding raise
