@@ -1,0 +1,20 @@
+-- The loop: the sum of the bytes so far, far below the limit of its type. The measure is what is left of them. Assumes nothing.
+use native.Mathlib.Omega.{arith}
+use Rattle.redo_log.proofs.Reading.{summing_none, summing_more, summing_done}
+use Prim.Native.Nat.{◌-◌}
+use Rattle.redo_log.proofs.inner.reading.sum_of.Goals as goal
+
+pub loop-i-init : goal.loop-i-init
+loop-i-init c = summing_none _
+
+pub overflow_cast-sum : goal.overflow_cast-sum
+overflow_cast-sum c = omega (arith, c.type_inv.body c.loop-i.i)
+
+pub overflow_add-sum : goal.overflow_add-sum
+overflow_add-sum c = omega (arith, c.type_inv.body c.loop-i.i)
+
+pub loop-i-preserved : goal.loop-i-preserved
+loop-i-preserved c = summing_more _ _ _ c.loop-i-test.true (c.type_inv.body c.loop-i.i).fits c.loop-i.invariant
+
+pub returns : goal.returns
+returns c = summing_done _ _ _ c.requires c.loop-i-test.false c.loop-i.invariant
