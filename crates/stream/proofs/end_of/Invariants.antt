@@ -1,0 +1,12 @@
+-- The loop: how far it is to the end from the place that is reached. The measure is what is left of the stream. Assumes nothing.
+use Rattle.formats.specs.Format.{format_of}
+use Prim.Native.Nat.{◌-◌}
+use lib.ListN.{length}
+use Rattle.stream.proofs.Commands.{Walked}
+use Rattle.stream.proofs.end_of.Given as goal
+
+abbrev pub invariant-loop-at : goal.invariant-loop-at
+invariant-loop-at l = Walked (format_of l.v) l.stream l.at
+
+abbrev pub decreases-loop-at : goal.decreases-loop-at
+decreases-loop-at l = length l.stream - l.at
