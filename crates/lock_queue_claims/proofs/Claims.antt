@@ -71,10 +71,10 @@ pub refusal_leaves : RefusalLeaves
 refusal_leaves = queue-after.refusal_leaves
 
 pub others_kept : OthersKept
-others_kept = queue-after.others-kept
+others_kept = queue-after.others_kept
 
 pub beyond_lent : BeyondLent
-beyond_lent = queue-after.beyond-lent
+beyond_lent = queue-after.beyond_lent
 
 -- ---- the answer
 
