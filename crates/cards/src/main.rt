@@ -1,26 +1,42 @@
 // The program: an image and a stream of commands from standard input, an answer to each on standard output.
 #![tactic(auto)]
 
-ghost use Rattle.std.specs.Prelude.{◌≡◌};
+ghost use Rattle.std.specs.Prelude.{◌≡◌, ◌≤◌, length};
 ghost use Rattle.program.specs.Program.{output_of};
 
-use libc::{STDIN_FILENO, STDOUT_FILENO};
 use program::MOST_OUTPUT;
+use std::io;
+use std::io::{Print, Read};
 
 // One byte more than an input may have, to tell that it is longer.
 const READ_AT_MOST: usize = 65537;
 
-// Prints a text that is the whole output for the input.
-fn print(input: &[u8], text: &[u8])
-    requires { text.now ≡ output_of input.now }
+// Reads until the buffer is full or the input ends, and hands back how many bytes it put in front. A read that fails ends the input.
+fn read_full<R: Read>(from: &mut R, into: &mut [u8]) -> usize
+    ensures { result ≤ length into.new }
 {
-    io::write_all(STDOUT_FILENO, text);
+    let mut done = 0;
+    while done < into.len() {
+        match from.read(&mut into[done..]) {
+            Ok(0) => return done,
+            Ok(count) => done += count,
+            Err(_) => return done,
+        }
+    }
+    done
 }
 
-fn main() {
+// Prints a text that is the whole output for the input.
+fn print<P: Print>(to: &P, input: &[u8], text: &[u8]) -> io::Result<()>
+    requires { text.now ≡ output_of input.now }
+{
+    to.write_all(text)
+}
+
+fn main(rt: HostRuntime) -> io::Result<()> {
     let mut input = [0u8; READ_AT_MOST];
     let mut out = [0u8; MOST_OUTPUT];
-    let got = io::read_full(STDIN_FILENO, &mut input);
+    let got = read_full(&mut rt.stdin(), &mut input);
     let count = program::output(&input[..got], &mut out);
-    print(&input[..got], &out[..count]);
+    print(&rt, &input[..got], &out[..count])
 }
