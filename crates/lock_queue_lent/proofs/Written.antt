@@ -4,11 +4,12 @@ use mathlib.Core.Path.{◌≡◌, refl, sym, ap, ◌∙◌}
 use Prim.Native.Nat.{ℕ, zero, suc, ◌+◌, ◌≤◌, ◌<◌}
 use native.Mathlib.Nat.{add-zero, add-suc, not-suc-le-zero, le_of_suc-le-suc}
 use mathlib.Core.List.{List, [], ◌∷◌}
-use mathlib.Core.Bool.{not, ◌&&◌}
+use mathlib.Core.Bool.{true, false, ◌&&◌}
 use mathlib.Core.Logic.{◌⊎◌, inl, inr}
-use lib.Dec.{T, ltb, ltb→lt, nltb→le}
+use borrow.Author.Tests.{ltb-true, ltb-false}
+use lib.Dec.{ltb}
 use lib.ListN.{length, get_or, set}
-use mir.Facts.{and_yes, and_no}
+use Rattle.lists.proofs.Tests.{and_left, and_right, and_fails}
 use Rattle.lock_queue.specs.Queue.{most_places}
 use Rattle.lock_queue_lent.specs.Slice.{written}
 use Rattle.lock_queue.specs.declared.Waiting.{Waiting}
@@ -51,6 +52,12 @@ pub written_next : (n : ℕ) (from onto : List Waiting) (d : Waiting) → n < le
     set (written n from onto) n (get_or from n d) ≡ written (n + 1) from onto
 written_next n from onto d l m = next n from onto d l m ∙ ap (λ (k : ℕ). written k from onto) (sym (one_more n))
 
+-- The same of a list that a turn of a pass made.
+pub written_turn : (n : ℕ) (from onto at : List Waiting) (d w : Waiting) → w ≡ get_or from n d → at ≡ written n from onto → n < length from → n < length onto →
+    set at n w ≡ written (n + 1) from onto
+written_turn n from onto at d w e f l m =
+    ap (λ (v : Waiting). set at n v) e ∙ ap (λ (ws : List Waiting). set ws n (get_or from n d)) f ∙ written_next n from onto d l m
+
 -- Where either list has ended, no more are written.
 pub written_done : (n m : ℕ) (from onto : List Waiting) → n ≤ m → (length from ≤ n) ⊎ (length onto ≤ n) → written n from onto ≡ written m from onto
 unfolding written
@@ -63,8 +70,9 @@ written_done (suc n) (suc m) (a ∷ from) (b ∷ onto) l (inl e) = ap (λ (ws : 
 written_done (suc n) (suc m) (a ∷ from) (b ∷ onto) l (inr e) = ap (λ (ws : List Waiting). a ∷ ws) (written_done n m from onto (le_of_suc-le-suc l) (inr (le_of_suc-le-suc e)))
 
 -- What the test of a pass over the places says.
-pub goes : (i n : ℕ) → T (ltb i n && ltb i most_places) → (i < n) × (i < most_places)
-goes i n t = let both = and_yes (ltb i n) (ltb i most_places) t in (ltb→lt i n both.0, ltb→lt i most_places both.1)
+pub goes : (i n : ℕ) → (ltb i n && ltb i most_places) ≡ true → (i < n) × (i < most_places)
+goes i n e = (ltb-true i n (and_left (ltb i n) (ltb i most_places) e), ltb-true i most_places (and_right (ltb i n) (ltb i most_places) e))
 
-pub stops : (i n : ℕ) → T (not (ltb i n && ltb i most_places)) → (n ≤ i) ⊎ (most_places ≤ i)
-stops i n t = elim (and_no (ltb i n) (ltb i most_places) t) [ inl a ↦ inl (nltb→le i n a) | inr a ↦ inr (nltb→le i most_places a) ]
+pub stops : (i n : ℕ) → (ltb i n && ltb i most_places) ≡ false → (n ≤ i) ⊎ (most_places ≤ i)
+stops i n e =
+    elim (and_fails (ltb i n) (ltb i most_places) e) [ inl a ↦ inl (ltb-false i n a) | inr a ↦ inr (ltb-false i most_places a.1) ]

@@ -1,0 +1,18 @@
+-- Loaded, judged by value, and stored back: what the lent queue comes to. Assumes nothing.
+use Rattle.lock_queue.specs.Requests.{leaves}
+use Rattle.lock_queue_lent.proofs.Loaded.{settled_lent}
+use Rattle.lock_queue_lent.proofs.leave.Goals as goal
+
+pub returns : goal.returns
+returns c =
+    settled_lent
+    c.args.places.now
+    c.load-by_value.result.at
+    c.store.new.places
+    c.args.kept
+    (leaves c.args.desk)
+    c.left-outcome.result
+    c.store.result
+    c.load-by_value.ensures
+    c.left-outcome.ensures
+    c.store.ensures
