@@ -10,9 +10,7 @@ use Rattle.lock_queue.specs.declared.Waiting.{Waiting}
 use Rattle.lock_queue_lent.specs.Slice.{lent_state}
 use Rattle.lock_queue_lent.specs.declared.Kept.{Kept}
 use Rattle.lock_queue_lent_test.specs.declared.Turn.{Turn}
-use borrow.Author.Rules.{rules}
-use Rattle.lock_queue_lent_test.proofs.numbers.Statement.{statement}
-use Rattle.lock_queue_lent_test.proofs.numbers.Tie as tie
+use Rattle.lock_queue_lent_test.proofs.numbers.Goals as goal
 
 -- what is kept of a crowd whose last entry is w
 abbrev keeps : Waiting → Kept
@@ -33,41 +31,7 @@ came t places last d new e f said = λ i. left i * 100 + asked i
     asked : t.asked.answer.number ≡ number most_places (after most_places crowded (leaves d)) (asks new)
     asked = ap (λ (a : LockAnswer). a.number) said.1 ∙ ap (λ (q : State). number most_places (after most_places q (leaves d)) (asks new)) same
 
-guest-requires : tie.Need-guest-requires
-guest-requires c κs = search rules
-
-crowd-requires : tie.Need-crowd-requires
-crowd-requires c κs = search rules
-
-leave-then-ask-requires : tie.Need-leave-then-ask-requires
-leave-then-ask-requires c κs = search rules
-
-cast-result : tie.Need-overflow-cast-result
-cast-result c = search rules
-
-mul-result : tie.Need-overflow-mul-result
-mul-result c = search rules
-
-cast-result-2 : tie.Need-overflow-cast-result-2
-cast-result-2 c = search rules
-
-add-result : tie.Need-overflow-add-result
-add-result c = search rules
-
-returns : tie.Need-returns
+pub returns : goal.returns
 returns c =
-    came c.before.before.leave-then-ask.result _ _ _ _ c.before.before.before.crowd.ensures
-    c.before.before.before.before.guest.ensures c.before.before.leave-then-ask.ensures
-
-pub numbers-spec : {M : Type 1} → statement M
-numbers-spec =
-    tie.close
-    (tie.spec
-    guest-requires
-    crowd-requires
-    leave-then-ask-requires
-    cast-result
-    mul-result
-    cast-result-2
-    add-result
-    returns)
+    came c.leave_then_ask-turn.result _ _ _ _ c.crowd.ensures
+    c.guest-last.ensures c.leave_then_ask-turn.ensures
