@@ -1,0 +1,15 @@
+-- The loop: none of the records so far says that the card is synced. The measure is how many are left. Assumes nothing.
+use mathlib.Core.Path.{◌≡◌}
+use Prim.Native.Nat.{◌-◌, ◌≤◌}
+use mathlib.Core.Bool.{false}
+use Rattle.lists.specs.Parts.{tabulate}
+use Rattle.lists.specs.Search.{any}
+use Rattle.redo_recovery_model.specs.Recovery.{syncs_from}
+use Rattle.redo_log.specs.Log.{record_at}
+use Rattle.redo_recovery.proofs.inner.synced.Given as goal
+
+abbrev pub invariant-loop-j : goal.invariant-loop-j
+invariant-loop-j l = (l.j ≤ l.count) × (any (syncs_from l.card l.t) (tabulate (record_at l.log) l.j) ≡ false)
+
+abbrev pub decreases-loop-j : goal.decreases-loop-j
+decreases-loop-j l = l.count - l.j

@@ -1,0 +1,6 @@
+-- The numbers of the command, read within the body. Assumes nothing.
+use lib.ListN.{length-drop}
+use Rattle.redo_recovery.proofs.inner.write_of.Goals as goal
+
+pub returns : goal.returns
+returns c = rw (c.edition_of.ensures, c.read_u16.ensures, c.act_of.ensures, length-drop)
