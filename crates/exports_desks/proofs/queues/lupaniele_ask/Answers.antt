@@ -8,7 +8,7 @@ pub returns : goal.returns
 returns c =
     exits
     c.args.places
-    (asks (waiting c.args.mode c.args.asked-s c.args.asked-x))
+    (asks (waiting c.args.mode c.args.asked_s c.args.asked_x))
     c.load-queue.ensures
     c.ask-outcome.ensures
     c.write_outcome.ensures

@@ -1,6 +1,0 @@
--- What the call ensures. Assumes nothing.
-
-use Rattle.exports_v1.proofs.images.lupaniele_make.Goals as goal
-
-pub returns : goal.returns
-returns c = let all = c.make.ensures in record { number = all.0; bytes = all.1 }
