@@ -17,7 +17,8 @@ abbrev keeps : Waiting → Kept
 keeps w = record { count = most_places; largest = record { s = w.pair.s; x = 0 } }
 
 came : (t : Turn) (places : List Waiting) (last : Waiting) (d : ℕ) (new : Waiting) → places ≡ crowded.places → last ≡ guest most_places →
-    (t.left.answer ≡ answer most_places (lent_state places (keeps last)) (leaves d)) × (t.asked.answer ≡ answer most_places (after most_places (lent_state places (keeps last)) (leaves d)) (asks new)) →
+    (t.left.answer ≡ answer most_places (lent_state places (keeps last)) (leaves d))
+    × (t.asked.answer ≡ answer most_places (after most_places (lent_state places (keeps last)) (leaves d)) (asks new)) →
     t.left.answer.number * 100 + t.asked.answer.number ≡ number most_places crowded (leaves d) * 100 + number most_places (after most_places crowded (leaves d)) (asks new)
 unfolding answer answered
 came t places last d new e f said = λ i. left i * 100 + asked i
