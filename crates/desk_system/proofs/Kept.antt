@@ -13,7 +13,7 @@ use Rattle.lists.specs.Parts.{Bytes}
 use Rattle.lists.specs.Search.{any}
 use Rattle.lists.specs.Table.{settled}
 use Rattle.lists.proofs.Tests.{and_in, and_left, and_right, or_cases, or_right, never_both}
-use Rattle.stamps.specs.Stamp.{stamp, desk_start, shared, exclusive, stamp_valid, larger_of_each, no_pair}
+use Rattle.stamps.specs.Stamp.{desk_start, shared, exclusive, stamp_valid, larger_of_each, no_pair}
 use Rattle.stamps.specs.declared.Pair.{Pair}
 use Rattle.stamps.proofs.Stamp.{stamp_desk_start, stamp_valid_lem}
 use Rattle.commands.specs.Command.{update}

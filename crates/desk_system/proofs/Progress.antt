@@ -30,7 +30,7 @@ use Rattle.store_model.specs.Claims.{SentBytes, AllBytes}
 use Rattle.store_model.proofs.Machine.{number_on, event_by, cards_by, cards_from, events_from, passed, accepted_at, count_kept}
 use Rattle.store_model.proofs.Simulation.{good_more, same_event, same_image, same_images, same_events, all_good}
 use Rattle.lock_queue.specs.Queue.{State, empty_queue, desk, desks, standing, stands}
-use Rattle.lock_queue.specs.Requests.{Request, asks, number, upgrading}
+use Rattle.lock_queue.specs.Requests.{Request, asks, upgrading}
 use Rattle.lock_queue.proofs.Removed.{absent_removed}
 use Rattle.lock_queue.proofs.Standing.{map-append, stands_append}
 use Rattle.lock_queue_claims.specs.Traces.{queue_after}

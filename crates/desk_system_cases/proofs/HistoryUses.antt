@@ -10,7 +10,6 @@ use Rattle.stamps.specs.Stamp.{stamp}
 use Rattle.commands.specs.Bytes.{command_bytes}
 use Rattle.image.specs.Layout.{shape_ok}
 use Rattle.redo_log.specs.Log.{good_log, records}
-use Rattle.lock_queue.specs.Good.{good}
 use Rattle.store_model.proofs.ByTest.{bytes_by_lem, sent_bytes}
 use Rattle.redo_log_claims.specs.Cases.{begin_of, empty_log}
 use Rattle.desk_system.specs.System.{Move, send, append_to, renew_log, AllFit}

@@ -1,7 +1,7 @@
 -- Desks by the rules in a computed story, and for each rule one run in which it alone is broken, and with it demand
 -- 3's premise. Proved by computation in proofs/Runs.antt.
 -- Assumes nothing.
-use Rattle.std.specs.Prelude.{ℕ, ◌≡◌, List, [], ◌∷◌, ◌++◌, map, reverse, true, false, length, take, replicate}
+use Rattle.std.specs.Prelude.{ℕ, ◌≡◌, List, [], ◌∷◌, ◌++◌, map, reverse, true, false, take, replicate}
 use Rattle.std.specs.Float.{binary64}
 use Rattle.std.specs.Float.Ieee.{of_bits}
 use Rattle.formats.specs.Format.{Format, V1, V2}

@@ -8,7 +8,6 @@ use mathlib.Core.Logic.{◌⊎◌}
 use mathlib.Core.List.{[]}
 use mathlib.Core.Bool.{false}
 use lib.Dec.{T}
-use lib.ListN.{length}
 use Rattle.formats.specs.Format.{V1, V2}
 use Rattle.lists.specs.Le.{le, to_le}
 use Rattle.lists.specs.Parts.{part, zeros, Bytes}

@@ -27,7 +27,7 @@ use Rattle.image.proofs.Shape.{shape}
 use Rattle.image.proofs.Cards.{Bytes_encode, sound_encode, decode_encode}
 use Rattle.image.proofs.Encode.{length_header, length_encode}
 use Rattle.image.proofs.Empty.{no_translation_lem, side_empty, fresh_cards_lem}
-use Rattle.image.proofs.Decode.{encode_decode, decode_good, header_holds, long}
+use Rattle.image.proofs.Decode.{encode_decode, decode_good, header_holds}
 
 pub sound_reads_back : SoundReadsBack
 sound_reads_back f image b holds = record { good = decode_good f image b holds; same = encode_decode f image b holds }

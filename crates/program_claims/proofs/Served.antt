@@ -15,7 +15,7 @@ use Rattle.lists.proofs.Bytes.{Bytes_take, Bytes_drop, Bytes_replicate}
 use Rattle.lists.proofs.Parts.{length_splice}
 use Rattle.lists.proofs.Table.{given, first_all}
 use Rattle.lists.proofs.Tests.{to_T, from_T, cases, or_none, or_cases, and_right, not_in}
-use Rattle.commands.specs.Command.{original, translation, reads_translation, reads}
+use Rattle.commands.specs.Command.{original, reads_translation, reads}
 use Rattle.commands.specs.Bytes.{fields_of, formed}
 use Rattle.commands.specs.declared.Command.{Command}
 use Rattle.guard.specs.declared.Answer.{Answer}

@@ -20,7 +20,7 @@ use Rattle.redo_log.proofs.Stores.{take_append, stored_append, length_stores, wr
 use Rattle.redo_log.proofs.Steps.{admitted, left_23, left_24, left_26, left_0}
 use Rattle.redo_log_claims.specs.Claims.{Appending, Appends, check_numbers, append_numbers, LogListed, needed, appended_all, all_stores, admitted_of, wholly, cut_after, AppendRun, AppendRuns}
 use Rattle.redo_log_claims.proofs.Same.{checks_same, records_same}
-use Rattle.redo_log_claims.proofs.Written.{full, same_written, front_before, count_before, bytes_written, written_full, good_there, records_there}
+use Rattle.redo_log_claims.proofs.Written.{same_written, front_before, count_before, bytes_written, written_full, good_there, records_there}
 
 -- ---- the numbers
 

@@ -10,7 +10,7 @@ use borrow.Author.Tests.{eqb-true, eq-eqb, ne_eqb, ltb-false}
 use lib.Dec.{eqb, ltb}
 use Rattle.lists.proofs.Tests.{from_T, to_false, cases, and_in, and_right, or_fails, not_in}
 use Rattle.stamps.specs.Stamp.{shared, exclusive, desk_start, desk_of, own}
-use Rattle.commands.specs.Command.{verifier, update, session, Session}
+use Rattle.commands.specs.Command.{verifier, update, Session}
 use Rattle.commands.specs.declared.Command.{Command}
 use Rattle.stamps.specs.declared.Pair.{Pair}
 use Rattle.store_model.specs.Words.{Event, command_of, accepted, Proper, larger_s, larger_x, late, carries, formed_for, premise, commands_in, OneSession, desk_in, intrudes}

@@ -6,10 +6,10 @@ use mathlib.Core.List.{List, [], ◌∷◌, ◌++◌}
 use mathlib.Core.Bool.{Bool, true, false, ◌||◌, and-false}
 use borrow.Author.Tests.{not-true}
 use Rattle.lists.proofs.Tests.{never_both, cases, and_right, or_fails, not_in}
-use Rattle.lists.specs.Search.{any, none, since, last}
+use Rattle.lists.specs.Search.{any, none, since}
 use Rattle.stamps.specs.Stamp.{no_mark, mark_fits}
 use Rattle.stamps.specs.declared.Mark.{Mark}
-use Rattle.commands.specs.Command.{Language, original, translation, writes, update, Session, session}
+use Rattle.commands.specs.Command.{Language, original, translation, writes, update, Session}
 use Rattle.commands.proofs.Languages.{no_original}
 use Rattle.commands.specs.declared.Command.{Command}
 use Rattle.store_model.specs.Words.{Event, command_of, accepted, wrote, right_mark, outdated, last_text, OneSession}

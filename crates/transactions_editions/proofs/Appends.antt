@@ -27,7 +27,6 @@ use Rattle.redo_log_claims.proofs.Life.{renews}
 use Rattle.transactions.proofs.Kept.{Held}
 use Rattle.transactions.specs.System.{meant_logged}
 use Rattle.transactions.proofs.Logged.{all_by, uncounted, held_of, Change, unchanged, unmarked, committed, follow, apart, change}
-use Rattle.transactions.proofs.Rewriting.{sent, new}
 use Rattle.transactions_editions.specs.Editions.{current_with, current_by, current_after}
 use Rattle.transactions_editions.proofs.Lines.{due_as, past_due, by_clear, by_same, by_same_all, with_none, by_commit_all}
 use Rattle.transactions_editions.proofs.Current.{cur}

@@ -22,7 +22,6 @@ use Rattle.store_model.specs.Claims.{SentBytes}
 use Rattle.store_model.proofs.Machine.{number_on}
 use Rattle.redo_log.specs.Log.{LogRecord, record_card, record_side, records}
 use Rattle.redo_recovery_model.specs.Recovery.{record_in, due}
-use Rattle.redo_recovery_model.proofs.Steps.{next}
 use Rattle.transactions.specs.System.{
   OneDesk,
   Order,
@@ -55,7 +54,6 @@ use Rattle.transactions.proofs.Requests.{if_so, number_now, image_now, good_now}
 use Rattle.transactions.proofs.Orders.{out_none}
 use Rattle.transactions.proofs.Renewing.{some_written}
 use Rattle.transactions.proofs.Arrivals.{rises}
-use Rattle.transactions.proofs.Rewriting.{sent, place, new}
 use Rattle.transactions_editions.specs.Editions.{brings_current, current_by, current_after}
 use Rattle.transactions_editions.proofs.Lines.{due_of, due_none, past_due, by_none, by_first, by_clear, by_line, by_some}
 use Rattle.transactions_editions.proofs.Current.{cur, cur_then}

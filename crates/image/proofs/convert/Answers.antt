@@ -1,12 +1,12 @@
 -- Refused by the source, refused by the target, or written card by card. Assumes nothing.
-use Prim.Native.Nat.{ℕ, ◌-◌}
+use Prim.Native.Nat.{ℕ}
 use native.Mathlib.Omega.{arith}
 use mathlib.Core.Path.{◌≡◌, refl, sym, ap, ◌∙◌}
 use lib.ListN.{length}
 use Rattle.lists.proofs.Tests.{to_T}
 use Rattle.formats.specs.Format.{V2}
 use Rattle.image.specs.Bytes.{count_of}
-use Rattle.image.specs.Image.{encode, sound}
+use Rattle.image.specs.Image.{encode}
 use Rattle.image.specs.Convert.{widened_up_to}
 use Rattle.image.proofs.Widen.{sound_header, all_widened, unsound_source, not_made, as_it_was, begins, converts}
 use Rattle.image.proofs.convert.Goals as goal

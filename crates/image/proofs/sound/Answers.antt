@@ -5,9 +5,7 @@ use Rattle.image.specs.Bytes.{count_of}
 use Rattle.image.specs.Image.{card_sound}
 use Rattle.lists.proofs.Every.{every_none, every_more}
 use native.Mathlib.Omega.{arith}
-use mathlib.Core.Bool.{true}
 use mathlib.Core.Path.{◌≡◌, sym, ◌∙◌}
-use Prim.Native.Nat.{◌-◌}
 use Rattle.image.proofs.sound.Goals as goal
 
 pub returns-then-image-lt-HEADER : goal.returns-then-image-lt-HEADER

@@ -5,7 +5,7 @@ use Rattle.redo_recovery.specs.Recover.{pairs_of}
 use Rattle.redo_log.specs.Log.{records}
 use Rattle.redo_log.proofs.Records.{good_out, checked_good, checked_bad}
 use Rattle.redo_recovery_model.proofs.Steps.{told}
-use Prim.Native.Nat.{ℕ, ◌-◌, ◌≤◌, ◌<◌}
+use Prim.Native.Nat.{ℕ, ◌≤◌, ◌<◌}
 use mathlib.Core.Path.{◌≡◌, subst}
 use Rattle.redo_recovery.proofs.recover.Goals as goal
 

@@ -1,5 +1,4 @@
 -- The loop: `zero` says whether the bytes before place i are zero, and those from there on decide the rest. Assumes nothing.
-use Prim.Native.Nat.{◌-◌}
 use native.Mathlib.Omega.{arith}
 use mathlib.Core.Path.{refl}
 use Rattle.slices.proofs.Loops.{zeros_more, zeros_done}

@@ -1,16 +1,13 @@
 -- Test by test. Assumes nothing.
-use borrow.Author.Rules.{rules}
-use borrow.Author.Tests.{not-false}
 use Prim.Native.Nat.{ℕ, ◌-◌}
 use native.Mathlib.Omega.{arith}
-use mathlib.Core.Path.{◌≡◌, sym, ap, ◌∙◌}
-use mathlib.Core.Bool.{Bool}
+use mathlib.Core.Path.{sym, ap, ◌∙◌}
 use Rattle.lists.specs.Parts.{part, zeros}
 use Rattle.formats.specs.Format.{format_of}
 use Rattle.formats.proofs.Numbers.{numbers}
 use Rattle.lists.specs.Table.{all}
-use Rattle.commands.specs.Command.{update, pair_checks, well_formed}
-use Rattle.commands.specs.Bytes.{fields_of, formed}
+use Rattle.commands.specs.Command.{update, pair_checks}
+use Rattle.commands.specs.Bytes.{fields_of}
 use Rattle.commands.proofs.CommandBytes.{formed_short, not_whole, not_blank, by_rules_lem}
 use Rattle.commands.proofs.Rules.{act_fails, pairs_fail}
 use Rattle.commands.proofs.Marks.{marks_read}
@@ -58,7 +55,7 @@ act_ok-requires c =
 pub returns-then-not-act_ok : goal.returns-then-not-act_ok
 unfolding part
 returns-then-not-act_ok c = untold _ (by_rules_lem (format_of c.args.v) c.args.bytes.now c.read_u16.ensures c.fixed-fixed.ensures c.if-bytes-fixed-2.false
-        (c.all_zero.ensures ∙ ap (λ (n : ℕ). zeros (part n (36 - n) c.args.bytes.now)) c.blank_at-blank.ensures) c.if-not-all_zero.false (act_fails _ (sym c.act_ok.ensures ∙ c.if-not-act_ok.true)))
+    (c.all_zero.ensures ∙ ap (λ (n : ℕ). zeros (part n (36 - n) c.args.bytes.now)) c.blank_at-blank.ensures) c.if-not-all_zero.false (act_fails _ (sym c.act_ok.ensures ∙ c.if-not-act_ok.true)))
 
 pub opens-requires : goal.opens-requires
 opens-requires c =
@@ -71,7 +68,7 @@ returns-in_default c =
     let numbers = fields_of (format_of c.args.v) c.args.bytes.now in
     let none = is_untold (all (pair_checks numbers)) (update numbers) (sym c.in_default.is ∙ c.opens.ensures) in
     untold _ (by_rules_lem (format_of c.args.v) c.args.bytes.now c.read_u16.ensures c.fixed-fixed.ensures c.if-bytes-fixed-2.false
-        (c.all_zero.ensures ∙ ap (λ (n : ℕ). zeros (part n (36 - n) c.args.bytes.now)) c.blank_at-blank.ensures) c.if-not-all_zero.false (pairs_fail numbers (sym c.act_ok.ensures ∙ c.if-not-act_ok.false) none))
+    (c.all_zero.ensures ∙ ap (λ (n : ℕ). zeros (part n (36 - n) c.args.bytes.now)) c.blank_at-blank.ensures) c.if-not-all_zero.false (pairs_fail numbers (sym c.act_ok.ensures ∙ c.if-not-act_ok.false) none))
 
 pub marks_ok-requires : goal.marks_ok-requires
 marks_ok-requires c =
@@ -85,7 +82,7 @@ returns-then-not-marks_ok c =
     let bytes = c.args.bytes.now in
     let found = is_told (all (pair_checks (fields_of f bytes))) (sym c.in-By.is ∙ c.opens.ensures) in
     untold _ (by_rules_lem (format_of c.args.v) c.args.bytes.now c.read_u16.ensures c.fixed-fixed.ensures c.if-bytes-fixed-2.false
-        (c.all_zero.ensures ∙ ap (λ (n : ℕ). zeros (part n (36 - n) c.args.bytes.now)) c.blank_at-blank.ensures) c.if-not-all_zero.false
+    (c.all_zero.ensures ∙ ap (λ (n : ℕ). zeros (part n (36 - n) c.args.bytes.now)) c.blank_at-blank.ensures) c.if-not-all_zero.false
     (sym c.if-not-marks_ok.true ∙ c.marks_ok.ensures ∙ marks_read f bytes (sym c.act_ok.ensures ∙ c.if-not-act_ok.false) found.0))
 
 pub returns : goal.returns
@@ -96,6 +93,6 @@ returns c =
     let found = is_told (all (pair_checks (fields_of f bytes))) (sym c.in-By.is ∙ c.opens.ensures) in
     told
     (by_rules_lem (format_of c.args.v) c.args.bytes.now c.read_u16.ensures c.fixed-fixed.ensures c.if-bytes-fixed-2.false
-        (c.all_zero.ensures ∙ ap (λ (n : ℕ). zeros (part n (36 - n) c.args.bytes.now)) c.blank_at-blank.ensures) c.if-not-all_zero.false
+    (c.all_zero.ensures ∙ ap (λ (n : ℕ). zeros (part n (36 - n) c.args.bytes.now)) c.blank_at-blank.ensures) c.if-not-all_zero.false
     (sym c.if-not-marks_ok.false ∙ c.marks_ok.ensures ∙ marks_read f bytes (sym c.act_ok.ensures ∙ c.if-not-act_ok.false) found.0))
     found.1

@@ -1,5 +1,5 @@
 -- By the number of the first row from 3 on that applies. Assumes nothing.
-use mathlib.Core.Path.{◌≡◌, sym, ◌∙◌}
+use mathlib.Core.Path.{sym, ◌∙◌}
 use Rattle.lists.proofs.Table.{settled_new, settled_old}
 use Rattle.guard.proofs.Judge.{judged_by, accepted_none, rows_formed}
 use Rattle.guard.proofs.Entry.judge_formed.Goals as goal

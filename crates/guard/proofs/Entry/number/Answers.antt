@@ -1,6 +1,5 @@
 -- Row by row: each test that fails leaves the rows after it. Assumes nothing.
-use mathlib.Core.Path.{sym, ap, ◌∙◌}
-use mathlib.Core.Bool.{not}
+use mathlib.Core.Path.{sym, ◌∙◌}
 use Rattle.guard.proofs.Entry.number.Goals as goal
 
 pub returns-then-stale : goal.returns-then-stale

@@ -2,8 +2,7 @@
 use native.Mathlib.Omega.{arith}
 use mathlib.Core.Path.{◌≡◌, sym, ◌∙◌, subst}
 use Rattle.redo_recovery.proofs.Laws.{sought_none, sought_more, sought_found, sought_all}
-use Prim.Native.Nat.{ℕ, ◌-◌, ◌<◌}
-use mathlib.Core.Bool.{false}
+use Prim.Native.Nat.{ℕ, ◌<◌}
 use Rattle.redo_recovery_model.specs.Recovery.{syncs_from}
 use Rattle.redo_log.specs.Log.{record_count}
 use Rattle.redo_log.proofs.Records.{good_out}

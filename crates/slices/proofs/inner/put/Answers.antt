@@ -1,5 +1,4 @@
 -- The loop: after i bytes those of v from place i on are left to write. Assumes nothing.
-use Prim.Native.Nat.{◌-◌}
 use native.Mathlib.Omega.{arith}
 use lib.ListN.{drop_of_length-le}
 use Rattle.lists.proofs.Parts.{drop_left}

@@ -1,5 +1,4 @@
 -- The loop: what is read so far is the number of the bytes from place `left` of the part on. Assumes nothing.
-use Prim.Native.Nat.{◌-◌}
 use Rattle.slices.proofs.Loops.{Reading}
 use Rattle.slices.proofs.inner.read.Given as goal
 

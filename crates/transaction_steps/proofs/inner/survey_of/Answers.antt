@@ -1,6 +1,6 @@
 -- The loop: what the first lines say. The measure is how many are left. Assumes nothing.
 use native.Mathlib.Omega.{arith}
-use Prim.Native.Nat.{ℕ, ◌-◌, ◌<◌}
+use Prim.Native.Nat.{ℕ, ◌<◌}
 use mathlib.Core.Path.{◌≡◌, ap, ◌∙◌, subst}
 use Rattle.redo_log.specs.Log.{record_count, records}
 use Rattle.redo_log.proofs.Records.{good_out}

@@ -1,5 +1,4 @@
 -- The loop: what is left to look at. The measure is what is left of the bytes. Assumes nothing.
-use Prim.Native.Nat.{◌-◌}
 use mathlib.Core.Path.{sym, ◌∙◌}
 use native.Mathlib.Omega.{arith}
 use Rattle.lists.specs.Parts.{part}

@@ -1,5 +1,4 @@
 -- The loop: what is left to count. The measure is what is left of the bytes. Assumes nothing.
-use Prim.Native.Nat.{◌-◌}
 use mathlib.Core.Path.{sym, ◌∙◌}
 use native.Mathlib.Omega.{arith}
 use Rattle.history.proofs.Walk.{less, extending_none, extending_within, extending_more, extending_done}

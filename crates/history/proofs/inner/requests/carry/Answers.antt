@@ -1,7 +1,6 @@
 -- Weighed, shown, kept. Assumes nothing.
 use mathlib.Core.Path.{refl, sym, ap}
 use native.Mathlib.Omega.{arith}
-use lib.ListN.{length}
 use lib.Seq.{length-take-le}
 use Rattle.formats.specs.Format.{V1}
 use Rattle.commands.proofs.CommandBytes.{formedness}

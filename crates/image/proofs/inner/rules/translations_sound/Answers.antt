@@ -1,7 +1,5 @@
 -- The loop: the translations before t keep the rules. The measure is how many are left. Assumes nothing.
-use Prim.Native.Nat.{◌-◌}
 use native.Mathlib.Omega.{arith}
-use mathlib.Core.Bool.{true}
 use mathlib.Core.Path.{◌≡◌, sym, ◌∙◌}
 use Rattle.lists.proofs.Every.{every_none, every_more, every_fail}
 use Rattle.formats.specs.Format.{format_of, translations}

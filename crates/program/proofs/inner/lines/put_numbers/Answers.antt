@@ -1,5 +1,5 @@
 -- The loop: after i numbers those from place i on are left to write. Assumes nothing.
-use Prim.Native.Nat.{◌-◌, ◌≤◌, ◌<◌}
+use Prim.Native.Nat.{◌≤◌, ◌<◌}
 use native.Mathlib.Omega.{arith}
 use lib.ListN.{length}
 use Rattle.program.proofs.Puts.{putting_none, putting_more, putting_done}

@@ -1,8 +1,6 @@
 -- The loop: the lines of what is left to run are left to write, and the check of the image holds on. The measure is what is left of the stream.
 -- Assumes nothing.
-use Prim.Native.Nat.{◌-◌}
 use mathlib.Core.Path.{refl, ap, sym, ◌∙◌}
-use mathlib.Core.Bool.{true}
 use borrow.Author.Rules.{rules}
 use native.Mathlib.Omega.{arith}
 use lib.ListN.{length}

@@ -2,7 +2,6 @@
 use native.Mathlib.Omega.{arith}
 use Rattle.redo_log.proofs.Reading.{scanning_none, scanning_done, scanned_bad, bad_size, bad_count, bad_record, size_from}
 use mathlib.Core.Path.{sym, ◌∙◌}
-use Prim.Native.Nat.{◌-◌}
 use Rattle.lists.proofs.Every.{every_more}
 use Rattle.redo_log.specs.Log.{record_ok}
 use Rattle.redo_log.proofs.inner.reading.scan_of.Goals as goal

@@ -1,7 +1,6 @@
 -- The loop: the sum of the bytes so far, far below the limit of its type. The measure is what is left of them. Assumes nothing.
 use native.Mathlib.Omega.{arith}
 use Rattle.redo_log.proofs.Reading.{summing_none, summing_more, summing_done}
-use Prim.Native.Nat.{◌-◌}
 use Rattle.redo_log.proofs.inner.reading.sum_of.Goals as goal
 
 pub loop-i-init : goal.loop-i-init

@@ -1,6 +1,5 @@
 -- The loop: what is left to run leaves what the whole run leaves, and the check of the image holds on. The measure is what is left of the stream.
 -- Assumes nothing.
-use Prim.Native.Nat.{◌-◌}
 use mathlib.Core.Path.{◌≡◌, refl, sym, ◌∙◌}
 use borrow.Author.Rules.{rules}
 use native.Mathlib.Omega.{arith}

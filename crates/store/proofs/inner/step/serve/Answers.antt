@@ -1,8 +1,7 @@
 -- Malformed and no such card by their rows; else the step of the card, with the bytes behind the fixed part as its payload. Assumes nothing.
 use Rattle.formats.specs.Format.{format_of}
 use native.Mathlib.Omega.{arith}
-use mathlib.Core.Path.{◌≡◌, refl, sym, ap, ◌∙◌}
-use mathlib.Core.Bool.{true}
+use mathlib.Core.Path.{refl, sym, ap, ◌∙◌}
 use borrow.Author.Tests.{le-ltb}
 use Rattle.commands.specs.Bytes.{fields_of, formed}
 use Rattle.commands.specs.Command.{update}
@@ -14,7 +13,6 @@ use Rattle.image.specs.Image.{sound}
 use Rattle.store_model.proofs.Sound.{stays_sound}
 use Rattle.store.proofs.Kept.{header_in}
 use Rattle.store.proofs.Step.{serves, behind_place, serve_malformed, serve_no_card, serve_found}
-use borrow.Author.Rules.{rules}
 use Rattle.store.proofs.inner.step.serve.Goals as goal
 
 pub returns-in_default : goal.returns-in_default
