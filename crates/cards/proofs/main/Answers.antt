@@ -9,14 +9,11 @@ use Rattle.cards.proofs.main.Goals as goal
 long : most_output ≤ length (replicate {A = ℕ} most_output 0)
 long = rw length-replicate (omega arith)
 
--- src/main.rt:41:31
 pub slice_bounds-out-end : goal.slice_bounds-out-end
 slice_bounds-out-end c = (prints _ (replicate most_output 0) c.output-count.ensures.count c.output-count.ensures.out long).within
 
--- src/main.rt:41:31
 pub slice_bounds-print-end-2 : goal.slice_bounds-print-end-2
 slice_bounds-print-end-2 c = (prints _ (replicate most_output 0) c.output-count.ensures.count c.output-count.ensures.out long).lends
 
--- src/main.rt:41:5
 pub print-requires : goal.print-requires
 print-requires c = (prints _ (replicate most_output 0) c.output-count.ensures.count c.output-count.ensures.out long).text
