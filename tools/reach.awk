@@ -3,9 +3,9 @@
 
 # a definition is a paragraph: what stands from its first line to the next empty one, without the comment above it
 function begin() { group = file "#" line; first[group] = line; home[group] = file; text[group] = ""; groups[++count] = group }
-function named(name) { gsub(/_/, "", name); if (name != "" && !((file SUBSEP name) in own)) { own[file, name] = group; if (!(name in where)) where[name] = group; shown[group] = shown[group] (shown[group] == "" ? "" : ", ") "`" name "`" } }
-function silent(name) { gsub(/_/, "", name); if (name != "" && !((file SUBSEP name) in own)) { own[file, name] = group; if (!(name in where)) where[name] = group } }
-$1 == "@" && NF == 2 { file = $2; line = 0; group = ""; coded = file ~ /\.rt$/; next }
+function named(name) { gsub(/◌/, "", name); if (name != "" && !((file SUBSEP name) in own)) { own[file, name] = group; if (!(name in where)) where[name] = group; shown[group] = shown[group] (shown[group] == "" ? "" : ", ") "`" name "`" } }
+function silent(name) { gsub(/◌/, "", name); if (name != "" && !((file SUBSEP name) in own)) { own[file, name] = group; if (!(name in where)) where[name] = group } }
+$1 == "@" && NF == 2 { file = $2; line = 0; group = ""; coded = file ~ /\.rt$/; split(file, of_path, "/"); ours[of_path[2]] = 1; next }
 { line++ }
 coded {
     if ($0 ~ /^pub (struct|enum) /) { begin(); named($3); type = 1 }
@@ -20,7 +20,7 @@ open != "" { open = open $0; if ($0 !~ /^}/) next; $0 = open; open = ""; gsub(/,
     from = $2; sub(/\.\{.*/, "", from)
     names = $0; sub(/^[^{]*\{/, "", names); sub(/\}.*/, "", names)
     many = split(names, each, /, */)
-    for (i = 1; i <= many; i++) { name = each[i]; gsub(/_/, "", name); taken[file, name] = from }
+    for (i = 1; i <= many; i++) { name = each[i]; gsub(/◌/, "", name); taken[file, name] = from }
     next
 }
 /^$/ { group = ""; next }
@@ -37,23 +37,25 @@ open != "" { open = open $0; if ($0 !~ /^}/) next; $0 = open; open = ""; gsub(/,
     else if (rest ~ /^(pub )?[^ (]+ :( |$)/ && $0 !~ /^  +pub / ) { sub(/^pub /, "", rest); split(rest, word, " "); named(word[1]); data = 0 }
     else if ($0 ~ /^  pub [^ ]+ :( |$)/ && text[group] ~ /^ *(unfoldable )?mutual/) { sub(/^pub /, "", rest); split(rest, word, " "); named(word[1]) }
 }
+# the crate that a path `Rattle.NAME..` names; it is the library's where no file of such a crate is read
+function crate_in(path,   part) { split(path, part, "."); return part[2] }
 function target(file, name,   from) {
     if ((file SUBSEP name) in own) return own[file, name]
     if (!((file SUBSEP name) in taken)) return ""
     from = taken[file, name]
-    if (from !~ /^Rattle/) return "library"
+    if (!(from ~ /^Rattle\./ && (crate_in(from) in ours))) return "library"
     return (name in where) ? where[name] : ""
 }
 # what a definition names: other definitions, each as `file#line`, and what it takes from the library
 function names_in(group,   n, i, word, seen, used, to, all) {
     used = text[group]
-    # a field of a record (` .field`) is no name of a definition
-    gsub(/ \.[^ ()]+/, " ", used)
+    # a field of a record (`r.field`) is no name of a definition
+    gsub(/\.[a-z][A-Za-z0-9_]*/, " ", used)
     gsub(/λ|→|×|⊎|≡|∷/, " ", used)
     n = split(used, word, /[][ (){};,.|<>=:"]+/)
     for (i = 1; i <= n; i++) {
         used = word[i]
-        gsub(/_/, "", used)
+        gsub(/◌/, "", used)
         if (used == "" || used in seen) continue
         seen[used] = 1
         to = target(home[group], used)
