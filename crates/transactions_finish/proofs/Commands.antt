@@ -16,7 +16,7 @@ use Rattle.stamps.specs.Stamp.{stamp, stamp_t, stamp_valid, shared, exclusive, n
 use Rattle.stamps.proofs.Stamp.{stamp_valid_lem}
 use Rattle.stamps.specs.declared.Mark.{Mark}
 use Rattle.commands.specs.declared.Command.{Command}
-use Rattle.commands.specs.Command.{well_formed, verifier, update, FitsCommand}
+use Rattle.commands.specs.Command.{well_formed, update, FitsCommand}
 use Rattle.commands.specs.Bytes.{payload, formed, command_bytes}
 use Rattle.commands.proofs.CommandBytes.{fields_command, formed_command, payload_command, Bytes_command}
 use Rattle.guard.specs.Entry.{FitsEntry, entry_sound, entry_checks}
