@@ -54,7 +54,8 @@ same_number =
     (claims.independent Original (held_text (50 ∷ 48 ∷ 53 ∷ []) 3) (held_text (52 ∷ 48 ∷ 49 ∷ 0 ∷ []) 3) (held_text (50 ∷ 48 ∷ 53 ∷ []) 3) (held_text (57 ∷ 57 ∷ 57 ∷ 57 ∷ []) 3) 2 1
     alike_cases.originals).number
 
-same_part : shown_part (held_text (50 ∷ 48 ∷ 53 ∷ []) 3) (held_text (52 ∷ 48 ∷ 49 ∷ 0 ∷ []) 3) 2 1 Original ≡ shown_part (held_text (50 ∷ 48 ∷ 53 ∷ []) 3) (held_text (57 ∷ 57 ∷ 57 ∷ 57 ∷ []) 3) 2 1 Original
+same_part : shown_part (held_text (50 ∷ 48 ∷ 53 ∷ []) 3) (held_text (52 ∷ 48 ∷ 49 ∷ 0 ∷ []) 3) 2 1 Original ≡ shown_part (held_text (50 ∷ 48 ∷ 53 ∷ []) 3)
+    (held_text (57 ∷ 57 ∷ 57 ∷ 57 ∷ []) 3) 2 1 Original
 same_part =
     (claims.independent Original (held_text (50 ∷ 48 ∷ 53 ∷ []) 3) (held_text (52 ∷ 48 ∷ 49 ∷ 0 ∷ []) 3) (held_text (50 ∷ 48 ∷ 53 ∷ []) 3) (held_text (57 ∷ 57 ∷ 57 ∷ 57 ∷ []) 3) 2 1
     alike_cases.originals).part

@@ -259,7 +259,8 @@ claimed v n c shape version image log (across sent more b m o e ok l i) =
 pub desks_isolated : DesksIsolated
 desks_isolated v n c places logs steps r k later b between a before split by-a by-b one =
     let y = finally v n c places logs steps in
-    (claimed v n c r.shape y.store.version y.store.image y.store.trace (held_finally v n c places logs steps r.shape r.fits).trace).1.isolation k later b between a before (premise_kept v n c places logs steps r k) split by-a by-b one
+    (claimed v n c r.shape y.store.version y.store.image y.store.trace (held_finally v n c places logs steps r.shape r.fits).trace).1.isolation k later b between a before
+    (premise_kept v n c places logs steps r k) split by-a by-b one
 
 once_at : (later : List Made) (p : Made) (rest : List Made) → Once (later ++ p ∷ rest) → Once (p ∷ rest)
 once_at [] p rest o = o

@@ -172,7 +172,8 @@ recovers_allowed =
     (recovery_allowed V1 1 16 two_places blank_logs proposing proposes (pairs_for 0 (stamp 0 1 0)) committed pairs_one log_bytes refl given).allows 1
   where
     given : (k : ℕ)
-        → ((recovery_pair (pairs_for 0 (stamp 0 1 0)) k).x ≡ 0) ⊎ (is_made (finally V1 1 16 two_places blank_logs proposing).desks.made k exclusive (recovery_pair (pairs_for 0 (stamp 0 1 0)) k) ≡ true)
+        → ((recovery_pair (pairs_for 0 (stamp 0 1 0)) k).x ≡ 0) ⊎
+        (is_made (finally V1 1 16 two_places blank_logs proposing).desks.made k exclusive (recovery_pair (pairs_for 0 (stamp 0 1 0)) k) ≡ true)
     given zero = inr refl
     given (suc k) = inl refl
 

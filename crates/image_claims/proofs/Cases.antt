@@ -23,7 +23,8 @@ unfolding makes shape_ok all all_from
 second_limits_hold = refl
 
 changes_hold : ByteChanges
-unfolding sound header_sound card_sound translation_sound tail_zero entry_at read_entry encode bodies pad entry_bytes header shape_ok entry_sound all all_from le to_le part concat_map tabulate every zeros
+unfolding sound header_sound card_sound translation_sound tail_zero entry_at read_entry encode bodies pad entry_bytes
+    header shape_ok entry_sound all all_from le to_le part concat_map tabulate every zeros
 changes_hold = refl
 
 layout_cases : LayoutCases

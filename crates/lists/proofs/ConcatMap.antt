@@ -116,7 +116,8 @@ module _ {A : Type 0} where
       part_concat_map g w wide (tabulate f n) k (f k) (rw (length_tabulate f n) h) ∙ ap g (get_d_tabulate f n k (f k) h)
 
   -- A list that is cut into parts of w elements, each of which comes back from what is made of it, comes back whole.
-  pub concat_map_parts : {B : Type 0} (g : A → List B) (f : ℕ → A) (at w : ℕ) (s : List B) (n : ℕ) → ((k : ℕ) → k < n → g (f k) ≡ part (at + k * w) w s) → concat_map g (tabulate f n) ≡ part at (n * w) s
+  pub concat_map_parts : {B : Type 0} (g : A → List B) (f : ℕ → A) (at w : ℕ) (s : List B) (n : ℕ) → ((k : ℕ) → k < n → g (f k) ≡ part (at + k * w) w s) → concat_map g
+      (tabulate f n) ≡ part at (n * w) s
   unfolding tabulate concat_map part
   concat_map_parts g f at w s zero h = rw zero-mul
   concat_map_parts g f at w s (suc n) h =

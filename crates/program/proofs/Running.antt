@@ -97,6 +97,7 @@ module _ {start : ℕ} {image₀ reply₀ stream out₀ image reply out : List �
         put_wide (omega (arith, r.walked.within, r.few, r.far)) (put_put (omega arith) done (rw last at p))
 
 -- A line written from the numbers of an answer is the answer's line.
-pub line_put : {to to' : ℕ} {line out out' : List ℕ} (place : ℕ) (a : Answer) → line ≡ numbers_of a → Put to most_line (line_by place line) out out' to' → Put to most_line (line_of place a) out out' to'
+pub line_put : {to to' : ℕ} {line out out' : List ℕ} (place : ℕ) (a : Answer) → line ≡ numbers_of a → Put to most_line (line_by place line) out out' to'
+    → Put to most_line (line_of place a) out out' to'
 unfolding line_of
 line_put {to} {to'} {out = out} {out'} place a e p = subst (λ (l : List ℕ). Put to most_line (line_by place l) out out' to') e p

@@ -100,7 +100,8 @@ module _ (log : List ℕ) (i : ℕ) where
   ok_beyond h = rw (lt-leb (start_at log i + length_at log i) (length log) h)
 
   pub ok_by : start_at log i + length_at log i ≤ length log →
-      record_ok log i ≡ (eqb (place_at log i) (start_at log i) && eqb (sum_at log i) (checksum (record_at log i).body) && joins (last_begun (record_at log) i) (opened (record_at log) i) (record_at log i))
+      record_ok log i ≡ (eqb (place_at log i) (start_at log i) && eqb (sum_at log i) (checksum (record_at log i).body) && joins (last_begun (record_at log) i)
+      (opened (record_at log) i) (record_at log i))
   unfolding record_ok start_at all all_from
   ok_by h = rw (le-leb (start_at log i + length_at log i) (length log) h)
 
@@ -148,7 +149,8 @@ module _ (log : List ℕ) where
       go : (ltb (length log) 2201 ≡ true) ⊎ (ltb 65536 (length log) ≡ true) →
           (leb bodies_from (length log) && leb (length log) most_log && leb (record_count log) most_records && every (record_ok log) (record_count log)) ≡ false
       go (inl f) = rw (lt-leb bodies_from (length log) (ltb-true (length log) 2201 f))
-      go (inr f) = rw (lt-leb (length log) most_log (ltb-true 65536 (length log) f)) (falls (leb bodies_from (length log)) (leb (record_count log) most_records) (every (record_ok log) (record_count log)))
+      go (inr f) = rw (lt-leb (length log) most_log (ltb-true 65536 (length log) f))
+          (falls (leb bodies_from (length log)) (leb (record_count log) most_records) (every (record_ok log) (record_count log)))
         where
           falls : (a b c : Bool) → (a && false && b && c) ≡ false
           falls true b c = refl

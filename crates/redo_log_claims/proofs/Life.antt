@@ -17,7 +17,25 @@ use Rattle.lists.specs.Table.{all, all_from}
 use Rattle.lists.proofs.Bytes.{Bytes_nil, Bytes_cons, Bytes_splice}
 use Rattle.lists.proofs.Parts.{splice_nil, length_splice, splice_before, get_d_splice_before, get_d_splice_after, splice_set}
 use Rattle.lists.proofs.Tests.{cases, never_both, and_left, and_right, or_cases, or_left, or_right}
-use Rattle.redo_log.specs.Log.{LogRecord, bodies_from, most_log, record_count, line_place, place_at, length_at, sum_at, record_at, start_at, last_begun, opened, total, checksum, record_ok, good_log, records}
+use Rattle.redo_log.specs.Log.{
+  LogRecord,
+  bodies_from,
+  most_log,
+  record_count,
+  line_place,
+  place_at,
+  length_at,
+  sum_at,
+  record_at,
+  start_at,
+  last_begun,
+  opened,
+  total,
+  checksum,
+  record_ok,
+  good_log,
+  records,
+}
 use Rattle.redo_log.specs.Append.{Store, stored, puts, line_bytes, stores, accepts, lacks, append_number, appended}
 use Rattle.redo_log.specs.inner.Admitted.{Admitted}
 use Rattle.redo_log.proofs.Records.{sizes, start_next, ok_inside, good_record, body_long}

@@ -104,7 +104,8 @@ module _ (l : List ℕ) (at : ℕ) where
         let there : drop (at + 2) l ≡ steps_bytes s ++ rest = cc in
         fails s (f.1, many) rest there
 
-  pub section_read_at : (n : ℕ) (r : Extent) → (n ≡ 0 → ⊥) → at + 2 ≤ length l → get_or l (at + 1) 0 < 256 → get_or l at 0 ≡ 1 → ReadsSteps l (at + 2) (n - 1) (get_or l (at + 1) 0) r → ReadsSection l at n r
+  pub section_read_at : (n : ℕ) (r : Extent) → (n ≡ 0 → ⊥) → at + 2 ≤ length l → get_or l (at + 1) 0 < 256 → get_or l at 0 ≡ 1 → ReadsSteps l (at + 2) (n - 1)
+      (get_or l (at + 1) 0) r → ReadsSection l at n r
   section_read_at n r some h small one reads =
       let e : suc (n - 1) ≡ n = omega (arith, some) in
       subst (λ (k : ℕ). ReadsSection l at k r) e (section_read (n - 1) h r small one reads)

@@ -121,7 +121,8 @@ module _ (l : List ℕ) (at : ℕ) where
         let here : drop at l ≡ step_bytes (temperature u t) ++ drop next l = stands.here in
         let there : drop (at + 2) l ≡ to_le 2 t ++ drop next l = cc in
         let four : length (step_bytes (temperature u t)) ≡ 4 = omega (arith, length_to_le 2 t) in
-        let bytes : take 2 (drop (at + 2) l) ≡ to_le 2 t = ap (take 2) there ∙ ap (λ (k : ℕ). take k (to_le 2 t ++ drop next l)) (sym (length_to_le 2 t)) ∙ take-append_seam (to_le 2 t) (drop next l) in (
+        let bytes : take 2 (drop (at + 2) l) ≡ to_le 2 t = ap (take 2) there ∙ ap (λ (k : ℕ). take k (to_le 2 t ++ drop next l)) (sym (length_to_le 2 t))
+        ∙ take-append_seam (to_le 2 t) (drop next l) in (
           cc,
           ap le bytes ∙ le_to_le 2 t stands.allowed,
           omega (arith, four, long_enough (step_bytes (temperature u t)) (drop next l) stands.here (omega arith)),

@@ -151,7 +151,8 @@ module _ (rs : List LogRecord) (r : LogRecord) where
             ap (λ (b : Bool). eqb (record_in rs i).kind update_kind && (committed (transaction_in rs i) || b) && not
             (synced (card i) (transaction_in rs i) || syncs_from (card i) (transaction_in rs i) r)) (sym none)
             ∙ sym (due_old i h) ∙ d in
-            and_in (due_here i ∙ fewer (eqb (record_in rs i).kind update_kind) (committed (transaction_in rs i)) (synced (card i) (transaction_in rs i)) (syncs_from (card i) (transaction_in rs i) r) d')
+            and_in (due_here i ∙ fewer (eqb (record_in rs i).kind update_kind) (committed (transaction_in rs i)) (synced (card i) (transaction_in rs i))
+            (syncs_from (card i) (transaction_in rs i) r) d')
             (and_right (due (more rs r) i) (eqb (card i) k && side_is l (record_side (record_in rs i))) e')
 
         go : (ltb i (length rs) ≡ true) ⊎ (ltb i (length rs) ≡ false) → (rewrites (more rs r) l k i ≡ true) ⊎ (rewrites (more rs r) l k i ≡ false) → rewrites (more rs r) l k i ≡ false
@@ -203,7 +204,8 @@ module _ (rs : List LogRecord) (r : LogRecord) (l : Language) (k : ℕ) (same : 
           → cond (rewrites rs l k n) (record_text (record_in (more rs r) n)) (rewritten rs l k n s) ≡ cond (rewrites rs l k n) (record_text (record_in rs n)) (rewritten rs l k n s)
       go (inl a) = ap (λ (q : LogRecord). cond (rewrites rs l k n) (record_text q) (rewritten rs l k n s)) (in_old rs r n (ltb-true n (length rs) a))
       go (inr a) =
-          let none : rewrites rs l k n ≡ false = ap (λ (b : Bool). b && (eqb (record_card (record_in rs n)) k && side_is l (record_side (record_in rs n)))) (due_past rs n (ltb-false n (length rs) a)) in
+          let none : rewrites rs l k n ≡ false = ap (λ (b : Bool). b && (eqb (record_card (record_in rs n)) k && side_is l (record_side (record_in rs n))))
+          (due_past rs n (ltb-false n (length rs) a)) in
           rw none
 
   pub text_same : (s : List ℕ) → rewritten (more rs r) l k (length (more rs r)) s ≡ rewritten rs l k (length rs) s

@@ -218,7 +218,8 @@ module _ (d : ℕ) (y : OneDesk) (k : Kept d y) (pairs : Pairs) (lines : ℕ) (f
       let one : rewritable d y.image rs pairs i ≡ true = every_out (rewritable d y.image rs pairs) (length rs)
       (and_right (leb lines (length rs)) (every (rewritable d y.image rs pairs) (length rs)) h) i g in
       subst (λ (n : ℕ). (bears d (at k.cs n) ≡ true) × ((at k.cs n).pair.x < (recovery_pair pairs n).x)) here
-      (subst (λ (c : Cards). (bears d (at c (record_card (record_in rs i))) ≡ true) × ((at c (record_card (record_in rs i))).pair.x < (recovery_pair pairs (record_card (record_in rs i))).x)) (decoded d y k)
+      (subst (λ (c : Cards). (bears d (at c (record_card (record_in rs i))) ≡ true) ×
+      ((at c (record_card (record_in rs i))).pair.x < (recovery_pair pairs (record_card (record_in rs i))).x)) (decoded d y k)
       (go (or_cases (not (due rs i)) (marks && up) one)))
     where
       marks : Bool

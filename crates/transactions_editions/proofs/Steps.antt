@@ -279,7 +279,8 @@ module _ (d : ℕ) (y : OneDesk) (c : ℕ → Bool) (w : Holds d y c) (s : Sent)
 
       go : ((pt || rt) ≡ true) ⊎ ((writes_out d ocmd && wt) ≡ true) → written_out ors ocmd.card v.reach (length ors) ≡ true
       go (inl e) = two (or_cases pt rt e)
-      go (inr e) = absurd (never_both (and_left (is_write ocmd) (expects_mark d ocmd) (and_left (is_write ocmd && expects_mark d ocmd) (leaves_mark d ocmd) (and_left (writes_out d ocmd) wt e))) unwritten)
+      go (inr e) = absurd (never_both
+          (and_left (is_write ocmd) (expects_mark d ocmd) (and_left (is_write ocmd && expects_mark d ocmd) (leaves_mark d ocmd) (and_left (writes_out d ocmd) wt e))) unwritten)
 
   done_new : (d ≡ 0 → ⊥) → Done d ors (at (decode V1 y.image) ocmd.card) (record { sent = s; line = line })
   done_new some r live b = go (tells (subst (λ (n : ℕ). here.pair.x ≤ n) same_x live) b)

@@ -178,7 +178,8 @@ module _ (d : ℕ) (small : d < 65536) (start : Follower) (begun : Going d start
           )
 
       -- The next line is written out.
-      module _ (line : ℕ) (from : reach ≤ line) (is_due_lem : due_for rs k line ≡ true) (skip : written_out rs k reach line ≡ true) (e : next_step d rs k false (saw d reach) ≡ telling (writing true) line)
+      module _ (line : ℕ) (from : reach ≤ line) (is_due_lem : due_for rs k line ≡ true) (skip : written_out rs k reach line ≡ true)
+          (e : next_step d rs k false (saw d reach) ≡ telling (writing true) line)
           (inner : line < length rs) where
         abbrev r : LogRecord
         r = record_in rs line

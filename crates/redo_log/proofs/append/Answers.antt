@@ -6,7 +6,8 @@ use Rattle.redo_log.proofs.Steps.{step_bad, step_misfit, step_full, step_room, s
 use Rattle.redo_log.proofs.append.Goals as goal
 
 pub returns-then-not-s : goal.returns-then-not-s
-returns-then-not-s c = let all = step_bad c.scan_of-s.result c.args.log.now c.args.kind c.args.body.now c.args.budget c.scan_of-s.ensures (not-true _ c.if-not-s.true) in record { number = all.0; log = all.1 }
+returns-then-not-s c = let all = step_bad c.scan_of-s.result c.args.log.now c.args.kind c.args.body.now c.args.budget c.scan_of-s.ensures
+    (not-true _ c.if-not-s.true) in record { number = all.0; log = all.1 }
 
 pub returns-then-not-may_join : goal.returns-then-not-may_join
 returns-then-not-may_join c =

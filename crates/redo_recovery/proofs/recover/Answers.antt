@@ -13,7 +13,8 @@ below : (i : ℕ) {n m : ℕ} → n ≡ m → i < n → i < m
 below i e h = subst (λ (k : ℕ). i < k) e h
 
 pub returns-then-check-ne0 : goal.returns-then-check-ne0
-returns-then-check-ne0 c = let all = answers_bad (pairs_of c.args.s.now c.args.x.now) c.args.log.now c.args.image.now (checked_bad c.args.log.now c.check.ensures c.if-check-ne0.true) in record { answer = all.0; image = all.1 }
+returns-then-check-ne0 c = let all = answers_bad (pairs_of c.args.s.now c.args.x.now) c.args.log.now c.args.image.now
+    (checked_bad c.args.log.now c.check.ensures c.if-check-ne0.true) in record { answer = all.0; image = all.1 }
 
 pub count-count-requires : goal.count-count-requires
 count-count-requires c = checked_good c.args.log.now c.check.ensures c.if-check-ne0.false

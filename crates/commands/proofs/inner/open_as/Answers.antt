@@ -68,7 +68,8 @@ returns-in_default c =
     let numbers = fields_of (format_of c.args.v) c.args.bytes.now in
     let none = is_untold (all (pair_checks numbers)) (update numbers) (sym c.in_default.is ∙ c.opens.ensures) in
     untold _ (by_rules_lem (format_of c.args.v) c.args.bytes.now c.read_u16.ensures c.fixed-fixed.ensures c.if-bytes-fixed-2.false
-    (c.all_zero.ensures ∙ ap (λ (n : ℕ). zeros (part n (36 - n) c.args.bytes.now)) c.blank_at-blank.ensures) c.if-not-all_zero.false (pairs_fail numbers (sym c.act_ok.ensures ∙ c.if-not-act_ok.false) none))
+    (c.all_zero.ensures ∙ ap (λ (n : ℕ). zeros (part n (36 - n) c.args.bytes.now)) c.blank_at-blank.ensures) c.if-not-all_zero.false
+    (pairs_fail numbers (sym c.act_ok.ensures ∙ c.if-not-act_ok.false) none))
 
 pub marks_ok-requires : goal.marks_ok-requires
 marks_ok-requires c =

@@ -6,7 +6,8 @@ use Rattle.redo_recovery.proofs.Writing.{write_unsound, write_length, write_fits
 use Rattle.redo_recovery.proofs.inner.apply.Goals as goal
 
 pub returns-then-not-ok : goal.returns-then-not-ok
-returns-then-not-ok c = let all = write_unsound c.args.image.now c.args.s.now c.args.x.now c.args.body.now c.args.ok c.requires.0 c.if-not-ok.true in record { number = all.0; image = all.1.0; kept = all.1.1 }
+returns-then-not-ok c =
+    let all = write_unsound c.args.image.now c.args.s.now c.args.x.now c.args.body.now c.args.ok c.requires.0 c.if-not-ok.true in record { number = all.0; image = all.1.0; kept = all.1.1 }
 
 pub entry_for-requires : goal.entry_for-requires
 entry_for-requires c = sym c.requires.0 ∙ c.if-not-ok.false

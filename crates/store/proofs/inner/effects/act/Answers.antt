@@ -15,7 +15,12 @@ use Rattle.store.proofs.Texts.{original_fits, translation_fits, shows_original, 
 use Rattle.store.proofs.inner.effects.act.Goals as goal
 
 pub returns-then-c-eq-VERIFY : goal.returns-then-c-eq-VERIFY
-returns-then-c-eq-VERIFY c = let act = c.if-c-eq-VERIFY.true in record { told = effect_is c.done.ensures (length_none c.args.e c.args.c (other 1 act refl) (other 2 act refl)); image = written_none (format_of c.args.v) c.args.image.now c.args.c (raise c.args.e c.args.c) c.args.text.now (other 3 act refl) (other 4 act refl); reply = shows_none_lem (card_at (format_of c.args.v) c.args.image.now c.args.c.card) c.args.c c.args.reply.now (other 1 act refl) (other 2 act refl) }
+returns-then-c-eq-VERIFY c =
+    let act = c.if-c-eq-VERIFY.true in record {
+      told = effect_is c.done.ensures (length_none c.args.e c.args.c (other 1 act refl) (other 2 act refl));
+      image = written_none (format_of c.args.v) c.args.image.now c.args.c (raise c.args.e c.args.c) c.args.text.now (other 3 act refl) (other 4 act refl);
+      reply = shows_none_lem (card_at (format_of c.args.v) c.args.image.now c.args.c.card) c.args.c c.args.reply.now (other 1 act refl) (other 2 act refl);
+    }
 
 pub copy_text-requires : goal.copy_text-requires
 copy_text-requires c =

@@ -10,7 +10,8 @@ use Rattle.store.proofs.Running.{Running}
 use Rattle.store.proofs.inner.run.many.Given as goal
 
 abbrev pub invariant-loop-count : goal.invariant-loop-count
-invariant-loop-count l = Running (format_of l.v) l.room l.initial.image l.initial.reply l.stream l.initial.lines l.image l.reply l.lines l.at l.count × (l.checked ≡ sound (format_of l.v) l.image) × (l.room ≡ length l.initial.lines / per_line)
+invariant-loop-count l = Running (format_of l.v) l.room l.initial.image l.initial.reply l.stream l.initial.lines l.image l.reply l.lines l.at l.count ×
+    (l.checked ≡ sound (format_of l.v) l.image) × (l.room ≡ length l.initial.lines / per_line)
 
 abbrev pub decreases-loop-count : goal.decreases-loop-count
 decreases-loop-count l = length l.stream - l.at

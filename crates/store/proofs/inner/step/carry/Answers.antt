@@ -28,7 +28,8 @@ number-number-requires c = (c.requires.4, c.requires.5)
 
 pub returns-then-number-ne-ACCEPTED : goal.returns-then-number-ne-ACCEPTED
 returns-then-number-ne-ACCEPTED c =
-    let table : c.number-number.result ≡ first (judge_rows (entry_at (format_of c.args.v) c.args.image.now c.args.c.card c.args.c.language) c.args.c (room_of c.args.image.now) (length c.args.reply.now)) =
+    let table : c.number-number.result ≡ first
+    (judge_rows (entry_at (format_of c.args.v) c.args.image.now c.args.c.card c.args.c.language) c.args.c (room_of c.args.image.now) (length c.args.reply.now)) =
     rw (← c.entry_at-e.ensures, ← c.room.ensures) (c.number-number.ensures ∙ sym (rows_formed c.entry_at-e.result c.args.c c.room.result (length c.args.reply.now) c.requires.4)) in
     let judged = as_refused (format_of c.args.v) c.args.image.now c.args.c c.args.reply.now table c.if-number-ne-ACCEPTED.true in let all = exits
     (refuses (format_of c.args.v) c.args.image.now c.args.c c.args.text.now c.args.reply.now judged c.if-number-ne-ACCEPTED.true)
@@ -38,7 +39,8 @@ returns-then-number-ne-ACCEPTED c =
 
 pub act-effect-requires : goal.act-effect-requires
 act-effect-requires c =
-    let table : c.number-number.result ≡ first (judge_rows (entry_at (format_of c.args.v) c.args.image.now c.args.c.card c.args.c.language) c.args.c (room_of c.args.image.now) (length c.args.reply.now)) =
+    let table : c.number-number.result ≡ first
+    (judge_rows (entry_at (format_of c.args.v) c.args.image.now c.args.c.card c.args.c.language) c.args.c (room_of c.args.image.now) (length c.args.reply.now)) =
     rw (← c.entry_at-e.ensures, ← c.room.ensures) (c.number-number.ensures ∙ sym (rows_formed c.entry_at-e.result c.args.c c.room.result (length c.args.reply.now) c.requires.4)) in
     let zero = c.if-number-ne-ACCEPTED.false in
     let judged = as_accepted (format_of c.args.v) c.args.image.now c.args.c c.args.reply.now table zero in
@@ -49,7 +51,8 @@ act-effect-requires c =
       c.entry_at-e.ensures,
       lent_fits (format_of c.args.v) c.args.image.now c.args.c c.args.text.now c.args.reply.now judged zero c.entry_at-e.ensures,
       omega (arith, room, c.requires.3),
-      accepted_none c.entry_at-e.result c.args.c c.room.result (length c.args.reply.now) (sym (c.number-number.ensures ∙ sym (rows_formed c.entry_at-e.result c.args.c c.room.result (length c.args.reply.now) c.requires.4)) ∙ zero) 7,
+      accepted_none c.entry_at-e.result c.args.c c.room.result (length c.args.reply.now)
+          (sym (c.number-number.ensures ∙ sym (rows_formed c.entry_at-e.result c.args.c c.room.result (length c.args.reply.now) c.requires.4)) ∙ zero) 7,
       c.requires.4,
       c.requires.5,
     )
@@ -59,7 +62,8 @@ store_stamps-requires c = omega (arith, entry_lies (format_of c.args.v) c.args.i
 
 pub returns : goal.returns
 returns c =
-    let table : c.number-number.result ≡ first (judge_rows (entry_at (format_of c.args.v) c.args.image.now c.args.c.card c.args.c.language) c.args.c (room_of c.args.image.now) (length c.args.reply.now)) =
+    let table : c.number-number.result ≡ first
+    (judge_rows (entry_at (format_of c.args.v) c.args.image.now c.args.c.card c.args.c.language) c.args.c (room_of c.args.image.now) (length c.args.reply.now)) =
     rw (← c.entry_at-e.ensures, ← c.room.ensures) (c.number-number.ensures ∙ sym (rows_formed c.entry_at-e.result c.args.c c.room.result (length c.args.reply.now) c.requires.4)) in
     let zero = c.if-number-ne-ACCEPTED.false in
     let entry = c.entry_at-e.ensures in

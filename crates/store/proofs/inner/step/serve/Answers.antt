@@ -33,7 +33,8 @@ count-requires c = header_in _ _ c.requires
 pub returns-then-count-c : goal.returns-then-count-c
 returns-then-count-c c =
     let command = c.args.command.now in record {
-      served = serves (serve_no_card (format_of c.args.v) c.args.image.now command c.args.reply.now c.requires (is_told (formed (format_of c.args.v) c.args.command.now) (sym c.in-By.is ∙ c.open_as.ensures)).0
+      served = serves (serve_no_card (format_of c.args.v) c.args.image.now command c.args.reply.now c.requires
+          (is_told (formed (format_of c.args.v) c.args.command.now) (sym c.in-By.is ∙ c.open_as.ensures)).0
           (rw (← c.fields-c.ensures, ← c.count.ensures) (le-ltb _ _ c.if-count-c.true))) c.refusal-then-count-c.ensures refl refl;
       kept = c.requires;
     }
@@ -64,7 +65,8 @@ returns c =
     let command = c.args.command.now in
     let reply = c.args.reply.now in
     let done = c.carry.ensures in
-    let left = serves (serve_found (format_of c.args.v) image command reply c.requires (is_told (formed (format_of c.args.v) c.args.command.now) (sym c.in-By.is ∙ c.open_as.ensures)).0 c.fields-c.ensures
+    let left = serves (serve_found (format_of c.args.v) image command reply c.requires
+    (is_told (formed (format_of c.args.v) c.args.command.now) (sym c.in-By.is ∙ c.open_as.ensures)).0 c.fields-c.ensures
     (behind_place (format_of c.args.v) command c.fixed-start.ensures) (rw (← c.count.ensures) c.if-count-c.false)) done.answer
     done.image done.reply in record {
       served = left;

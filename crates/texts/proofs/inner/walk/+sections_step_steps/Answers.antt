@@ -4,7 +4,27 @@ use Prim.Native.Nat.{◌+◌}
 use native.Mathlib.Omega.{arith}
 use Rattle.texts.specs.inner.Walk.{StepsWalked}
 use Rattle.texts.specs.declared.inner.walk.Walk.TheVariants.{Same, Differ}
-use Rattle.texts.proofs.Walking.{places as same-places, opened_both, pair_fits, sections_open, sections_walked, pair_other, pair_words, words_fit, drops_fit, pair_drops, sections_here, pair_sections, steps_done, steps_fewer, steps_more, pair_first, steps_differ, steps_behind, steps_on}
+use Rattle.texts.proofs.Walking.{
+  places as same-places,
+  opened_both,
+  pair_fits,
+  sections_open,
+  sections_walked,
+  pair_other,
+  pair_words,
+  words_fit,
+  drops_fit,
+  pair_drops,
+  sections_here,
+  pair_sections,
+  steps_done,
+  steps_fewer,
+  steps_more,
+  pair_first,
+  steps_differ,
+  steps_behind,
+  steps_on,
+}
 use Rattle.texts.proofs.inner.walk.+sections_step_steps.Goals as goal
 
 pub sections-overflow_add-i : goal.sections-overflow_add-i
