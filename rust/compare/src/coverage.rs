@@ -138,7 +138,7 @@ kinds! {
     TextsTies 2 0 "drops exactly half a degree apart: near, refused by rounding"
     InputLengths 2 0 "the program: inputs of 65,536 bytes, of 65,537"
     ExitStatus 1 0 "the program: ended with status 0"
-    ClosedPipes 2 0 "the program: output to a closed pipe, ended by the signal; where that is ignored, with status 0"
+    ClosedPipes 2 0 "the program: output to a closed pipe, ended with status 0; and where the signal of one is ignored"
     WholeOutputs 4 0 "whole outputs in process: too long, bad store, runs to the end, to a cut"
     OutputLines 5 0 ".. of no command, 1 to 9, 10 to 99, 100 to 999, 1,000 and more"
     MostLines 1 0 ".. of 1,258 commands, the most that an input takes"
