@@ -110,6 +110,7 @@ pub fn ask(queue: Queue, lent: usize, new: Waiting) -> LockOutcome
 }
 
 // The desk and start `desk` leaves (rules 7.12 and 7.13).
+#[inline(always)]
 pub fn leave(queue: Queue, lent: usize, desk: u32) -> LockOutcome
     ensures { Turns lent (state queue) (leaves desk) result.answer (state result.queue) }
 {
