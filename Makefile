@@ -9,8 +9,7 @@ SHELL = /bin/bash
 
 run:
 	@echo "proving the program and what it is made of: some three minutes from nothing"
-	@rt check cards 2>&1 | grep --line-buffered -E "^rt: "
-	target/bin/cards < crates/cards/stdin
+	@cd crates/cards && rt run < stdin 2> >(grep --line-buffered -E "^rt: " >&2)
 
 test:
 	.ci/run
