@@ -283,8 +283,15 @@ enum lupaniele_queue_field {
 enum lupaniele_kept { LUPANIELE_KEPT_COUNT = 0, LUPANIELE_KEPT_LARGEST_S = 1, LUPANIELE_KEPT_LARGEST_X = 2 };
 
 /* The steps of a structured text (rule 12.3), and the units of a drop. */
-enum lupaniele_step_kind { LUPANIELE_WORDS = 2, LUPANIELE_DROP = 3, LUPANIELE_SECTION = 4 };
-enum lupaniele_unit { LUPANIELE_CELSIUS = 67, LUPANIELE_FAHRENHEIT = 70 };
+enum lupaniele_step_kind {
+    LUPANIELE_WORDS = 2,  /* texts::WORDS */
+    LUPANIELE_DROP = 3,   /* texts::DROP */
+    LUPANIELE_SECTION = 4 /* texts::SECTION */
+};
+enum lupaniele_unit {
+    LUPANIELE_CELSIUS = 67,   /* text_drops::CELSIUS */
+    LUPANIELE_FAHRENHEIT = 70 /* text_drops::FAHRENHEIT */
+};
 
 /* What a desk has seen of a card (rule 16.24): so many numbers. */
 #define LUPANIELE_SEEN 4
@@ -345,10 +352,12 @@ enum lupaniele_unit { LUPANIELE_CELSIUS = 67, LUPANIELE_FAHRENHEIT = 70 };
 #define LUPANIELE_MOST_INPUT  65536  /* program::MOST_INPUT */
 #define LUPANIELE_OUTPUT_SIZE 238518 /* program::MOST_OUTPUT */
 
-/* Structured texts: sections within one another; steps of a section and bytes of words; tenths of a degree. */
-#define LUPANIELE_DEEPEST    8 /* texts::DEEPEST */
-#define LUPANIELE_MOST_STEPS 255
-#define LUPANIELE_MOST_WORDS 255
+/* Structured texts: the byte that a section begins with; sections within one another; steps of a section and bytes of
+   words; tenths of a degree. */
+#define LUPANIELE_SECTION_BEGINS 1 /* texts::SECTION_BEGINS */
+#define LUPANIELE_DEEPEST        8 /* texts::DEEPEST */
+#define LUPANIELE_MOST_STEPS     255
+#define LUPANIELE_MOST_WORDS     255
 
 /* The stack that a call needs at most, in bytes, its return address counted (tools/stack finds it in the object code).
    LUPANIELE_STACK_MOST is for all but lupaniele_output. memcpy, memmove and memset are the C library's: they count as a
@@ -1049,7 +1058,7 @@ static inline void lupaniele_text_section(struct lupaniele_writer *writer) {
     }
     begun = lupaniele_text_grow(writer, 2);
     if (begun != NULL) {
-        begun[0] = 1;
+        begun[0] = LUPANIELE_SECTION_BEGINS;
         begun[1] = 0;
         writer->counts[writer->depth++] = writer->length - 1;
     }

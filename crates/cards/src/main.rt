@@ -15,12 +15,12 @@ const READ_AT_MOST: usize = 65537;
 fn read_full<R: Read>(from: &mut R, into: &mut [u8]) -> usize
     ensures { result ≤ length into.new }
 {
+    // Kept: (d) `read_exact` does not tell how many bytes there were, `read_to_end` wants a heap, and both ask again where a read was interrupted.
     let mut done = 0;
     while done < into.len() {
         match from.read(&mut into[done..]) {
-            Ok(0) => return done,
+            Ok(0) | Err(_) => break,
             Ok(count) => done += count,
-            Err(_) => return done,
         }
     }
     done

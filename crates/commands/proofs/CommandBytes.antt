@@ -1,10 +1,10 @@
 -- A command in bytes. Assumes nothing.
-use Prim.Native.Nat.{ℕ, ◌+◌, ◌≤◌, ◌<◌}
+use Prim.Native.Nat.{ℕ, ◌+◌, ◌-◌, ◌≤◌, ◌<◌}
 use native.Mathlib.Omega.{arith}
 use mathlib.Core.Path.{◌≡◌, refl, sym, ap, subst, ◌∙◌}
 use mathlib.Core.List.{List, [], ◌∷◌, ◌++◌}
 use mathlib.Core.Bool.{Bool, true, false, ◌&&◌, ◌||◌}
-use borrow.Author.Tests.{eqb-true, eq-eqb, ne_eqb, leb-true}
+use borrow.Author.Tests.{eqb-true, eq-eqb, leb-true}
 use lib.Dec.{eqb, leb, lit<, lit≤}
 use lib.ListN.{length, drop, replicate, length-drop, take-append-drop}
 use lib.Seq.{drop-drop}
@@ -14,47 +14,44 @@ use Rattle.lists.proofs.Tests.{and_in, and_left, and_right}
 use Rattle.lists.proofs.Bytes.{Bytes_cons, Bytes_nil, Bytes_append, Bytes_replicate, Bytes_drop, Bytes_part, zeros_means}
 use Rattle.lists.proofs.Le.{le_to_le, to_le_le, le_part_bound, Bytes_to_le}
 use Rattle.lists.proofs.Parts.{length_part, drop_left}
-use Rattle.commands.specs.Command.{reads_translation, writes_translation, well_formed, FitsCommand}
+use Rattle.lists.specs.Table.{all}
+use Rattle.commands.specs.Command.{reads_translation, writes_translation, act_checks, pair_checks, well_formed, FitsCommand}
 use Rattle.commands.specs.Bytes.{mark_at, pair_at, language_at, mark_bytes, pair_bytes, middle_bytes, last_bytes, blanks, fields_of, payload, extent, formed, parsed, command_bytes}
-use Rattle.stamps.specs.Stamp.{FitsPair, FitsMark}
-use Rattle.formats.specs.Format.{Format, V1, V2, translations, fixed, update_at}
+use Rattle.stamps.specs.Stamp.{mark_whole, FitsPair, FitsMark}
+use Rattle.formats.specs.Format.{Format, V1, V2, translations, fixed, update_at, blank_at}
 use Rattle.commands.specs.declared.Command.{Command}
 use Rattle.stamps.specs.declared.Mark.{Mark}
 use Rattle.stamps.specs.declared.Pair.{Pair}
-use Rattle.commands.specs.declared.Parsed.TheVariants.{Malformed, Formed}
-use Rattle.commands.proofs.Rules.{command_rules}
+use Rattle.std.specs.Prelude.{Some, None}
+use Rattle.commands.proofs.Rules.{by_parts, command_rules}
 
 -- A parse by the one test of the bytes.
-pub parsed_formed : (f : Format) (bytes : List ℕ) → formed f bytes ≡ true → parsed f bytes ≡ Formed (fields_of f bytes)
+pub parsed_formed : (f : Format) (bytes : List ℕ) → formed f bytes ≡ true → parsed f bytes ≡ Some (fields_of f bytes)
 unfolding parsed
 parsed_formed f bytes e = rw e
 
-pub parsed_malformed : (f : Format) (bytes : List ℕ) → formed f bytes ≡ false → parsed f bytes ≡ Malformed
+pub parsed_malformed : (f : Format) (bytes : List ℕ) → formed f bytes ≡ false → parsed f bytes ≡ None
 unfolding parsed
 parsed_malformed f bytes e = rw e
 
--- Bytes fewer than a command's fixed part are none.
-pub formed_short : (f : Format) (bytes : List ℕ) → length bytes < fixed f → formed f bytes ≡ false
-unfolding formed
-formed_short f bytes h = rw (ne_eqb (length bytes) (extent f bytes) (λ e. omega arith))
-
 -- The test of the bytes, for numbers and tests that were found in them.
-pub formed_by : (f : Format) (bytes : List ℕ) {count size : ℕ} {z w : Bool} → count ≡ field 50 2 bytes → size ≡ fixed f → z ≡ zeros (blanks f bytes)
-    → w ≡ well_formed (fields_of f bytes) → formed f bytes ≡ (eqb (length bytes) (size + count) && z && w)
+formed_by : (f : Format) (bytes : List ℕ) {count : ℕ} {z w : Bool} → count ≡ field 50 2 bytes → z ≡ zeros (blanks f bytes)
+    → w ≡ well_formed (fields_of f bytes) → formed f bytes ≡ (eqb (length bytes) (fixed f + count) && z && w)
 unfolding formed
-formed_by f bytes p n q r = rw (r, q, n, p)
+formed_by f bytes p q r = rw (r, q, p)
 
--- The same, test by test.
-module _ (f : Format) (bytes : List ℕ) {count size : ℕ} (p : count ≡ field 50 2 bytes) (n : size ≡ fixed f) where
-  pub not_whole : (length bytes ≡ size + count → ⊥) → formed f bytes ≡ false
-  not_whole h = formed_by f bytes p n refl refl ∙ rw (ne_eqb (length bytes) (size + count) h)
+-- The test of the bytes, part by part.
+pub formed_parts : (f : Format) (bytes : List ℕ) → formed f bytes ≡
+    ((eqb (length bytes) (extent f bytes) && zeros (blanks f bytes))
+    && (all (act_checks (fields_of f bytes))
+    && (all (pair_checks (fields_of f bytes)) && (mark_whole (mark_at 36 bytes) && mark_whole (mark_at 42 bytes)))))
+unfolding formed fields_of
+formed_parts f bytes = ap (λ (b : Bool). eqb (length bytes) (extent f bytes) && zeros (blanks f bytes) && b) (by_parts (fields_of f bytes))
 
-  module _ (h : length bytes ≡ size + count) {z : Bool} (q : z ≡ zeros (blanks f bytes)) where
-    pub not_blank : z ≡ false → formed f bytes ≡ false
-    not_blank g = formed_by f bytes p n q refl ∙ rw (eq-eqb (length bytes) (size + count) h, g)
-
-    pub by_rules_lem : z ≡ true → {w : Bool} → w ≡ well_formed (fields_of f bytes) → formed f bytes ≡ w
-    by_rules_lem g r = formed_by f bytes p n q r ∙ rw (eq-eqb (length bytes) (size + count) h, g)
+-- The first part, for a count and a place that were found in them.
+pub whole_by : (f : Format) (bytes : List ℕ) {count size blank : ℕ} → count ≡ field 50 2 bytes → size ≡ fixed f → blank ≡ blank_at f → length bytes ≡ size + count
+    → zeros (part blank (36 - blank) bytes) ≡ (eqb (length bytes) (extent f bytes) && zeros (blanks f bytes))
+whole_by f bytes {count} {size} p n b h = rw (b, eq-eqb (length bytes) (extent f bytes) (h ∙ rw (n, p)))
 
 -- What holds of bytes that are a command.
 pub record Formedness (f : Format) (bytes : List ℕ) : Type 0 where
@@ -73,6 +70,10 @@ formedness f bytes h =
   where
     front : (eqb (length bytes) (extent f bytes) && zeros (blanks f bytes)) ≡ true
     front = and_left (eqb (length bytes) (extent f bytes) && zeros (blanks f bytes)) (well_formed (fields_of f bytes)) h
+
+-- Their numbers keep the rules.
+pub formed_rules : (f : Format) (bytes : List ℕ) → formed f bytes ≡ true → well_formed (fields_of f bytes) ≡ true
+formed_rules f bytes h = (formedness f bytes h).rules
 
 -- Their fixed part is whole.
 pub fixed_in : (f : Format) (bytes : List ℕ) → formed f bytes ≡ true → fixed f ≤ length bytes
@@ -240,12 +241,12 @@ module _ (c : Command) (text : List ℕ) where
 
   pub formed_command : (f : Format) → FitsCommand c → c.language < translations f → well_formed c ≡ true → length text ≡ c.length → formed f (command_bytes f c text) ≡ true
   formed_command f g h w l =
-      formed_by f (command_bytes f c text) (sym (length_back f g)) refl refl (ap well_formed (sym (fields_command f g h)))
+      formed_by f (command_bytes f c text) (sym (length_back f g)) refl (ap well_formed (sym (fields_command f g h)))
       ∙ and_in (and_in (eq-eqb (length (command_bytes f c text)) (fixed f + c.length) (length_command f ∙ rw l)) (blank_back f)) w
 
   -- Parsing the bytes of a command gives it back.
-  pub parsed_command_lem : (f : Format) → FitsCommand c → c.language < translations f → well_formed c ≡ true → length text ≡ c.length → parsed f (command_bytes f c text) ≡ Formed c
-  parsed_command_lem f g h w l = parsed_formed f (command_bytes f c text) (formed_command f g h w l) ∙ ap Formed (fields_command f g h)
+  pub parsed_command_lem : (f : Format) → FitsCommand c → c.language < translations f → well_formed c ≡ true → length text ≡ c.length → parsed f (command_bytes f c text) ≡ Some c
+  parsed_command_lem f g h w l = parsed_formed f (command_bytes f c text) (formed_command f g h w l) ∙ ap Some (fields_command f g h)
 
 parts_here : (at count : ℕ) (bytes : List ℕ) → part at count bytes ++ drop (at + count) bytes ≡ drop at bytes
 unfolding part

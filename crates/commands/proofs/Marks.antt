@@ -8,14 +8,10 @@ use borrow.Author.Tests.{eqb-true}
 use lib.Dec.{eqb}
 use lib.ListN.{length}
 use Rattle.lists.specs.Le.{field}
-use Rattle.lists.specs.Table.{all}
 use Rattle.lists.proofs.Tests.{and_left, and_right}
 use Rattle.slices.proofs.Joined.{joined}
 use Rattle.stamps.specs.Stamp.{mark_whole}
-use Rattle.formats.specs.Format.{Format}
-use Rattle.commands.specs.Command.{act_checks, pair_checks, well_formed}
-use Rattle.commands.specs.Bytes.{mark_at, fields_of}
-use Rattle.commands.proofs.Rules.{marks_left}
+use Rattle.commands.specs.Bytes.{mark_at}
 
 -- Twelve zero bytes are two marks that are none.
 pub no_marks : (bytes : List ℕ) → 52 ≤ length bytes → {a b : ℕ} → a ≡ field 36 8 bytes → b ≡ field 44 4 bytes → (eqb a 0 && eqb b 0) ≡ true →
@@ -29,9 +25,3 @@ no_marks bytes h {a} {b} p q t =
     let two : field 38 4 bytes ≡ 0 = omega (arith, whole, front, rest) in
     let three : field 42 2 bytes ≡ 0 = omega (arith, whole, front, rest) in
     rw (one, two, three, last)
-
--- The marks are left, where the rules before them hold.
-pub marks_read : (f : Format) (bytes : List ℕ) → all (act_checks (fields_of f bytes)) ≡ true → all (pair_checks (fields_of f bytes)) ≡ true →
-    (mark_whole (mark_at 36 bytes) && mark_whole (mark_at 42 bytes)) ≡ well_formed (fields_of f bytes)
-unfolding fields_of
-marks_read f bytes = marks_left (fields_of f bytes)

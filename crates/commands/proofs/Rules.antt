@@ -30,17 +30,6 @@ by_parts c =
     (all_append (pair_checks c) (mark_whole c.expected ∷ mark_whole c.next ∷ []) ∙ ap (λ (b : Bool). all (pair_checks c) && b)
     (two_hold (mark_whole c.expected) (mark_whole c.next)))
 
--- Test by test.
-module _ (c : Command) where
-  pub act_fails : all (act_checks c) ≡ false → false ≡ well_formed c
-  act_fails h = sym (by_parts c ∙ rw h)
-
-  pub pairs_fail : all (act_checks c) ≡ true → all (pair_checks c) ≡ false → false ≡ well_formed c
-  pairs_fail h g = sym (by_parts c ∙ rw (h, g))
-
-  pub marks_left : all (act_checks c) ≡ true → all (pair_checks c) ≡ true → marks_hold c ≡ well_formed c
-  marks_left h g = sym (by_parts c ∙ rw (h, g))
-
 -- The rules that go by the act, for each act: k says that the act is known, x that the mode is exclusive, z that the edition is zero, l that the length
 -- is, m that the language is at most 3, o that it is zero.
 by_write_original : (x z l o : Bool) → (x && z && o) ≡ (x && beq false (not z) && (l || true) && o)

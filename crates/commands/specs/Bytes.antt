@@ -1,6 +1,6 @@
 -- A command in bytes (rules 3.1 and 3.3).
 -- Assumes nothing.
-use Rattle.std.specs.Prelude.{ℕ, ◌+◌, ◌-◌, List, [], ◌∷◌, ◌++◌, Bool, cond, ◌&&◌, length, drop, get_or, replicate, eqb}
+use Rattle.std.specs.Prelude.{ℕ, ◌+◌, ◌-◌, List, [], ◌∷◌, ◌++◌, Bool, cond, ◌&&◌, length, drop, get_or, replicate, eqb, Option, Some, None}
 use Rattle.lists.specs.Parts.{part, zeros}
 use Rattle.lists.specs.Le.{to_le, field}
 use Rattle.stamps.specs.Stamp.{no_pair, no_mark}
@@ -9,8 +9,6 @@ use Rattle.stamps.specs.declared.Pair.{Pair}
 use Rattle.formats.specs.Format.{Format, V1, V2, fixed, update_at, blank_at}
 use Rattle.commands.specs.declared.Command.{Command}
 use Rattle.commands.specs.Command.{well_formed}
-use Rattle.commands.specs.declared.Parsed.{Parsed}
-use Rattle.commands.specs.declared.Parsed.TheVariants.{Malformed, Formed}
 use Rattle.numbers.specs.Numbers.{MALFORMED}
 
 -- A commit mark at an offset (rule 3.1): the expected one at 36, the next one at 42.
@@ -57,18 +55,18 @@ extent f bytes = fixed f + field 50 2 bytes
 unfoldable pub formed : Format → List ℕ → Bool
 formed f bytes = eqb (length bytes) (extent f bytes) && zeros (blanks f bytes) && well_formed (fields_of f bytes)
 
-unfoldable pub parsed : Format → List ℕ → Parsed
-parsed f bytes = cond (formed f bytes) (Formed (fields_of f bytes)) Malformed
+unfoldable pub parsed : Format → List ℕ → Option Command
+parsed f bytes = cond (formed f bytes) (Some (fields_of f bytes)) None
 
 -- What a parse is: number 1 and zeros where it is malformed, else the command, with nothing refused yet.
-abbrev pub parsed_number : Parsed → ℕ
-parsed_number Malformed = MALFORMED
-parsed_number (Formed c) = 0
+abbrev pub parsed_number : Option Command → ℕ
+parsed_number None = MALFORMED
+parsed_number (Some c) = 0
 
-abbrev pub parsed_command : Parsed → Command
-parsed_command Malformed =
+abbrev pub parsed_command : Option Command → Command
+parsed_command None =
     record { act = 0; mode = 0; language = 0; card = 0; verifier = no_pair; opened = no_pair; expected = no_mark; next = no_mark; edition = 0; length = 0 }
-parsed_command (Formed c) = c
+parsed_command (Some c) = c
 
 -- The bytes of a command, the other way round.
 abbrev pub mark_bytes : Mark → List ℕ

@@ -1,17 +1,17 @@
 // A command: its numbers, its rules, and its bytes.
 #![tactic(auto)]
 
+pub mod formed;
 pub mod inner;
 
 ghost use Rattle.std.specs.Prelude.{◌≡◌, cond, ◌+◌, ◌≤◌, length};
 ghost use Rattle.lists.specs.Table.{all};
 ghost use Rattle.commands.specs.Command.{Language, reads_translation, writes_translation, reads, writes, opens_none, update, act_checks, verifier_checks, pair_checks, well_formed};
-ghost use Rattle.commands.specs.declared.Opened.TheVariants.{Malformed, By};
 ghost use Rattle.commands.specs.Bytes.{mark_at, pair_at, language_at, parsed};
 ghost use Rattle.formats.specs.Format.{format_of};
 
 use formats::Version;
-use stamps::{EXCLUSIVE, Mark, Pair, mark_whole, session_ok, stamp_valid};
+use stamps::{EXCLUSIVE, Mark, NO_MARK, NO_PAIR, Pair, mark_whole, session_ok, stamp_valid};
 
 // ---- A command: its numbers and its rules.
 
@@ -31,7 +31,22 @@ pub struct Command {
     pub length: u16,
 }
 
+// The command of zeros.
+const NO_COMMAND: Command = Command {
+    act: 0,
+    mode: 0,
+    language: 0,
+    card: 0,
+    verifier: NO_PAIR,
+    opened: NO_PAIR,
+    expected: NO_MARK,
+    next: NO_MARK,
+    edition: 0,
+    length: 0,
+};
+
 // The acts.
+// Kept: the act of lent bytes is any byte, and the guard judges a command of any act, by the definition `judged`: an enum of the five would be a narrower type.
 pub const READ_ORIGINAL: u8 = 1;
 
 pub const READ_TRANSLATION: u8 = 2;
@@ -46,6 +61,7 @@ pub const VERIFY: u8 = 5;
 const MOST_LANGUAGE: u8 = 3;
 
 impl Command {
+    // Kept: four, one for each act: one with the act as a parameter would be `self.act == act`, and the rules name the four (`reads`, `writes`).
     // Act 1 reads the original.
     pub fn reads_original(self) -> bool
         ensures { result ≡ reads Language.original self }
@@ -76,6 +92,7 @@ impl Command {
 
     // The rules that go by the act: a write is exclusive; act 4 names an edition and no other act does; only a write has a payload; acts 2 and 4
     // name a language, 0 to 3, and the others have 0 there.
+    #[tactic(auto, using(crate::proofs::Rules::of_write_original, crate::proofs::Rules::of_write_translation, crate::proofs::Rules::of_read_translation, crate::proofs::Rules::of_others))]
     fn act_ok(self) -> bool
         ensures { result ≡ all (act_checks self) }
     {
@@ -101,8 +118,7 @@ impl Command {
     fn opens_none(self) -> bool
         ensures { result ≡ opens_none self }
     {
-        let opened = self.opened;
-        (opened.s == 0) & (opened.x == 0)
+        self.opened == NO_PAIR
     }
 
     // The update pair: the verifier where none was sent.
@@ -116,6 +132,7 @@ impl Command {
     }
 
     // The verifier's stamps are valid, and none is above the update pair's.
+    #[tactic(auto, unfolding(lists::specs::Table::all, lists::specs::Table::all_from))]
     fn verifier_ok(self) -> bool
         ensures { result ≡ all (verifier_checks self) }
     {
@@ -129,52 +146,40 @@ impl Command {
 
     // The update pair, where the mode and the two pairs keep their rules. It is the verifier or what was sent, and each way has its own tests: where none
     // was sent, those of a session are all.
-    fn opens(self) -> Opened
-        ensures { result ≡ cond (all (pair_checks self)) (By (update self)) Malformed }
+    #[tactic(auto, using(crate::proofs::Opening::opens_verifier, crate::proofs::Opening::opens_no_verifier, crate::proofs::Opening::opens_sent, crate::proofs::Opening::opens_not_sent))]
+    fn opens(self) -> Option<Pair>
+        ensures { result ≡ cond (all (pair_checks self)) (Some (update self)) None }
     {
         let verifier = self.verifier;
         let sent = self.opened;
         if self.opens_none() {
             if session_ok(self.mode, verifier) {
-                return Opened::By(verifier);
+                return Some(verifier);
             }
-            return Opened::Malformed;
+            return None;
         }
         if session_ok(self.mode, sent) & self.verifier_ok() {
-            return Opened::By(sent);
+            return Some(sent);
         }
-        Opened::Malformed
+        None
     }
 
     // Whether the numbers keep the rules of a command.
+    #[tactic(auto, using(crate::proofs::Rules::by_parts, crate::proofs::Opening::is_some_told))]
     pub fn well_formed(self) -> bool
         ensures { result ≡ well_formed self }
     {
         if !self.act_ok() {
             return false;
         }
-        let Opened::By(_) = self.opens() else {
+        if self.opens().is_none() {
             return false;
-        };
+        }
         mark_whole(self.expected) & mark_whole(self.next)
     }
 }
 
 // ---- A command in bytes.
-
-// Lent bytes as a command.
-#[derive(Clone, Copy)]
-pub enum Parsed {
-    Malformed,
-    Formed(Command),
-}
-
-// Lent bytes as a command, of which the update pair is told.
-#[derive(Clone, Copy)]
-pub enum Opened {
-    Malformed,
-    By(Pair),
-}
 
 // Where the fields begin that stand at one place in every version.
 const ACT: usize = 0;
@@ -207,6 +212,7 @@ fn mark_at(bytes: &[u8], at: usize) -> Mark
     }
 }
 
+// Kept: a mark and a pair are read field by field, in widths of their own; one function for both would take the widths and give no type.
 // The pair that begins at `at`.
 fn pair_at(bytes: &[u8], at: usize) -> Pair
     requires { at + 16 ≤ length bytes.now }
@@ -223,18 +229,16 @@ fn language_at(v: Version, bytes: &[u8]) -> u8
     requires { 52 ≤ length bytes.now }
     ensures { result ≡ language_at (format_of v) bytes.now }
 {
-    if v {
-        return bytes[LANGUAGE];
+    match v {
+        Version::V1 => 0,
+        Version::V2 => bytes[LANGUAGE],
     }
-    0
 }
 
-// Lent bytes as a command of a version.
-pub fn parse(v: Version, bytes: &[u8]) -> Parsed
+// Lent bytes as a command of a version, where they are one.
+#[tactic(auto, unfolding(crate::specs::Bytes::parsed))]
+pub fn parse(v: Version, bytes: &[u8]) -> Option<Command>
     ensures { result ≡ parsed (format_of v) bytes.now }
 {
-    let Opened::By(_) = inner::open_as(v, bytes) else {
-        return Parsed::Malformed;
-    };
-    Parsed::Formed(inner::fields(v, bytes))
+    Some(inner::formed(v, bytes)?.command)
 }

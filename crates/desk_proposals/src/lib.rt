@@ -18,6 +18,7 @@ pub struct Known {
 }
 
 // A proposal's number, its pair (zeros with a refusal), and what the desk knows then.
+// Kept: a number beside the pair, since `proposed` of specs says all three of a refusal too (rules 10.6 and 10.7).
 #[derive(Clone, Copy)]
 pub struct Proposed {
     pub number: u8,
@@ -30,11 +31,9 @@ impl Known {
     pub fn learn(self, pair: Pair) -> Known
         ensures { result ≡ learnt self pair }
     {
-        let known = self.pair;
         Known {
-            desk: self.desk,
-            start: self.start,
-            pair: larger_of_each(known, pair),
+            pair: larger_of_each(self.pair, pair),
+            ..self
         }
     }
 
@@ -42,19 +41,17 @@ impl Known {
     pub fn propose(self, mode: u8) -> Proposed
         ensures { result ≡ proposed self mode }
     {
-        let number = inner::proposal_number(self, mode);
-        if number != ACCEPTED {
-            return Proposed {
-                number,
+        match inner::pair_for(self, mode) {
+            Ok(pair) => Proposed {
+                number: ACCEPTED,
+                pair,
+                known: self.learn(pair),
+            },
+            Err(refusal) => Proposed {
+                number: refusal as u8,
                 pair: NO_PAIR,
                 known: self,
-            };
-        }
-        let pair = inner::pair_for(self, mode);
-        Proposed {
-            number,
-            pair,
-            known: self.learn(pair),
+            },
         }
     }
 }

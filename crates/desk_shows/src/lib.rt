@@ -3,7 +3,10 @@
 
 ghost use Rattle.std.specs.Prelude.{◌≡◌, ◌≤◌, length, take};
 ghost use Rattle.lists.specs.Table.{first, settled};
+ghost use Rattle.numbers.specs.Refusals.{number_of};
 ghost use Rattle.desk_shows.specs.Show.{held_text, of, behind_asked, show_rows, shown_number, shown_part};
+
+use numbers::{Refusal, number_of};
 
 // The languages that can be asked for.
 #[derive(Clone, Copy)]
@@ -22,32 +25,34 @@ fn behind_asked(edition: u16, from: u16, asked: Asked) -> bool
     }
 }
 
-// The number: 8 if a length is beyond its buffer, else 6 if the translation is asked for and behind.
-fn number_of(beyond: bool, behind: bool) -> u8
-    ensures { result ≡ first (show_rows beyond behind) }
+// Whether the text is shown: 8 if a length is beyond its buffer, else 6 if the translation is asked for and behind.
+fn judged(beyond: bool, behind: bool) -> Result<(), Refusal>
+    ensures { number_of result ≡ first (show_rows beyond behind) }
 {
     if beyond {
-        return numbers::REPLY_SHORT;
+        return Err(Refusal::ReplyShort);
     }
     if behind {
-        return numbers::EDITION_WRONG;
+        return Err(Refusal::EditionWrong);
     }
-    0
+    Ok(())
 }
 
 // The text in a buffer where nothing is refused, else nothing of it.
-fn part_of<'a>(buffer: &'a [u8], count: usize, number: u8) -> &'a [u8]
-    requires { number ≡ 0 → count ≤ length buffer.now }
-    ensures { (result.now ≡ take (settled number count 0) buffer.now) × (result.ref_ptr ≡ buffer.entry.ref_ptr) }
+fn part_of<'a>(buffer: &'a [u8], count: usize, judged: Result<(), Refusal>) -> &'a [u8]
+    requires { number_of judged ≡ 0 → count ≤ length buffer.now }
+    ensures { (result.now ≡ take (settled (number_of judged) count 0) buffer.now) × (result.ref_ptr ≡ buffer.entry.ref_ptr) }
 {
-    if number == 0 {
-        return &buffer[..count];
+    match judged {
+        Ok(()) => &buffer[..count],
+        Err(_) => &buffer[..0],
     }
-    &buffer[..0]
 }
 
 // The text that a desk shows, and the number by which nothing is shown: all at the desk's own word. The part, an empty one too, begins
 // where the buffer of the language asked for begins.
+// Kept: the number beside the part, not a Result, since a refusal hands back an empty part too (`place`, `part`: its place is promised); a length
+// beside its buffer, not a shorter slice, since one beyond the buffer is answered with 8 (`show_rows`).
 pub fn shown<'a>(
     original: &'a [u8],
     translation: &'a [u8],
@@ -63,8 +68,8 @@ pub fn shown<'a>(
     ensures place { result.ref_ptr ≡ of asked original.entry.ref_ptr translation.entry.ref_ptr }
 {
     let beyond = (original.len() < original_length) | (translation.len() < translation_length);
-    let given = number_of(beyond, behind_asked(edition, from, asked));
-    *number = given;
+    let given = judged(beyond, behind_asked(edition, from, asked));
+    *number = number_of(given);
     match asked {
         Asked::Original => part_of(original, original_length, given),
         Asked::Translation => part_of(translation, translation_length, given),

@@ -2,29 +2,28 @@
 ghost use Rattle.std.specs.Prelude.{◌≡◌};
 ghost use Rattle.texts.specs.Agree.{Compared, verdict, told};
 
-use texts::Agreement;
+use numbers::Refusal;
+use texts::Disagreement;
 
 // The number of an answer.
-fn number_of(answer: Agreement) -> u8
+fn number_of(answer: Result<(), Disagreement>) -> u8
     ensures { result ≡ (told answer).number }
 {
     match answer {
-        Agreement::Agree => 0,
-        Agreement::FirstIll => numbers::FIRST_ILL,
-        Agreement::SecondIll => numbers::SECOND_ILL,
-        Agreement::Unmatched(_) => numbers::UNMATCHED,
+        Ok(()) => 0,
+        Err(Disagreement::FirstIll) => Refusal::FirstIll as u8,
+        Err(Disagreement::SecondIll) => Refusal::SecondIll as u8,
+        Err(Disagreement::Unmatched(_)) => Refusal::Unmatched as u8,
     }
 }
 
 // The place of an answer.
-fn place_of(answer: Agreement) -> u64
+fn place_of(answer: Result<(), Disagreement>) -> u64
     ensures { result ≡ (told answer).place }
 {
     match answer {
-        Agreement::Agree => 0,
-        Agreement::FirstIll => 0,
-        Agreement::SecondIll => 0,
-        Agreement::Unmatched(at) => at as u64,
+        Err(Disagreement::Unmatched(at)) => at as u64,
+        _ => 0,
     }
 }
 

@@ -1,5 +1,6 @@
 // What a desk knows of one card, and the pairs that it proposes (docs/RULES.md, section 10). `known` is an array of two stamps, s and then x, both
 // zero at first; a desk keeps one for each card.
+// Kept: an array of two stamps for a pair, and a number for a refusal, as C lends and reads them (lupaniele_learn, lupaniele_propose).
 ghost use Rattle.std.specs.Prelude.{◌≡◌};
 ghost use Rattle.lists.specs.Table.{settled};
 ghost use Rattle.desk_proposals.specs.Propose.{learnt, proposed};

@@ -1,4 +1,5 @@
 // The lock queue of one card, for Rust and C.
+// Kept: arrays of one length side by side, and counts beside them, as C lends them (lupaniele_ask, lupaniele_leave, lupaniele_lapse).
 ghost use Rattle.std.specs.Prelude.{◌≡◌};
 ghost use Rattle.lock_queue.specs.Queue.{waiting};
 ghost use Rattle.lock_queue.specs.Requests.{asks, leaves, lapses};

@@ -1,4 +1,5 @@
 // What a desk shows, for Rust and C.
+// Kept: a length beside each buffer, a number for the language and one for a refusal, as C lends and reads them (lupaniele_shown).
 ghost use Rattle.std.specs.Prelude.{◌≡◌};
 ghost use Rattle.desk_shows.specs.Show.{held_text};
 ghost use Rattle.exports_desks.specs.Numbers.{asked_of, asked_number, shown_length};

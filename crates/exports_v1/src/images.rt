@@ -6,6 +6,9 @@ ghost use Rattle.image.specs.Image.{sound, make_number, fresh};
 ghost use Rattle.image.specs.Convert.{converted, convert_number};
 ghost use Rattle.store.specs.Runs.{ServesTo};
 
+use formats::Version;
+use numbers::number_of;
+
 // Makes a fresh image of `cards` cards with room `room`: 0, or 14 and nothing written.
 #[unsafe(no_mangle)]
 pub extern "C" fn lupaniele_make(image: &mut [u8], cards: u64, room: u64) -> u8
@@ -13,7 +16,7 @@ pub extern "C" fn lupaniele_make(image: &mut [u8], cards: u64, room: u64) -> u8
     ensures bytes { image.new
         ≡ settled (make_number V1 cards room (length image.old)) (fresh V1 cards room) image.old }
 {
-    image::make(formats::V1, image, cards as usize, room as usize)
+    number_of(image::make(Version::V1, image, cards as usize, room as usize))
 }
 
 // Whether the lent bytes are a sound image.
@@ -21,7 +24,7 @@ pub extern "C" fn lupaniele_make(image: &mut [u8], cards: u64, room: u64) -> u8
 pub extern "C" fn lupaniele_sound(image: &[u8]) -> bool
     ensures { result ≡ sound V1 image.now }
 {
-    image::sound(formats::V1, image)
+    image::sound(Version::V1, image)
 }
 
 // One request on an image. The answer's number is returned and its seven reply fields are written to `fields`; the text of an accepted read
@@ -35,7 +38,7 @@ pub extern "C" fn lupaniele_answer(
 ) -> u8
     ensures { ServesTo V1 image.old command.now reply.old (result ∷ fields.new) image.new reply.new }
 {
-    store::answer(formats::V1, image, command, reply, fields)
+    store::answer(Version::V1, image, command, reply, fields)
 }
 
 // Converts an image of version 1 into one of version 2 in the whole of target: 0, or 9 or 14 and nothing written.
@@ -45,5 +48,5 @@ pub extern "C" fn lupaniele_convert(image: &[u8], target: &mut [u8]) -> u8
     ensures bytes { target.new
         ≡ settled (convert_number image.now (length target.old)) (converted image.now) target.old }
 {
-    image::convert(image, target)
+    number_of(image::convert(image, target))
 }

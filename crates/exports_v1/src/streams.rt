@@ -4,13 +4,15 @@ ghost use Rattle.store.specs.Ran.{RunsTo};
 ghost use Rattle.formats.specs.Format.{V1};
 ghost use Rattle.stream.specs.Stream.{next_at, end_of, onward, is_whole};
 
+use formats::Version;
+
 // What stands at a place of a stream: true, and in `end` the place behind it, if a whole command does; else false, and the place itself.
 #[unsafe(no_mangle)]
 pub extern "C" fn lupaniele_next(stream: &[u8], at: u64, end: &mut u64) -> bool
     ensures whole { result ≡ is_whole (next_at V1 stream.now at) }
     ensures end { end.new ≡ onward at (next_at V1 stream.now at) }
 {
-    let next = stream::next_from(formats::V1, stream, at as usize);
+    let next = stream::next_from(Version::V1, stream, at as usize);
     *end = next as u64;
     !(next == at as usize)
 }
@@ -20,7 +22,7 @@ pub extern "C" fn lupaniele_next(stream: &[u8], at: u64, end: &mut u64) -> bool
 pub extern "C" fn lupaniele_end(stream: &[u8]) -> u64
     ensures { result ≡ end_of V1 stream.now }
 {
-    stream::end_of(formats::V1, stream) as u64
+    stream::end_of(Version::V1, stream) as u64
 }
 
 // Judges the whole commands of a stream in their order, with the image checked once, until no whole command or no room for a line is left: how many there were,
@@ -36,7 +38,7 @@ pub extern "C" fn lupaniele_run(
     ensures { RunsTo V1 image.old stream.now reply.old lines.old
         (record { count = result; end = end.new }) image.new reply.new lines.new }
 {
-    let ran = store::run(formats::V1, image, stream, reply, lines);
+    let ran = store::run(Version::V1, image, stream, reply, lines);
     *end = ran.end as u64;
     ran.count as u64
 }

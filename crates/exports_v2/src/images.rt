@@ -5,6 +5,9 @@ ghost use Rattle.lists.specs.Table.{settled};
 ghost use Rattle.image.specs.Image.{sound, make_number, fresh};
 ghost use Rattle.store.specs.Runs.{ServesTo};
 
+use formats::Version;
+use numbers::number_of;
+
 // Makes a fresh image of version 2, of `cards` cards with room `room`: 0, or 14 and nothing written.
 #[unsafe(no_mangle)]
 pub extern "C" fn lupaniele_make_v2(image: &mut [u8], cards: u64, room: u64) -> u8
@@ -12,7 +15,7 @@ pub extern "C" fn lupaniele_make_v2(image: &mut [u8], cards: u64, room: u64) -> 
     ensures bytes { image.new
         ≡ settled (make_number V2 cards room (length image.old)) (fresh V2 cards room) image.old }
 {
-    image::make(formats::V2, image, cards as usize, room as usize)
+    number_of(image::make(Version::V2, image, cards as usize, room as usize))
 }
 
 // Whether the lent bytes are a sound image of version 2.
@@ -20,7 +23,7 @@ pub extern "C" fn lupaniele_make_v2(image: &mut [u8], cards: u64, room: u64) -> 
 pub extern "C" fn lupaniele_sound_v2(image: &[u8]) -> bool
     ensures { result ≡ sound V2 image.now }
 {
-    image::sound(formats::V2, image)
+    image::sound(Version::V2, image)
 }
 
 // One request of version 2 on an image of version 2, answered as `lupaniele_answer` answers one of version 1.
@@ -33,5 +36,5 @@ pub extern "C" fn lupaniele_answer_v2(
 ) -> u8
     ensures { ServesTo V2 image.old command.now reply.old (result ∷ fields.new) image.new reply.new }
 {
-    store::answer(formats::V2, image, command, reply, fields)
+    store::answer(Version::V2, image, command, reply, fields)
 }

@@ -1,16 +1,18 @@
 -- The versions of images and of commands, as data: what differs between them, and nothing else (rules 2.3, 2.4, 2.5 and 3.1).
 -- Assumes nothing.
-use Rattle.std.specs.Prelude.{ℕ, Bool, true, false}
+use Rattle.std.specs.Prelude.{ℕ}
+use Rattle.formats.specs.declared.Version.{Version}
+use Rattle.formats.specs.declared.Version.TheVariants as Version
 
 -- The versions.
 pub data Format : Type 0 where
   V1 : Format
   V2 : Format
 
--- The version that a value of the code names: whether it is the second (rules 2.3 and 15.3).
-abbrev pub format_of : Bool → Format
-format_of false = V1
-format_of true = V2
+-- The version that a value of the code names (rules 2.3 and 15.3).
+abbrev pub format_of : Version → Format
+format_of Version.V1 = V1
+format_of Version.V2 = V2
 
 -- The number that a header has for its version (rules 2.3 and 15.3).
 abbrev pub version : Format → ℕ

@@ -1,19 +1,24 @@
 -- Laws of an entry that judges a command. Assumes nothing.
 use Prim.Native.Nat.{ℕ, suc, ◌+◌, ◌≤◌}
 use native.Mathlib.Omega.{arith}
-use mathlib.Core.Path.{◌≡◌, refl, sym, ap, ◌∙◌}
+use mathlib.Core.Path.{◌≡◌, refl, sym, ◌∙◌}
 use mathlib.Core.Logic.{◌↔◌, ◌⊎◌}
-use mathlib.Core.Bool.{Bool, true, false, not, ◌&&◌, or-false}
+use mathlib.Core.Bool.{Bool, true, false, cond, not, ◌&&◌, or-false}
 use borrow.Author.Tests.{le-ltb, ltb-false, eqb-true, eqb-false, not-false}
 use lib.Dec.{T, eqb, ltb}
 use Rattle.lists.proofs.Tests.{never_both, or_fails}
 use Rattle.stamps.specs.Stamp.{shared, exclusive, stale, most_ahead, stamp_t, too_far, mark_fits}
 use Rattle.commands.specs.Command.{original, reads_translation, writes_translation, reads, writes, verifier, update, well_formed}
 use Rattle.lists.specs.Table.{first, no_row, applies, earlier, once, settled}
-use Rattle.guard.specs.Judge.{behind, last_edition, entry_rows, judge_rows, raise, judged}
+use Rattle.guard.specs.Judge.{behind, last_edition, act_rows, entry_rows, judge_rows, raise, judged}
 use Rattle.commands.specs.declared.Command.{Command}
 use Rattle.guard.specs.declared.Entry.{Entry}
 use Rattle.guard.specs.declared.Judged.{Judged}
+use Rattle.std.specs.Prelude.{Result, is_ok}
+use Rattle.numbers.specs.declared.Refusal.{Refusal}
+use Rattle.numbers.specs.Numbers.{EDITION_WRONG, REPLY_SHORT}
+use Rattle.numbers.specs.Refusals.{number_of}
+use Rattle.numbers.proofs.Refusals.{of_ok, of_err}
 use Rattle.lists.proofs.Table.{given, unapplied, none_applies, settled_new, settled_old}
 use Rattle.commands.proofs.Rules.{command_rules}
 use Rattle.stamps.proofs.Stamp.{larger_old, near_raises}
@@ -27,9 +32,6 @@ pub no_payload : (room : ℕ) (c : Command) → well_formed c ≡ true → write
 no_payload room c h a b =
     let none : c.length ≡ 0 = eqb-true c.length 0 (sym (or-false (eqb c.length 0)) ∙ rw (a, b) at (command_rules c h).length) in
     le-ltb room c.length (omega arith)
-
-pub read_no_payload : (room : ℕ) (c : Command) → well_formed c ≡ true → {a : ℕ} → c.act ≡ a → eqb a 3 ≡ false → eqb a 4 ≡ false → ltb room c.length ≡ false
-read_no_payload room c h p f g = no_payload room c h (ap (λ (n : ℕ). eqb n 3) p ∙ f) (ap (λ (n : ℕ). eqb n 4) p ∙ g)
 
 -- What an accepted command passed, row by row.
 pub record Accepted (e : Entry) (c : Command) (room lent : ℕ) : Type 0 where
@@ -114,6 +116,27 @@ module _ (e : Entry) (c : Command) (room lent : ℕ) where
   -- The rows from 3 on decide on a well-formed command.
   pub rows_formed : well_formed c ≡ true → first (judge_rows e c room lent) ≡ first (entry_rows e c room lent)
   rows_formed h = rw h
+
+  -- The judgement of a well-formed command, by the outcome of the rows from 3 on.
+  pub judged_refused : (o : Result Unit Refusal) → well_formed c ≡ true → number_of o ≡ first (entry_rows e c room lent) → is_ok o ≡ false →
+      ◌≡◌ {A = Judged} (record { number = number_of o; entry = e }) (judged e c room lent)
+  judged_refused o h p r = judged_by e c room lent (p ∙ sym (rows_formed h)) (sym (settled_old (raise e c) e (of_err o r)))
+
+  pub judged_raised : (o : Result Unit Refusal) → well_formed c ≡ true → number_of o ≡ first (entry_rows e c room lent) → is_ok o ≡ true →
+      ◌≡◌ {A = Judged} (record { number = number_of o; entry = raise e c }) (judged e c room lent)
+  judged_raised o h p r = judged_by e c room lent (p ∙ sym (rows_formed h)) (sym (settled_new (raise e c) e (of_ok o r)))
+
+  -- The rows that go by the act, of a command that reads.
+  pub rows_original : well_formed c ≡ true → reads original c ≡ true → first (act_rows e c room lent) ≡ cond (ltb lent e.original) REPLY_SHORT 0
+  rows_original h r =
+      let act : c.act ≡ 1 = eqb-true c.act 1 r in
+      rw (no_payload room c h (rw act) (rw act), act, or-false (ltb lent e.original))
+
+  pub rows_translation : well_formed c ≡ true → reads_translation c ≡ true →
+      first (act_rows e c room lent) ≡ cond (behind e.edition e.from) EDITION_WRONG (cond (ltb lent e.translation) REPLY_SHORT 0)
+  rows_translation h r =
+      let act : c.act ≡ 2 = eqb-true c.act 2 r in
+      rw (no_payload room c h (rw act) (rw act), act, or-false (behind e.edition e.from))
 
 -- The stored stamps grow.
 pub raise_more : (e : Entry) (c : Command) → (e.pair.s ≤ (raise e c).pair.s) × (e.pair.x ≤ (raise e c).pair.x)

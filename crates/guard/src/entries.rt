@@ -3,10 +3,12 @@ ghost use Rattle.guard.specs.Judge.{judged};
 
 use crate::{Entry, Judged};
 use commands::Command;
+use commands::formed::Formed;
 use numbers::MALFORMED;
 
 impl Entry {
     // An entry takes a command and gives back the entry that then stands, with the number, for the room C and the length of the lent reply buffer.
+    #[tactic(auto, using(crate::proofs::Judge::judged_by))]
     pub fn judge(self, c: Command, room: u16, lent: usize) -> Judged
         ensures { result ≡ judged self c room lent }
     {
@@ -16,6 +18,10 @@ impl Entry {
                 entry: self,
             };
         }
-        self.judge_formed(c, room, lent)
+        let formed = Formed {
+            command: c,
+            pair: c.update(),
+        };
+        self.judge_formed(formed, room, lent)
     }
 }

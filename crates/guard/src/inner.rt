@@ -1,7 +1,7 @@
 // What other crates need, and what asks something of its caller.
 pub mod rows;
 
-ghost use Rattle.std.specs.Prelude.{◌≡◌, false, cond};
+ghost use Rattle.std.specs.Prelude.{◌≡◌, false};
 ghost use Rattle.commands.specs.Command.{update};
 ghost use Rattle.guard.specs.Judge.{editions_spent, raise};
 
@@ -10,54 +10,38 @@ use commands::Command;
 use stamps::{Pair, larger_of_each};
 
 impl Entry {
-    // The edition after an accepted command: writing an original raises it by 1.
-    fn next_edition(self, c: Command) -> u16
-        requires { editions_spent self c ≡ false }
-        ensures { result ≡ (raise self c).edition }
-    {
-        if c.writes_original() {
-            return self.edition + 1;
-        }
-        self.edition
-    }
-
-    // The entry after an accepted command, whose update pair is `new`.
+    // The entry after an accepted command, whose update pair is `new`: writing an original raises the edition by 1.
+    // Kept: the pair beside the command, and no `Formed`: history::inner folds over kept bytes, of which nobody says that they keep the rules.
+    #[tactic(auto, unfolding(crate::specs::Judge::raise))]
     pub fn raised(self, c: Command, new: Pair) -> Entry
         requires { (editions_spent self c ≡ false) × (new ≡ update c) }
         ensures { result ≡ raise self c }
     {
-        let next = c.next;
-        Entry {
+        let mut entry = Entry {
             pair: larger_of_each(self.pair, new),
-            mark: next,
-            edition: self.next_edition(c),
-            from: chosen(c.writes_translation(), c.edition, self.from),
-            original: chosen(c.writes_original(), c.length, self.original),
-            translation: chosen(c.writes_translation(), c.length, self.translation),
+            mark: c.next,
+            ..self
+        };
+        if c.writes_original() {
+            entry.edition += 1;
+            entry.original = c.length;
         }
+        if c.writes_translation() {
+            entry.from = c.edition;
+            entry.translation = c.length;
+        }
+        entry
     }
-}
-
-// The first where the test holds, else the second.
-fn chosen(test: bool, first: u16, second: u16) -> u16
-    ensures { result ≡ cond test first second }
-{
-    if test {
-        return first;
-    }
-    second
 }
 
 // A number with the reply fields of an entry, and the length of the text that is read.
 pub fn told(number: u8, entry: Entry, length: u16) -> Answer
     ensures { result ≡ record { number = number; pair = entry.pair; mark = entry.mark; edition = entry.edition; from = entry.from; length = length } }
 {
-    let pair = entry.pair;
-    let mark = entry.mark;
     Answer {
         number,
-        pair,
-        mark,
+        pair: entry.pair,
+        mark: entry.mark,
         edition: entry.edition,
         from: entry.from,
         length,

@@ -17,7 +17,7 @@ use stamps::{Mark, NO_MARK, NO_PAIR, Pair};
 pub fn behind(edition: u16, from: u16) -> bool
     ensures { result ≡ behind edition from }
 {
-    (from == 0) | !(from == edition)
+    (from == 0) | (from != edition)
 }
 
 // What the store keeps of one card beside its texts (Minuet: a guard's state for a shared resource): the largest pair accepted, the
@@ -43,6 +43,7 @@ pub const NO_ENTRY: Entry = Entry {
 };
 
 // The number that an entry gives, and the entry as it now is.
+// Kept: the entry stands beside a refusal too, and the definition `judged` speaks of the number.
 #[derive(Clone, Copy)]
 pub struct Judged {
     pub number: u8,
@@ -52,6 +53,7 @@ pub struct Judged {
 // ---- What is answered: a number and the seven reply fields.
 
 // A number and the seven reply fields.
+// Kept: the fields stand beside a refusal too, and the definition `replied` speaks of the number, as C has it.
 #[derive(Clone, Copy)]
 pub struct Answer {
     pub number: u8,
@@ -76,6 +78,7 @@ fn read_length(e: Entry, c: Command) -> u16
 }
 
 // The length field: that of the text where a read is accepted, and 0 with every other answer.
+#[tactic(auto, using(lists::proofs::Table::settled_new, lists::proofs::Table::settled_old))]
 fn length(judged: Judged, c: Command) -> u16
     ensures { result ≡ settled judged.number (read_length judged.entry c) 0 }
 {
@@ -89,7 +92,7 @@ fn length(judged: Judged, c: Command) -> u16
 fn is_blank(number: u8) -> bool
     ensures { result ≡ blank_reply number }
 {
-    (number == UNSOUND) | (number == MALFORMED) | (number == NO_CARD)
+    matches!(number, UNSOUND | MALFORMED | NO_CARD)
 }
 
 // The answer of a number whose reply fields are zeros.
@@ -107,6 +110,7 @@ pub fn refusal(number: u8) -> Answer
 }
 
 // The number with the seven reply fields: zeros for 9, 1 and 2, else the entry as it now is.
+#[tactic(auto, using(crate::proofs::Replies::replied_blank), unfolding(crate::specs::Replies::replied))]
 pub fn reply(judged: Judged, c: Command) -> Answer
     ensures { result ≡ replied judged.number judged.entry c }
 {

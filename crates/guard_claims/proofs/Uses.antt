@@ -15,7 +15,7 @@ use Rattle.lists.specs.Table.{all, all_from, applies, no_row, earlier}
 use Rattle.stamps.specs.Stamp.{stamp, stale, shared, exclusive, stamp_t, most_ahead, too_far, no_pair, no_mark}
 use Rattle.stamps.specs.declared.Pair.{Pair}
 use Rattle.commands.specs.declared.Command.{Command}
-use Rattle.commands.specs.declared.Parsed.TheVariants.{Malformed, Formed}
+use Rattle.std.specs.Prelude.{Some, None}
 use Rattle.commands.specs.Command.{verifier, update, well_formed, FitsCommand}
 use Rattle.commands.proofs.CommandBytes.{Bytes_command}
 use Rattle.commands.specs.Bytes.{fields_of, payload, parsed, parsed_number, parsed_command, formed, command_bytes}
@@ -40,7 +40,7 @@ one_of_none : parsed_number (parsed V1 []) ≡ 1
 unfolding formed le part
 one_of_none = (parses V1 []).number
 
-none_of_none : parsed_command (parsed V2 []) ≡ parsed_command Malformed
+none_of_none : parsed_command (parsed V2 []) ≡ parsed_command None
 unfolding formed le part
 none_of_none = (parses V2 []).blanks tt
 
@@ -80,7 +80,7 @@ largest_formed : T (well_formed largest)
 unfolding well_formed all all_from
 largest_formed = tt
 
-largest_back : parsed V2 (command_bytes V2 largest []) ≡ Formed largest
+largest_back : parsed V2 (command_bytes V2 largest []) ≡ Some largest
 largest_back = (command_comes_back V2 largest [] largest_fits (omega arith) largest_formed refl).0
 
 largest_text : payload V2 (command_bytes V2 largest []) ≡ []

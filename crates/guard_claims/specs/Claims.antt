@@ -1,6 +1,6 @@
 -- What is claimed of an entry that judges a command, and of commands in bytes. Proved in proofs/Claims.antt.
 -- Assumes nothing.
-use Rattle.std.specs.Prelude.{ℕ, suc, ◌+◌, ◌≤◌, ◌<◌, ◌≡◌, ◌↔◌, ◌⊎◌, List, [], ◌∷◌, false, not, T, length}
+use Rattle.std.specs.Prelude.{ℕ, suc, ◌+◌, ◌≤◌, ◌<◌, ◌≡◌, ◌↔◌, ◌⊎◌, List, [], ◌∷◌, false, not, T, length, Some, None}
 use Rattle.lists.specs.Parts.{Bytes}
 use Rattle.stamps.specs.Stamp.{shared, exclusive, stale, stamp_t, most_ahead, too_far}
 use Rattle.formats.specs.Format.{Format, V1, V2, translations}
@@ -12,7 +12,6 @@ use Rattle.guard.specs.Entry.{entry_sound, FitsEntry}
 use Rattle.commands.specs.declared.Command.{Command}
 use Rattle.guard.specs.declared.Entry.{Entry}
 use Rattle.stamps.specs.declared.Pair.{Pair}
-use Rattle.commands.specs.declared.Parsed.TheVariants.{Malformed, Formed}
 use Rattle.numbers.specs.Numbers.{MALFORMED}
 
 -- What holds of an entry that judges a command.
@@ -48,7 +47,7 @@ StaleStays = (mode : ℕ) (stored more new : Pair) → stored.s ≤ more.s → s
 pub record Parsing (f : Format) (bytes : List ℕ) : Type 0 where
   pub number : parsed_number (parsed f bytes) ≡ first (row (not (formed f bytes)) MALFORMED ∷ [])
   pub numbers : T (formed f bytes) → parsed_command (parsed f bytes) ≡ fields_of f bytes
-  pub blanks : T (not (formed f bytes)) → parsed_command (parsed f bytes) ≡ parsed_command Malformed
+  pub blanks : T (not (formed f bytes)) → parsed_command (parsed f bytes) ≡ parsed_command None
 
 abbrev pub Parses : Type 0
 Parses = (f : Format) (bytes : List ℕ) → Parsing f bytes
@@ -57,7 +56,7 @@ Parses = (f : Format) (bytes : List ℕ) → Parsing f bytes
 abbrev pub CommandComesBack : Type 0
 CommandComesBack =
     (f : Format) (c : Command) (text : List ℕ) → FitsCommand c → c.language < translations f → T (well_formed c) → length text ≡ c.length →
-    (parsed f (command_bytes f c text) ≡ Formed c) × (payload f (command_bytes f c text) ≡ text)
+    (parsed f (command_bytes f c text) ≡ Some c) × (payload f (command_bytes f c text) ≡ text)
 
 -- Bytes that are a command are the bytes of that command and its payload.
 abbrev pub BytesComeBack : Type 0

@@ -1,5 +1,5 @@
 -- What weighing, reading and keeping come to: the laws that the code of one request cites. Assumes nothing.
-use Prim.Native.Nat.{ℕ, zero, suc, ◌+◌, ◌-◌, ◌≤◌, min}
+use Prim.Native.Nat.{ℕ, zero, suc, ◌+◌, ◌≤◌, min}
 use native.Mathlib.Omega.{arith}
 use mathlib.Core.Path.{◌≡◌, refl, sym, ap, ◌∙◌}
 use mathlib.Core.Logic.{◌≢◌, ◌⊎◌, inl, inr}
@@ -7,10 +7,10 @@ use mathlib.Core.List.{List, [], ◌∷◌, reverse}
 use mathlib.Core.Bool.{Bool, true, false, cond, ◌&&◌, ◌||◌}
 use borrow.Author.Tests.{ltb-true, ltb-false, eqb-true, eqb-false, eq-eqb}
 use lib.Dec.{ltb, eqb}
-use lib.ListN.{length, take, drop}
+use lib.ListN.{length, take}
 use lib.Seq.{take_all}
 use Rattle.formats.specs.Format.{V1, fixed}
-use Rattle.lists.specs.Parts.{part, splice}
+use Rattle.lists.specs.Parts.{splice}
 use Rattle.lists.specs.Table.{row, first, settled}
 use Rattle.lists.proofs.Table.{first_then, settled_new, settled_old}
 use Rattle.lists.specs.Search.{last}
@@ -224,17 +224,6 @@ module _ (bytes : List ℕ) (c : Command) (room lent : ℕ) (e : Entry) (x : Tot
     weighs_accepted (reverse (commands V1 bytes)) c room lent j by_entry h (sym passes_is ∙ sym hb ∙ t),
     (hx.ends, λ z. fits_behind_lem bytes x.end x.count x.payloads c.length hx (sym hb ∙ t)),
   )
-
--- ---- a part of the bytes as a text
-
-module _ (s : List ℕ) (start end : ℕ) (t reply : List ℕ) (h : part start (end - start) s ≡ t) where
-  pub put_fits : length t ≤ length reply → 0 + length (take (end - start) (drop start s)) ≤ length reply
-  unfolding part
-  put_fits k = let long : length (take (end - start) (drop start s)) ≡ length t = ap length h in omega (arith, long, k)
-
-  pub put_is : splice 0 (take (end - start) (drop start s)) reply ≡ splice 0 t reply
-  unfolding part
-  put_is = ap (λ (v : List ℕ). splice 0 v reply) h
 
 -- ---- the exits of `carry`
 

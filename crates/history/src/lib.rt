@@ -6,7 +6,7 @@ pub mod inner;
 ghost use Rattle.std.specs.Prelude.{◌≡◌};
 ghost use Rattle.history.specs.Lent.{history_serve};
 
-use commands::Parsed;
+use formats::Version;
 use guard::Answer;
 use numbers::{MALFORMED, NO_CARD};
 
@@ -40,7 +40,7 @@ pub fn answer(
     ensures kept { kept.new ≡ (history_serve cards room kept.old used command.now reply.old).bytes }
     ensures reply { reply.new ≡ (history_serve cards room kept.old used command.now reply.old).reply }
 {
-    let Parsed::Formed(c) = commands::parse(formats::V1, command) else {
+    let Some(c) = commands::parse(Version::V1, command) else {
         return HistoryAnswer {
             answer: guard::refusal(MALFORMED),
             used,

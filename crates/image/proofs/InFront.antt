@@ -3,6 +3,7 @@ use Prim.Native.Nat.{ℕ, ◌≤◌, ◌<◌}
 use mathlib.Core.Path.{◌≡◌, refl, ap}
 use mathlib.Core.List.{List}
 use mathlib.Core.Bool.{Bool, true, false, ◌&&◌}
+use Rattle.std.specs.Prelude.{Some, None}
 use lib.ListN.{length, take}
 use lib.Dec.{leb, leb→le}
 use borrow.Author.Tests.{le-leb, lt-leb}
@@ -32,20 +33,19 @@ module _ (bytes : List ℕ) where
     unfolding good_front
     front_sound_lem h = rw (le-leb header_size (length bytes) header, le-leb (claimed bytes) (length bytes) (rw is at h), is)
 
-  -- Zeros where there is no image, else its numbers.
-  pub front_none : good_front bytes ≡ false → record { size = 0; cards = 0; room = 0 } ≡ front_of bytes
+  -- None where there is no image, else its numbers.
+  pub front_none : good_front bytes ≡ false → None ≡ front_of bytes
   front_none e = rw e
 
   pub front_there :
       (size cards room : ℕ) → good_front bytes ≡ true → size ≡ claimed bytes → cards ≡ count_of bytes → room ≡ room_of bytes
-      → record { size = size; cards = cards; room = room } ≡ front_of bytes
+      → Some (record { size = size; cards = cards; room = room }) ≡ front_of bytes
   front_there size cards room e is n c = rw (e, is, n, c)
 
 -- What is known of a good front: its header and its image are within the bytes and within the limits.
 pub record Fronting (bytes : List ℕ) : Type 0 where
   pub size : front_size bytes ≡ claimed bytes
-  pub cards_said : (front_of bytes).cards ≡ count_of bytes
-  pub room_said : (front_of bytes).room ≡ room_of bytes
+  pub said : front_of bytes ≡ Some (record { size = claimed bytes; cards = count_of bytes; room = room_of bytes })
   pub header : header_size ≤ length bytes
   pub within : claimed bytes ≤ length bytes
   pub small : claimed bytes ≤ most_bytes
@@ -65,8 +65,7 @@ good_front_lem bytes e =
     let w = shape V1 (count_of (take (claimed bytes) bytes)) (room_of (take (claimed bytes) bytes)) (shape_holds V1 (take (claimed bytes) bytes) (to_T s)) in
     record {
       size = rw e;
-      cards_said = rw e;
-      room_said = rw e;
+      said = rw e;
       header = a;
       within = b;
       small = rw (n, r) at w.size;

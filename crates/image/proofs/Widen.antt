@@ -207,32 +207,32 @@ module _ (image : List ℕ) {n c number : ℕ} (old target : List ℕ) (p : n �
   abbrev lent : ℕ
   lent = length old
 
-  by_the_image : number ≡ make_number V2 (count_of image) (room_of image) lent
-  by_the_image = answered ∙ rw (p, q)
+  abbrev made : Bool
+  made = makes V2 (count_of image) (room_of image) lent
 
-  pub not_made : sound V1 image ≡ true → number ≡ NOT_MADE → convert_number image lent ≡ NOT_MADE
-  not_made e g = rw e (go (makes V2 (count_of image) (room_of image) lent) (sym by_the_image ∙ g))
+  answered_by_image : number ≡ cond made 0 NOT_MADE
+  answered_by_image = answered ∙ rw (p, q)
+
+  left_by_image : target ≡ settled (cond made 0 NOT_MADE) (fresh V2 n c) old
+  left_by_image = left ∙ ap (λ (m : ℕ). settled m (fresh V2 n c) old) (rw (p, q))
+
+  -- Refused.
+  pub not_made : sound V1 image ≡ true → (number ≡ 0 → ⊥) →
+      (number ≡ convert_number image lent) × (target ≡ settled (convert_number image lent) (converted image) old)
+  not_made e some = rw e (go made answered_by_image left_by_image)
     where
-      go : (b : Bool) → cond b 0 NOT_MADE ≡ NOT_MADE → cond (not b) NOT_MADE 0 ≡ NOT_MADE
-      go true g = absurd (omega (arith, g))
-      go false g = refl
+      go : (b : Bool) → number ≡ cond b 0 NOT_MADE → target ≡ settled (cond b 0 NOT_MADE) (fresh V2 n c) old →
+          (number ≡ cond (not b) NOT_MADE 0) × (target ≡ settled (cond (not b) NOT_MADE 0) (converted image) old)
+      go true g l = absurd (some g)
+      go false g l = (g, l)
 
-  pub as_it_was : number ≡ NOT_MADE → target ≡ old
-  as_it_was g = left ∙ ap (λ (m : ℕ). settled m (fresh V2 n c) old) (sym answered ∙ g)
-
-  made_number : (number ≡ NOT_MADE → ⊥) → make_number V2 n c lent ≡ 0
-  made_number g = go (makes V2 n c lent) (λ e. g (answered ∙ e))
-    where
-      go : (b : Bool) → (cond b 0 NOT_MADE ≡ NOT_MADE → ⊥) → cond b 0 NOT_MADE ≡ 0
-      go true g = refl
-      go false g = absurd (g refl)
-
-  pub converts : sound V1 image ≡ true → (number ≡ NOT_MADE → ⊥) → convert_number image lent ≡ 0
-  converts e g = rw e (go (makes V2 (count_of image) (room_of image) lent) (sym (rw (p, q)) ∙ made_number g))
+  -- Made.
+  pub converts : sound V1 image ≡ true → number ≡ 0 → convert_number image lent ≡ 0
+  converts e none = rw e (go made (sym answered_by_image ∙ none))
     where
       go : (b : Bool) → cond b 0 NOT_MADE ≡ 0 → cond (not b) NOT_MADE 0 ≡ 0
       go true g = refl
       go false g = absurd (omega (arith, g))
 
-  pub begins : (number ≡ NOT_MADE → ⊥) → target ≡ encode V2 (widened_up_to 0 image)
-  begins g = left ∙ ap (λ (m : ℕ). settled m (fresh V2 n c) old) (made_number g) ∙ sym (none_widened image ∙ rw (p, q))
+  pub begins : number ≡ 0 → target ≡ encode V2 (widened_up_to 0 image)
+  begins none = left ∙ ap (λ (m : ℕ). settled m (fresh V2 n c) old) (sym answered ∙ none) ∙ sym (none_widened image ∙ rw (p, q))

@@ -1,6 +1,6 @@
 -- The image: cards, their bytes, and when bytes are a sound image (rules 2.1 to 2.9).
 -- Assumes nothing.
-use Rattle.std.specs.Prelude.{ℕ, zero, suc, ◌+◌, ◌-◌, ◌<◌, ◌≡◌, List, [], ◌∷◌, ◌++◌, Bool, ◌&&◌, cond, length, take, get_or, set, replicate, T, leb, eqb}
+use Rattle.std.specs.Prelude.{ℕ, zero, suc, ◌+◌, ◌-◌, ◌<◌, ◌≡◌, List, [], ◌∷◌, ◌++◌, Option, Some, None, Bool, ◌&&◌, cond, if◌then◌else◌, length, take, get_or, set, replicate, T, leb, eqb}
 use Rattle.lists.specs.Parts.{part, concat_map, tabulate, every, zeros, Bytes}
 use Rattle.lists.specs.Le.{le, field}
 use Rattle.lists.specs.Table.{all}
@@ -186,14 +186,11 @@ claimed bytes = size_of V1 (count_of bytes) (room_of bytes)
 unfoldable pub good_front : List ℕ → Bool
 good_front bytes = leb header_size (length bytes) && leb (claimed bytes) (length bytes) && sound V1 (take (claimed bytes) bytes)
 
--- The image in front: its size, its N and its C; zeros where the bytes begin with no sound image. (No image has size 0.)
+-- The size of the image in front, or 0 where the bytes begin with no sound image. (No image has size 0.)
 abbrev pub front_size : List ℕ → ℕ
 front_size bytes = cond (good_front bytes) (claimed bytes) 0
 
-abbrev pub front_of : List ℕ → Dimensions
+-- The image in front, if the bytes begin with a sound one: its size, its N and its C.
+abbrev pub front_of : List ℕ → Option Dimensions
 front_of bytes =
-    record {
-      size = front_size bytes;
-      cards = cond (good_front bytes) (count_of bytes) 0;
-      room = cond (good_front bytes) (room_of bytes) 0;
-    }
+    if good_front bytes then Some (record { size = claimed bytes; cards = count_of bytes; room = room_of bytes }) else None

@@ -1,6 +1,5 @@
 -- What the array of the places is known to be: a list of 32. Assumes nothing.
-use Prim.Native.Nat.{ℕ, ◌≤◌}
-use native.Mathlib.Omega.{arith}
+use Prim.Native.Nat.{ℕ}
 use mathlib.Core.Path.{◌≡◌, sym, ◌∙◌}
 use mathlib.Core.List.{List, map}
 use lib.ListN.{length, length-map}
@@ -17,7 +16,3 @@ unmapped f l e = sym (length-map l f) ∙ e
 
 pub places_long : (p : Places) (vs : List Val) → Is (row P.the_type) p vs → length p.at ≡ most_places
 places_long p vs h = search (unmapped, rules)
-
--- So many places are there.
-pub places_fit : (p : Places) (vs : List Val) {count : ℕ} → Is (row P.the_type) p vs → count ≤ most_places → count ≤ length p.at
-places_fit p vs h k = omega (arith, places_long p vs h)

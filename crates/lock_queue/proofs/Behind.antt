@@ -1,8 +1,14 @@
 -- Laws of one entry behind the others. Assumes nothing.
-use Prim.Native.Nat.{ℕ}
-use mathlib.Core.Path.{◌≡◌, refl}
-use mathlib.Core.List.{List, [], ◌∷◌, ◌++◌, map}
-use mathlib.Core.Bool.{Bool, true, false, not, ◌&&◌, ◌||◌}
+use Prim.Native.Nat.{ℕ, ◌+◌}
+use native.Mathlib.Omega.{arith}
+use lib.ListN.{length, take}
+use lib.Seq.{take-append_seam}
+use Rattle.std.specs.List.{list_all, enumerate_from}
+use Rattle.std.proofs.lemmas.List.{length_push}
+use Rattle.std.proofs.lemmas.Grind.{common_steps}
+use mathlib.Core.Path.{◌≡◌, refl, ap, ◌∙◌}
+use mathlib.Core.List.{List, [], ◌∷◌, ◌++◌, map, append_assoc}
+use mathlib.Core.Bool.{Bool, true, false, not, ◌&&◌, ◌||◌, and_assoc}
 use lib.Dec.{eqb}
 use Rattle.lists.proofs.Tests.{eqb_comm, all_append}
 use Rattle.lists.specs.Table.{all, all_from}
@@ -53,3 +59,19 @@ entries_more largest ws w =
     (waiting_formed w)
     (not (stands (desk w) (desks ws)))
     (within largest w))
+
+-- The entries from one on, each behind those before it, after entries that are already judged.
+judged_rest : (largest : Pair) (before ws : List Waiting) {n : ℕ} → length before ≡ n →
+    (entries_good largest before && list_all (λ (e : ℕ × Waiting). fits_behind largest (take e.0 (before ++ ws)) e.1) (enumerate_from n ws))
+    ≡ entries_good largest (before ++ ws)
+judged_rest largest before [] e = grind (arith, common_steps)
+judged_rest largest before (w ∷ ws) {n} e =
+    let one : (before ++ (w ∷ [])) ++ ws ≡ before ++ (w ∷ ws) = append_assoc before (w ∷ []) ws in
+    let front : take n (before ++ (w ∷ ws)) ≡ before = rw (← e) (take-append_seam before (w ∷ ws)) in
+    rw (front, ← and_assoc, ← entries_more largest before w) (rw one at (judged_rest largest (before ++ (w ∷ [])) ws (length_push before w ∙ ap (λ (k : ℕ). k + 1) e)))
+
+-- Each entry judged behind those before it, as the library's test of all of them says it.
+pub entries_all : (largest : Pair) (ws : List Waiting) →
+    list_all (λ (e : ℕ × Waiting). fits_behind largest (take e.0 ws) e.1) (enumerate_from 0 ws) ≡ entries_good largest ws
+unfolding entries_good all all_from distinct
+entries_all largest ws = judged_rest largest [] ws refl

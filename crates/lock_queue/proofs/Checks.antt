@@ -19,12 +19,6 @@ use Rattle.lock_queue.specs.declared.Waiting.{Waiting}
 abbrev pub sized : ℕ → ℕ → Bool
 sized lent count = leb 1 lent && leb lent most_places && leb count lent
 
-pub sized_count : (lent count : ℕ) → sized lent count ≡ true → count ≤ most_places
-sized_count lent count e =
-    let length = and_right (leb 1 lent) (leb lent most_places) (and_left (leb 1 lent && leb lent most_places) (leb count lent) e) in
-    let counted = and_right (leb 1 lent && leb lent most_places) (leb count lent) e in
-    omega (arith, leb-true lent most_places length, leb-true count lent counted)
-
 pub good_unsized : (lent : ℕ) (q : State) → sized lent q.count ≡ false → false ≡ good lent q
 unfolding good all all_from
 good_unsized lent q e = rw e

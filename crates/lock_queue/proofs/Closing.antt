@@ -1,16 +1,17 @@
--- Laws of the loop that closes the gap. Assumes nothing.
+-- Laws of the gap that is closed. Assumes nothing.
 use Prim.Native.Nat.{ℕ, suc, ◌+◌, ◌-◌, ◌≤◌, ◌<◌}
 use native.Mathlib.Omega.{arith}
-use mathlib.Core.Path.{◌≡◌, refl, ap, ◌∙◌}
-use mathlib.Core.List.{List, [], ◌∷◌, ◌++◌, append_assoc}
+use mathlib.Core.Path.{◌≡◌, refl, sym, ap, ◌∙◌}
+use mathlib.Core.List.{List, [], ◌∷◌, ◌++◌}
 use mathlib.Core.Bool.{Bool, true, false, cond}
 use lib.Dec.{eqb}
-use lib.ListN.{length, take, drop, get_or, set, length-drop, length-append}
-use lib.Seq.{length-take-le, take-take}
-use Rattle.slices.proofs.Loops.{Writing, writing_more, writing_done}
-use Rattle.lists.specs.Parts.{splice}
-use Rattle.lock_queue.proofs.Standing.{from, ended}
-use Rattle.lock_queue.specs.Queue.{no_waiting, desk, desks, first_place}
+use lib.ListN.{length, take, drop, set, length-drop, length-take}
+use lib.Seq.{paste, set_split, take-take}
+use Rattle.std.proofs.Common.{Some}
+use Rattle.std.proofs.lemmas.List.{drop-drop, drop-take}
+use Rattle.std.proofs.lemmas.List.Edits.{take-paste, drop-paste}
+use Rattle.lock_queue.proofs.Standing.{placed, place_inside}
+use Rattle.lock_queue.specs.Queue.{no_waiting, desk, desks, first_place, place}
 use Rattle.lock_queue.specs.declared.Waiting.{Waiting}
 use Rattle.lock_queue.specs.Requests.{removed}
 
@@ -25,34 +26,34 @@ removed_place d (w ∷ ws) = go (eqb (desk w) d) (removed_place d ws)
     go true h = refl
     go false h = ap (λ (l : List Waiting). w ∷ l) h
 
--- What a loop that closes the gap has left to write when it has moved i entries: the entries behind, and the freed place.
-abbrev pub behind : ℕ → ℕ → List Waiting → ℕ → List Waiting
-behind gap count l i = drop (gap + i + 1) (take count l) ++ (no_waiting ∷ [])
+-- What a copy of the entries behind the gap, and a write of the last place taken, leave.
+closed_gap : (s new : List Waiting) (gap count : ℕ) (w : Waiting) → gap < count → count ≤ length s →
+    new ≡ paste s gap (drop (gap + 1) s) (count - (gap + 1)) → length new ≡ length s →
+    set new (count - 1) w ≡ take gap s ++ take (count - (gap + 1)) (drop (gap + 1) s) ++ (w ∷ drop count s)
+closed_gap s new gap count w inside fits made long =
+    let behind : count - (gap + 1) ≤ length (drop (gap + 1) s) = omega (arith, length-drop (gap + 1) s) in
+    let last : count - 1 ≡ gap + (count - (gap + 1)) = omega arith in
+    let front : take (gap + (count - (gap + 1))) new ≡ take gap s ++ take (count - (gap + 1)) (drop (gap + 1) s) =
+    rw made (take-paste s gap (drop (gap + 1) s) (count - (gap + 1)) (omega arith) behind) in
+    let rest : drop (gap + (count - (gap + 1))) new ≡ drop (gap + (count - (gap + 1))) s =
+    rw made (drop-paste s gap (drop (gap + 1) s) (count - (gap + 1)) (omega arith) behind) in
+    let whole : gap + (count - (gap + 1)) + 1 ≡ count = omega arith in
+    let past : drop count new ≡ drop count s =
+    ap (λ (n : ℕ). drop n new) (sym whole) ∙ sym (drop-drop 1 (gap + (count - (gap + 1))) new) ∙ ap (drop 1) rest
+    ∙ drop-drop 1 (gap + (count - (gap + 1))) s ∙ ap (λ (n : ℕ). drop n s) whole in
+    let next : suc (count - 1) ≡ count = omega arith in
+    set_split new (count - 1) w (omega arith) ∙ rw (next, past, last, front)
 
-abbrev pub Closing : ℕ → ℕ → List Waiting → ℕ → List Waiting → Type 0
-Closing gap count l i s = Writing gap i (behind gap count l 0) (behind gap count l i) l s
-
-pub closing_more : (gap count : ℕ) (l : List Waiting) (i : ℕ) (s : List Waiting) → count ≤ length l → gap + i < count - 1 → Closing gap count l i s →
-    Closing gap count l (i + 1) (set s (gap + i) (get_or l (gap + i + 1) no_waiting))
-closing_more gap count l i s fits h w =
-    let next : gap + (i + 1) + 1 ≡ gap + i + 1 + 1 = omega arith in
-    writing_more
-    (get_or l (gap + i + 1) no_waiting)
-    (behind gap count l (i + 1))
-    w
-    (rw (next, from count l {i = gap + i + 1} fits (omega arith)))
-    (omega (arith, w.long))
-
-pub closing_done : (d gap count : ℕ) (l : List Waiting) (i : ℕ) (s : List Waiting) → count ≤ length l → gap ≡ first_place d (desks (take count l)) →
-    gap < count → gap + i ≡ count - 1 → Closing gap count l i s →
-    set s (gap + i) no_waiting ≡ removed d (take count l) ++ (no_waiting ∷ drop count l)
-unfolding splice
-closing_done d gap count l i s fits at inside h w =
-    let last : behind gap count l i ≡ no_waiting ∷ [] = rw (ended count l {i = gap + i + 1} (omega arith)) in
-    let all : set s (gap + i) no_waiting ≡ splice gap (behind gap count l 0) l =
-    writing_done (writing_more no_waiting [] w last (omega (arith, w.long))) refl in
-    let size : gap + length (behind gap count l 0) ≡ count =
-    simp (length-append, length-drop, length-take-le) (omega arith) in
-    let next : suc gap ≡ gap + 0 + 1 = omega arith in
-    let short : gap ≤ count = omega arith in
-    all ∙ rw (size, removed_place d (take count l), ← at, take-take, next, append_assoc, append_assoc)
+pub closing : (d : ℕ) (s new : List Waiting) {gap : ℕ} (count : ℕ) → place d (desks (take count s)) ≡ Some gap → count ≤ length s →
+    new ≡ paste s gap (drop (gap + 1) s) (count - (gap + 1)) → length new ≡ length s →
+    set new (count - 1) no_waiting ≡ removed d (take count s) ++ (no_waiting ∷ drop count s)
+closing d s new {gap} count at fits made long =
+    let inside : gap < count = omega (arith, place_inside d (take count s) at, length-take count s) in
+    let first : first_place d (desks (take count s)) ≡ gap = (placed d (desks (take count s)) at).1 in
+    let near : gap ≤ count = omega arith in
+    let next : suc gap ≡ gap + 1 = omega arith in
+    let size : (gap + 1) + (count - (gap + 1)) ≡ count = omega arith in
+    let cut : drop (gap + 1) (take count s) ≡ take (count - (gap + 1)) (drop (gap + 1) s) =
+    ap (λ (n : ℕ). drop (gap + 1) (take n s)) (sym size) ∙ drop-take (gap + 1) (count - (gap + 1)) s in
+    closed_gap s new gap count no_waiting inside fits made long
+    ∙ rw (removed_place d (take count s), first, next, cut, take-take)

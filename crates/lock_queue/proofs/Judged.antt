@@ -8,36 +8,22 @@ use borrow.Author.Tests.{eqb-false, not-false}
 use lib.Dec.{T, eqb}
 use lib.ListN.{drop}
 use mathlib.Core.Logic.{◌⊎◌, inl, inr}
-use Rattle.lists.proofs.Tests.{cases, or_fails}
+use Rattle.lists.proofs.Tests.{cases}
 use Rattle.lists.proofs.Table.{unapplied, none_applies, settled_old}
 use Rattle.lists.specs.Table.{Row, row, first, applies, once}
 use Rattle.lock_queue.proofs.Standing.{stands_below}
 use Rattle.lock_queue.proofs.Checks.{Good, good_out, good_count}
-use Rattle.lock_queue.specs.Queue.{State, most_places, standing, desk, desks, first_place, stands}
+use Rattle.lock_queue.specs.Queue.{State, state, most_places, standing, desk, desks, first_place, stands}
 use Rattle.lock_queue.specs.Good.{good}
 use Rattle.lock_queue.specs.declared.Waiting.{Waiting}
-use Rattle.lock_queue.specs.Requests.{
-  joined,
-  without,
-  upgrading,
-  queue_joined,
-  asking,
-  leaving,
-  lapsing,
-  answered,
-  blank_answer,
-  Request,
-  asks,
-  leaves,
-  lapses,
-  queue_rows,
-  sender,
-  applied,
-  number,
-  after,
-  answer,
-}
-use Rattle.lock_queue.specs.declared.LockAnswer.{LockAnswer}
+use Rattle.lock_queue.specs.Requests.{joined, without, upgrading, queue_joined, asking, leaving, lapsing, Turns, answered}
+use Rattle.lock_queue.specs.Requests.{Request, asks, leaves, lapses, queue_rows, sender, applied, number, after, answer}
+use Rattle.lock_queue.specs.declared.LockOutcome.{LockOutcome}
+use Rattle.lock_queue.specs.declared.Queue.{Queue}
+use Rattle.numbers.specs.declared.Refusal.{Refusal}
+use Rattle.numbers.specs.Refusals.{number_of}
+use Rattle.numbers.proofs.Refusals.{refused}
+use Rattle.std.proofs.Common.{Result, Ok, Err, IfOk, MatchResult}
 use Rattle.lock_queue.specs.declared.LeaseExpiry.{LeaseExpiry}
 use Rattle.lock_queue.proofs.Upgrades.{up_stands, queue_joined_up, queue_joined_plain}
 
@@ -45,10 +31,6 @@ use Rattle.lock_queue.proofs.Upgrades.{up_stands, queue_joined_up, queue_joined_
 pub first_passed : (a : Bool) (n : ℕ) (rs : List Row) → (first (row a n ∷ rs) ≡ n → ⊥) → a ≡ false
 first_passed true n rs h = absurd (h refl)
 first_passed false n rs h = refl
-
--- An answer that is not blank is not 10, so that the queue is good.
-pub shown_not_bad : (n : ℕ) → blank_answer n ≡ false → n ≡ 10 → ⊥
-shown_not_bad n e = eqb-false n 10 (or_fails (eqb n 10) (eqb n 1) e).0
 
 module _ (lent : ℕ) (q : State) where
   pub not_bad : (r : Request) → (number lent q r ≡ 10 → ⊥) → good lent q ≡ true
@@ -70,9 +52,8 @@ module _ (lent : ℕ) (q : State) where
   pub accepted_good : (r : Request) → number lent q r ≡ 0 → Good lent q
   accepted_good r e = good_out lent q (not_bad r (λ bad. absurd (omega arith)))
 
-  -- A queue whose answer is not blank has at most 32 entries.
-  pub shown_fits : (r : Request) {n : ℕ} → n ≡ number lent q r → blank_answer n ≡ false → q.count ≤ most_places
-  shown_fits r e shown = good_count lent q (not_bad r (λ bad. shown_not_bad _ shown (e ∙ bad)))
+  pub accepted_count : (r : Request) → number lent q r ≡ 0 → q.count ≤ most_places
+  accepted_count r e = let g = accepted_good r e in omega (arith, g.counted, g.short)
 
   -- An accepted asker has a place, and one that leaves has had one.
   pub ask_room : (new : Waiting) → number lent q (asks new) ≡ 0 → (queue_joined new.mode (desk new) q).count < lent
@@ -136,19 +117,17 @@ module _ (lent : ℕ) (q : State) where
   unfolding after answer
   lapse_same r e = let f = lapse_leaves r e in (rw (e, f), rw (e, f))
 
-  pub accepted_lapse : (r : LeaseExpiry) {a : LockAnswer} {s : State} → number lent q (lapses r) ≡ 0 → a ≡ answer lent q (leaves r.desk) →
-      s ≡ after lent q (leaves r.desk) → (a ≡ answer lent q (lapses r)) × (s ≡ after lent q (lapses r))
-  accepted_lapse r e f g = let same = lapse_same r e in (f ∙ sym same.0, g ∙ sym same.1)
-
-  module _ (r : Request) {n d : ℕ} {ans : LockAnswer} (number_is : n ≡ number lent q r) (sender-is : d ≡ sender r) where
-    pub accepted_outcome : {s : State} → n ≡ 0 → s ≡ applied r q → ans ≡ answered n d q s → (ans ≡ answer lent q r) × (s ≡ after lent q r)
-    unfolding answer
-    accepted_outcome {s} e f a =
-        let now : s ≡ after lent q r = f ∙ sym (accepted_after r (sym number_is ∙ e)) in
-        (a ∙ rw (number_is, sender-is, now), now)
-
-    pub refused_outcome : (n ≡ 0 → ⊥) → ans ≡ answered n d q q → (ans ≡ answer lent q r) × (q ≡ after lent q r)
-    unfolding answer
-    refused_outcome e a =
-        let now : q ≡ after lent q r = sym (refused_after r (λ z. e (number_is ∙ z))) in
-        (a ∙ rw (number_is, sender-is) (ap (answered (number lent q r) (sender r) q) now), now)
+-- The outcome, of a queue by value, by what the request makes of it.
+pub turned_outcome : (lent : ℕ) (entry : Queue) (r : Request) (turned : Result Queue Refusal) (out : LockOutcome) {d : ℕ} →
+    number_of turned ≡ number lent (state entry) r → IfOk turned (λ (now : Queue). state now ≡ applied r (state entry)) → d ≡ sender r →
+    out.answer ≡ answered (number_of turned) d (state entry) (state out.queue) →
+    MatchResult turned (λ (now : Queue). out.queue ≡ now) (λ (refusal : Refusal). out.queue ≡ entry) →
+    Turns lent (state entry) r out.answer (state out.queue)
+unfolding answer
+turned_outcome lent entry r (Ok now) out told made sent shown kept =
+    let after-is : state out.queue ≡ after lent (state entry) r = ap state kept ∙ made ∙ sym (accepted_after lent (state entry) r (sym told)) in
+    (shown ∙ rw (told, sent, after-is), after-is)
+turned_outcome lent entry r (Err refusal) out told made sent shown kept =
+    let after-is : state out.queue ≡ after lent (state entry) r =
+    ap state kept ∙ sym (refused_after lent (state entry) r (λ zero. refused refusal (told ∙ zero))) in
+    (shown ∙ rw (told, sent, after-is), after-is)

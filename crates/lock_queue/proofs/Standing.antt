@@ -1,38 +1,17 @@
 -- Laws of the standing entries and their desks. Assumes nothing.
+use Rattle.std.proofs.Common.{Some, None}
+use Rattle.std.specs.List.{position, position_or_len, list_all}
 use Prim.Native.Nat.{ℕ, suc, ◌+◌, ◌≤◌, ◌<◌}
 use native.Mathlib.Omega.{arith}
-use native.Mathlib.Nat.{add-zero}
-use native.Mathlib.Numerals.{add-one}
-use mathlib.Core.Path.{◌≡◌, refl, sym, ap, ◌∙◌}
+use mathlib.Core.Path.{◌≡◌, refl, ap, ◌∙◌}
 use mathlib.Core.List.{List, [], ◌∷◌, ◌++◌, map}
-use mathlib.Core.Bool.{Bool, true, false, cond, ◌||◌}
-use borrow.Author.Tests.{eq-eqb, ne_eqb, lt-ltb, le-ltb, ltb-true}
+use mathlib.Core.Bool.{Bool, true, false, cond, not, ◌&&◌, ◌||◌}
+use borrow.Author.Tests.{eq-eqb, ne_eqb, lt-ltb, ltb-true}
 use lib.Dec.{ltb, eqb, leb-suc-suc}
-use lib.ListN.{length, take, drop, get_or, length-map, length-take, drop_of_length-le}
-use lib.Seq.{get_or-take, length-take-le, take-suc, take-take}
-use Rattle.lists.proofs.Parts.{drop_left}
+use lib.ListN.{length, take, get_or, length-map, length-take}
 use Rattle.stamps.specs.Stamp.{exclusive}
-use Rattle.lock_queue.specs.Queue.{no_waiting, desk, desks, stands, first_place, looked, no_exclusive, holds_at, holds}
+use Rattle.lock_queue.specs.Queue.{no_waiting, desk, desks, stands, first_place, place, looked, no_exclusive, holds_at, holds}
 use Rattle.lock_queue.specs.declared.Waiting.{Waiting}
-
--- ---- the first entries of the places
-
--- What is left of the first `count` entries from place i on, by its first entry.
-pub from : (count : ℕ) (l : List Waiting) {i : ℕ} → count ≤ length l → i < count →
-    drop i (take count l) ≡ get_or l i no_waiting ∷ drop (i + 1) (take count l)
-from count l {i} fits h =
-    let long : i < length (take count l) = simp length-take-le (omega arith) in
-    rw (drop_left (take count l) no_waiting long, get_or-take)
-
-pub ended : (count : ℕ) (l : List Waiting) {i : ℕ} → count ≤ i → drop i (take count l) ≡ []
-ended count l {i} h = drop_of_length-le (take count l) {i = i} (simp length-take (omega arith))
-
-pub desks_long : (count : ℕ) (l : List Waiting) → count ≤ length l → length (desks (take count l)) ≡ count
-desks_long count l h = length-map (take count l) desk ∙ length-take-le count l h
-
--- One entry more.
-pub one_more : (l : List Waiting) {i : ℕ} → i < length l → take (i + 1) l ≡ take i l ++ (get_or l i no_waiting ∷ [])
-one_more l {i} h = rw (add-one, take-suc l i no_waiting h)
 
 -- ---- the place where a desk first stands
 
@@ -60,60 +39,73 @@ stands_below d count l e =
     let es = desks (take count l) in
     omega (arith, ltb-true (first_place d es) (length es) (stands_place d es ∙ e), length-map (take count l) desk, length-take count l)
 
--- A loop that looks for a desk: it has passed i entries of ws.
-pub Passed : ℕ → ℕ → List Waiting → Type 0
-Passed d i ws = first_place d (desks ws) ≡ i + first_place d (desks (drop i ws))
+-- The place as the library's search of the entries finds it.
+first_position : (d : ℕ) (ws : List Waiting) → position_or_len (λ (w : Waiting). eqb (desk w) d) ws ≡ first_place d (desks ws)
+unfolding first_place
+first_position d [] = refl
+first_position d (w ∷ ws) = go (eqb (desk w) d) (first_position d ws)
+  where
+    go : (b : Bool) → position_or_len (λ (w : Waiting). eqb (desk w) d) ws ≡ first_place d (desks ws) →
+        cond (not b) (1 + position_or_len (λ (w : Waiting). eqb (desk w) d) ws) 0 ≡ cond b 0 (suc (first_place d (desks ws)))
+    go true h = refl
+    go false h = omega arith
 
-pub passed_none : (d : ℕ) (ws : List Waiting) → Passed d 0 ws
-unfolding Passed
-passed_none d ws = omega arith
+pub place_position : (d : ℕ) (ws : List Waiting) → position (λ (w : Waiting). eqb (desk w) d) ws ≡ place d (desks ws)
+place_position d ws = rw (first_position d ws, ← length-map ws desk, stands_place d (desks ws))
 
-pub passed_found : (d i : ℕ) (ws : List Waiting) (w : Waiting) (more : List Waiting) → Passed d i ws → drop i ws ≡ w ∷ more → desk w ≡ d →
-    i ≡ first_place d (desks ws)
-unfolding Passed first_place
-passed_found d i ws w more p e h = sym (p ∙ rw (e, eq-eqb (desk w) d h, add-zero))
+pub placed : (d : ℕ) (es : List ℕ) {i : ℕ} → place d es ≡ Some i → (stands d es ≡ true) × (first_place d es ≡ i)
+placed d es {i} = go (stands d es)
+  where
+    go : (b : Bool) → cond b (Some (first_place d es)) None ≡ Some i → (b ≡ true) × (first_place d es ≡ i)
+    go true e = (refl, cc)
+    go false e = cc
 
-pub passed_more : (d i : ℕ) (ws : List Waiting) (w : Waiting) → Passed d i ws → drop i ws ≡ w ∷ drop (i + 1) ws → (desk w ≡ d → ⊥) →
-    Passed d (i + 1) ws
-unfolding Passed first_place
-passed_more d i ws w p e h =
-    let next : first_place d (desks (drop i ws)) ≡ suc (first_place d (desks (drop (i + 1) ws))) = rw (e, ne_eqb (desk w) d h) in
-    omega arith
+pub unplaced : (d : ℕ) (es : List ℕ) → place d es ≡ None → stands d es ≡ false
+unplaced d es = go (stands d es)
+  where
+    go : (b : Bool) → cond b (Some (first_place d es)) None ≡ None → b ≡ false
+    go true e = cc
+    go false e = refl
 
-pub passed_end : (d i : ℕ) (ws : List Waiting) → Passed d i ws → drop i ws ≡ [] → i ≡ first_place d (desks ws)
-unfolding Passed first_place
-passed_end d i ws p e = sym (p ∙ rw (e, add-zero))
+-- ---- the entries that stand, and the place i where a desk first stands there
 
--- ---- the first `count` entries of the places, and the place p where a desk first stands there
+module _ (d : ℕ) (ws : List Waiting) {i : ℕ} (at : place d (desks ws) ≡ Some i) where
+  stood : stands d (desks ws) ≡ true
+  stood = (placed d (desks ws) at).0
 
-module _ (d count : ℕ) (l : List Waiting) (fits : count ≤ length l) {p : ℕ} (at : p ≡ first_place d (desks (take count l))) where
-  pub stands_at : ltb p count ≡ stands d (desks (take count l))
-  stands_at =
-      rw at
-      (ap (λ (n : ℕ). ltb (first_place d (desks (take count l))) n) (sym (desks_long count l fits))
-      ∙ stands_place d (desks (take count l)))
+  first : first_place d (desks ws) ≡ i
+  first = (placed d (desks ws) at).1
 
-  pub looked_found : p < count → p + 1 ≡ looked d (desks (take count l))
+  pub place_inside : i < length ws
+  place_inside =
+      omega (arith, first, ltb-true (first_place d (desks ws)) (length (desks ws)) (stands_place d (desks ws) ∙ stood), length-map ws desk)
+
+  pub looked_found : i + 1 ≡ looked d (desks ws)
   unfolding looked
-  looked_found h = rw (← stands_at, lt-ltb p count h, ← at)
+  looked_found = rw (stood, first)
 
-  pub looked_none : count ≤ p → count ≡ looked d (desks (take count l))
+  pub holds_exclusive : (get_or ws i no_waiting).mode ≡ exclusive → eqb i 0 ≡ holds d ws
+  unfolding holds holds_at
+  holds_exclusive e = rw (stood, first, eq-eqb _ _ e)
+
+  pub holds_shared : ((get_or ws i no_waiting).mode ≡ exclusive → ⊥) → no_exclusive (take i ws) ≡ holds d ws
+  unfolding holds holds_at
+  holds_shared e = rw (stood, first, ne_eqb _ _ e)
+
+module _ (d : ℕ) (ws : List Waiting) (missing : place d (desks ws) ≡ None) where
+  pub looked_none : length ws ≡ looked d (desks ws)
   unfolding looked
-  looked_none h = rw (← stands_at, le-ltb p count h, desks_long count l fits)
+  looked_none = rw (unplaced d (desks ws) missing, length-map ws desk)
 
-  pub holds_none : count ≤ p → false ≡ holds d (take count l)
+  pub holds_none : false ≡ holds d ws
   unfolding holds
-  holds_none h = rw (← stands_at, le-ltb p count h)
+  holds_none = rw (unplaced d (desks ws) missing)
 
-  pub holds_exclusive : p < count → (get_or l p no_waiting).mode ≡ exclusive → eqb p 0 ≡ holds d (take count l)
-  unfolding holds holds_at
-  holds_exclusive h e = rw (← stands_at, lt-ltb p count h, ← at, get_or-take, eq-eqb _ _ e)
-
-  pub holds_shared : p < count → ((get_or l p no_waiting).mode ≡ exclusive → ⊥) → no_exclusive (take p l) ≡ holds d (take count l)
-  unfolding holds holds_at
-  holds_shared h e =
-      let short : p ≤ count = omega arith in
-      rw (← stands_at, lt-ltb p count h, ← at, get_or-take, ne_eqb _ _ e, take-take)
+-- No entry is exclusive, as the library's test of all of them says it.
+pub no_exclusive_all : (ws : List Waiting) → list_all (λ (w : Waiting). not (eqb w.mode exclusive)) ws ≡ no_exclusive ws
+unfolding no_exclusive
+no_exclusive_all [] = refl
+no_exclusive_all (w ∷ ws) = ap (λ (b : Bool). not (eqb w.mode exclusive) && b) (no_exclusive_all ws)
 
 -- ---- lists end to end
 

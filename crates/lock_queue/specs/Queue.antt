@@ -1,7 +1,7 @@
 -- The lock queue of one card, as lists (rules 7.1 to 7.5): who stands in it, who holds the lock, and how many entries are looked at. Minuet: the
 -- lock manager's queue for one shared resource.
 -- Assumes nothing.
-use Rattle.std.specs.Prelude.{ℕ, suc, ◌+◌, List, [], ◌∷◌, ◌++◌, map, Bool, true, false, cond, not, ◌&&◌, ◌||◌, length, take, get_or, eqb}
+use Rattle.std.specs.Prelude.{ℕ, suc, ◌+◌, List, [], ◌∷◌, ◌++◌, map, Bool, true, false, cond, not, ◌&&◌, ◌||◌, length, take, get_or, eqb, Option, Some, None}
 use Rattle.stamps.specs.Stamp.{desk_of, exclusive, no_pair}
 use Rattle.stamps.specs.declared.Pair.{Pair}
 use Rattle.lock_queue.specs.declared.Queue.{Queue}
@@ -58,6 +58,10 @@ stands d (e ∷ es) = eqb e d || stands d es
 unfoldable pub first_place : ℕ → List ℕ → ℕ
 first_place d [] = 0
 first_place d (e ∷ es) = cond (eqb e d) 0 (suc (first_place d es))
+
+-- The same place, or none where it does not stand.
+abbrev pub place : ℕ → List ℕ → Option ℕ
+place d es = cond (stands d es) (Some (first_place d es)) None
 
 -- Rule 7.14: a desk that stands is found at its first place, after those before it; one that does not stand is found missing after all.
 unfoldable pub looked : ℕ → List ℕ → ℕ

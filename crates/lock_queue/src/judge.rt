@@ -1,22 +1,23 @@
-ghost use Rattle.std.specs.Prelude.{◌≡◌, ◌≤◌, take};
-ghost use Rattle.lock_queue.specs.Queue.{state, most_places, desks};
+// Whether a request is accepted, and else why not.
+ghost use Rattle.std.specs.Prelude.{◌≡◌};
+ghost use Rattle.numbers.specs.Refusals.{number_of};
+ghost use Rattle.lock_queue.specs.Queue.{state, desks};
 ghost use Rattle.lock_queue.specs.Requests.{already, full, asks, leaves, lapses, number};
 ghost use Rattle.lock_queue.specs.Lease.{valid_time};
 
-use crate::inner::rules;
+use crate::inner::rules::good;
 use crate::inner::state::{stands, upgrading};
-use crate::{LeaseExpiry, Places, Queue, Waiting};
-use numbers::{
-    BAD_QUEUE, LEASE_OUT_OF_RANGE, LEASE_RUNS, NOT_STANDING, PAIR_DENIED, QUEUE_FULL,
-    STANDS_ALREADY,
+use crate::{LeaseExpiry, Queue, Waiting};
+use numbers::Refusal::{
+    self, BadQueue, LeaseOutOfRange, LeaseRuns, Malformed, NotStanding, PairDenied, QueueFull,
+    StandsAlready,
 };
 
 // Number 12's test.
-fn already(upgrade: bool, places: Places, count: usize, desk: u32) -> bool
-    requires { count ≤ most_places }
-    ensures { result ≡ already upgrade desk (desks (take count places.at)) }
+fn already(upgrade: bool, standing: &[Waiting], desk: u32) -> bool
+    ensures { result ≡ already upgrade desk (desks standing.now) }
 {
-    stands(places, count, desk) & !upgrade
+    stands(standing, desk) & !upgrade
 }
 
 // Number 13's test.
@@ -26,45 +27,41 @@ fn full(upgrade: bool, lent: usize, count: usize) -> bool
     (count == lent) & !upgrade
 }
 
-// The number for asking.
-pub fn ask_number(queue: Queue, lent: usize, new: Waiting) -> u8
-    ensures { result ≡ number lent (state queue) (asks new) }
+// Whether the entry may join.
+pub fn asking(queue: &Queue, lent: usize, new: Waiting) -> Result<(), Refusal>
+    ensures { number_of result ≡ number lent (state queue.now) (asks new) }
 {
-    if !rules::good(queue, lent) {
-        return BAD_QUEUE;
+    if !good(queue, lent) {
+        return Err(BadQueue);
     }
-    let pair = new.pair;
-    if !stamps::session_ok(new.mode, pair) {
-        return numbers::MALFORMED;
+    if !new.formed() {
+        return Err(Malformed);
     }
-    let stood = queue.places;
-    let desk = stamps::desk_of(new.mode, pair);
-    let upgrade = upgrading(new.mode, stood, queue.count, desk);
-    if already(upgrade, stood, queue.count, desk) {
-        return STANDS_ALREADY;
+    let standing = queue.standing();
+    let upgrade = upgrading(new, standing);
+    if already(upgrade, standing, new.desk()) {
+        return Err(StandsAlready);
     }
-    let largest = queue.largest;
-    if stamps::stale(new.mode, largest, pair) {
-        return PAIR_DENIED;
+    if stamps::stale(new.mode, queue.largest, new.pair) {
+        return Err(PairDenied);
     }
     if full(upgrade, lent, queue.count) {
-        return QUEUE_FULL;
+        return Err(QueueFull);
     }
-    0
+    Ok(())
 }
 
-// The number for leaving.
-pub fn leave_number(queue: Queue, lent: usize, desk: u32) -> u8
-    ensures { result ≡ number lent (state queue) (leaves desk) }
+// Whether the desk may leave.
+pub fn leaving(queue: &Queue, lent: usize, desk: u32) -> Result<(), Refusal>
+    ensures { number_of result ≡ number lent (state queue.now) (leaves desk) }
 {
-    if !rules::good(queue, lent) {
-        return BAD_QUEUE;
+    if !good(queue, lent) {
+        return Err(BadQueue);
     }
-    let stood = queue.places;
-    if !stands(stood, queue.count, desk) {
-        return NOT_STANDING;
+    if !stands(queue.standing(), desk) {
+        return Err(NotStanding);
     }
-    0
+    Ok(())
 }
 
 // Whether a time is within its limits.
@@ -74,23 +71,22 @@ fn valid_time(time: f64) -> bool
     (0.0 <= time) & (time <= 1000000000.0)
 }
 
-// The number for leaving by lease.
-pub fn lapse_number(queue: Queue, lent: usize, expiry: LeaseExpiry) -> u8
-    ensures { result ≡ number lent (state queue) (lapses expiry) }
+// Whether the silent desk may be taken out.
+pub fn lapsing(queue: &Queue, lent: usize, expiry: LeaseExpiry) -> Result<(), Refusal>
+    ensures { number_of result ≡ number lent (state queue.now) (lapses expiry) }
 {
-    if !rules::good(queue, lent) {
-        return BAD_QUEUE;
+    if !good(queue, lent) {
+        return Err(BadQueue);
     }
     let lease = expiry.lease;
     if !(lease.valid_term() & valid_time(expiry.begin) & valid_time(expiry.now)) {
-        return LEASE_OUT_OF_RANGE;
+        return Err(LeaseOutOfRange);
     }
-    let stood = queue.places;
-    if !stands(stood, queue.count, expiry.desk) {
-        return NOT_STANDING;
+    if !stands(queue.standing(), expiry.desk) {
+        return Err(NotStanding);
     }
     if !lease.expired(expiry.begin, expiry.now) {
-        return LEASE_RUNS;
+        return Err(LeaseRuns);
     }
-    0
+    Ok(())
 }

@@ -1,15 +1,18 @@
 // The lock queue of one card: desks ask for the lock and leave, or are taken out when they fell silent; each answer says whether the desk holds it.
 #![tactic(auto)]
 
+mod entries;
 pub mod inner;
 mod judge;
 mod leases;
+mod turns;
 
 ghost use Rattle.std.specs.Prelude.{◌≡◌, replicate};
 ghost use Rattle.lock_queue.specs.Queue.{state, empty_queue, most_places, no_waiting};
 ghost use Rattle.lock_queue.specs.Requests.{asks, leaves, lapses, Turns};
 
 use stamps::{NO_PAIR, Pair};
+use turns::outcome;
 
 // ---- The lock queue of one card as it stands: who stands in it, who holds the lock, and how many entries are looked at.
 
@@ -17,6 +20,7 @@ use stamps::{NO_PAIR, Pair};
 pub const MOST_PLACES: usize = 32;
 
 // An entry that waits for the lock: 1 shared or 2 exclusive, and the pair that its desk proposed.
+// Kept: the mode is a number, as lent memory and an ask may hold any, which get 10 and 1 (`good` and `asking` of specs, `malformed_mode_unseen`).
 #[derive(Clone, Copy)]
 pub struct Waiting {
     pub mode: u8,
@@ -36,6 +40,7 @@ pub struct Places {
 }
 
 // A queue: its places, of which the first `count` are taken, and the largest stamps, s and x, that were accepted in it so far.
+// Kept: an array and a count, since memory is fixed (no heap); `state` of specs reads both, and a count past the places is a bad queue (10).
 #[derive(Clone, Copy)]
 pub struct Queue {
     pub places: Places,
@@ -44,6 +49,7 @@ pub struct Queue {
 }
 
 // The number, whether the desk holds the lock, the largest pair, and how many entries were looked at.
+// Kept: the number stands beside the rest, as a refusal tells them too (`answered` of specs, rule 7.14).
 #[derive(Clone, Copy)]
 pub struct LockAnswer {
     pub number: u8,
@@ -93,52 +99,19 @@ pub fn empty() -> Queue
 pub fn ask(queue: Queue, lent: usize, new: Waiting) -> LockOutcome
     ensures { Turns lent (state queue) (asks new) result.answer (state result.queue) }
 {
-    let number = judge::ask_number(queue, lent, new);
-    let desk = stamps::desk_of(new.mode, new.pair);
-    if number == 0 {
-        let base = inner::effects::queue_joined(queue, new.mode, desk);
-        let joined = inner::effects::joined(base, new);
-        return LockOutcome {
-            answer: inner::answer::answered(number, desk, queue, joined),
-            queue: joined,
-        };
-    }
-    LockOutcome {
-        answer: inner::answer::answered(number, desk, queue, queue),
-        queue,
-    }
+    outcome(turns::asked(queue, lent, new), new.desk(), &queue)
 }
 
 // The desk and start `desk` leaves (rules 7.12 and 7.13).
-#[inline(always)]
 pub fn leave(queue: Queue, lent: usize, desk: u32) -> LockOutcome
     ensures { Turns lent (state queue) (leaves desk) result.answer (state result.queue) }
 {
-    let number = judge::leave_number(queue, lent, desk);
-    if number == 0 {
-        let closed = inner::effects::without(queue, desk);
-        return LockOutcome {
-            answer: inner::answer::answered(number, desk, queue, closed),
-            queue: closed,
-        };
-    }
-    LockOutcome {
-        answer: inner::answer::answered(number, desk, queue, queue),
-        queue,
-    }
+    outcome(turns::left(queue, lent, desk), desk, &queue)
 }
 
 // A desk that fell silent leaves, once its lease is over (rules 13.1 to 13.6).
 pub fn lapse(queue: Queue, lent: usize, expiry: LeaseExpiry) -> LockOutcome
     ensures { Turns lent (state queue) (lapses expiry) result.answer (state result.queue) }
 {
-    let number = judge::lapse_number(queue, lent, expiry);
-    let desk = expiry.desk;
-    if number == 0 {
-        return leave(queue, lent, desk);
-    }
-    LockOutcome {
-        answer: inner::answer::answered(number, desk, queue, queue),
-        queue,
-    }
+    outcome(turns::lapsed(queue, lent, expiry), expiry.desk, &queue)
 }

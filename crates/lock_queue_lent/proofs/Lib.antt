@@ -1,5 +1,4 @@
 pub mod Written
 pub mod Loaded
-pub mod Turned
 pub mod Arrays
 pub mod Cases

@@ -12,7 +12,7 @@ use lib.ListN.{length, drop, replicate, length-replicate}
 use Rattle.lock_queue.proofs.After.{refusal_leaves, others_kept, bad_number, bad_answer, beyond_lent}
 use Rattle.lock_queue.proofs.Checks.{good_unsized}
 use Rattle.lock_queue.specs.Queue.{State, state, most_places, no_waiting, longer}
-use Rattle.lock_queue.specs.Requests.{Request, number, after, answer}
+use Rattle.lock_queue.specs.Requests.{Request, Turns, number, after, answer}
 use Rattle.lock_queue.specs.declared.LockOutcome.{LockOutcome}
 use Rattle.lock_queue.specs.declared.Waiting.{Waiting}
 use Rattle.lock_queue_lent.proofs.Written.{written_nothing, written_nowhere}
@@ -94,15 +94,12 @@ judged ws k r = go (leb (length ws) most_places) refl
         subst (λ (p : List Waiting). Judged p ws k r) (sym whole) (judged_short ws (drop (length ws) (replicate most_places no_waiting)) k r short)
     go false e = judged_long ws k r e
 
--- The same of an outcome by value, of the lent list at exit, and of the reply.
-pub settled_lent : (ws p zs : List Waiting) (k : Kept) (r : Request) (o : LockOutcome) (y : LentOutcome) → p ≡ loaded ws →
-    (o.answer ≡ answer (length ws) (lent_state p k) r) × (state o.queue ≡ after (length ws) (lent_state p k) r) →
-    (zs ≡ written most_places o.queue.places.at ws) × (y ≡ reply_of o) →
-    (y.answer ≡ answer (length ws) (lent_state ws k) r) × (lent_state zs y.kept ≡ after (length ws) (lent_state ws k) r)
-settled_lent ws p zs k r o y load core store = (
-  ap (λ (x : LentOutcome). x.answer) store.1 ∙ core.0 ∙ same.0,
-  (λ i. lent_state (store.0 i) (store.1 i).kept) ∙ ap (back ws) core.1 ∙ same.1,
-)
-  where
-    same : Judged p ws k r
-    same = subst (λ (l : List Waiting). Judged l ws k r) (sym load) (judged ws k r)
+-- The same of the queue by value, of its outcome, of the lent list at exit, and of the reply.
+pub settled_lent : (ws zs : List Waiting) (k : Kept) (r : Request) (o : LockOutcome) (y : LentOutcome) {q : State} → q ≡ lent_state (loaded ws) k →
+    Turns (length ws) q r o.answer (state o.queue) → (zs ≡ written most_places o.queue.places.at ws) × (y ≡ reply_of o) →
+    Turns (length ws) (lent_state ws k) r y.answer (lent_state zs y.kept)
+settled_lent ws zs k r o y load core store =
+    let same : Judged (loaded ws) ws k r = judged ws k r in (
+      ap (λ (x : LentOutcome). x.answer) store.1 ∙ core.0 ∙ ap (λ (q : State). answer (length ws) q r) load ∙ same.0,
+      (λ i. lent_state (store.0 i) (store.1 i).kept) ∙ ap (back ws) (core.1 ∙ ap (λ (q : State). after (length ws) q r) load) ∙ same.1,
+    )

@@ -1,16 +1,13 @@
 -- Laws of entries written over others, one place after another.
 -- Assumes nothing.
 use mathlib.Core.Path.{◌≡◌, refl, sym, ap, ◌∙◌}
+use native.Mathlib.Omega.{arith}
 use Prim.Native.Nat.{ℕ, zero, suc, ◌+◌, ◌≤◌, ◌<◌}
 use native.Mathlib.Nat.{add-zero, add-suc, not-suc-le-zero, le_of_suc-le-suc}
 use mathlib.Core.List.{List, [], ◌∷◌}
-use mathlib.Core.Bool.{true, false, ◌&&◌}
 use mathlib.Core.Logic.{◌⊎◌, inl, inr}
-use borrow.Author.Tests.{ltb-true, ltb-false}
-use lib.Dec.{ltb}
-use lib.ListN.{length, get_or, set}
-use Rattle.lists.proofs.Tests.{and_left, and_right, and_fails}
-use Rattle.lock_queue.specs.Queue.{most_places}
+use lib.ListN.{length, get_or, set, take, drop}
+use Rattle.std.proofs.Common.{min, ◌++◌}
 use Rattle.lock_queue_lent.specs.Slice.{written}
 use Rattle.lock_queue.specs.declared.Waiting.{Waiting}
 
@@ -52,12 +49,6 @@ pub written_next : (n : ℕ) (from onto : List Waiting) (d : Waiting) → n < le
     set (written n from onto) n (get_or from n d) ≡ written (n + 1) from onto
 written_next n from onto d l m = next n from onto d l m ∙ ap (λ (k : ℕ). written k from onto) (sym (one_more n))
 
--- The same of a list that a turn of a pass made.
-pub written_turn : (n : ℕ) (from onto at : List Waiting) (d w : Waiting) → w ≡ get_or from n d → at ≡ written n from onto → n < length from → n < length onto →
-    set at n w ≡ written (n + 1) from onto
-written_turn n from onto at d w e f l m =
-    ap (λ (v : Waiting). set at n v) e ∙ ap (λ (ws : List Waiting). set ws n (get_or from n d)) f ∙ written_next n from onto d l m
-
 -- Where either list has ended, no more are written.
 pub written_done : (n m : ℕ) (from onto : List Waiting) → n ≤ m → (length from ≤ n) ⊎ (length onto ≤ n) → written n from onto ≡ written m from onto
 unfolding written
@@ -69,10 +60,22 @@ written_done (suc n) zero (a ∷ from) (b ∷ onto) l e = absurd (not-suc-le-zer
 written_done (suc n) (suc m) (a ∷ from) (b ∷ onto) l (inl e) = ap (λ (ws : List Waiting). a ∷ ws) (written_done n m from onto (le_of_suc-le-suc l) (inl (le_of_suc-le-suc e)))
 written_done (suc n) (suc m) (a ∷ from) (b ∷ onto) l (inr e) = ap (λ (ws : List Waiting). a ∷ ws) (written_done n m from onto (le_of_suc-le-suc l) (inr (le_of_suc-le-suc e)))
 
--- What the test of a pass over the places says.
-pub goes : (i n : ℕ) → (ltb i n && ltb i most_places) ≡ true → (i < n) × (i < most_places)
-goes i n e = (ltb-true i n (and_left (ltb i n) (ltb i most_places) e), ltb-true i most_places (and_right (ltb i n) (ltb i most_places) e))
+-- What a copy of the first entries, as many as both lists have, leaves.
+pub written_front : (k : ℕ) (from onto : List Waiting) → k ≡ min (length onto) (length from) →
+    take k from ++ drop k onto ≡ written (length onto) from onto
+unfolding written
+written_front zero from [] e = refl
+written_front (suc k) from [] e = absurd (omega (arith, e))
+written_front zero [] (b ∷ onto) e = refl
+written_front (suc k) [] (b ∷ onto) e = absurd (omega (arith, e))
+written_front zero (a ∷ from) (b ∷ onto) e = absurd (omega (arith, e))
+written_front (suc k) (a ∷ from) (b ∷ onto) e = ap (λ (ws : List Waiting). a ∷ ws) (written_front k from onto (omega (arith, e)))
 
-pub stops : (i n : ℕ) → (ltb i n && ltb i most_places) ≡ false → (n ≤ i) ⊎ (most_places ≤ i)
-stops i n e =
-    elim (and_fails (ltb i n) (ltb i most_places) e) [ inl a ↦ inl (ltb-false i n a) | inr a ↦ inr (ltb-false i most_places a.1) ]
+-- A list is written as far as it goes.
+pub written_all : (n : ℕ) (from onto : List Waiting) → length from ≡ n → written (length onto) from onto ≡ written n from onto
+unfolding written
+written_all zero [] onto e = written_nothing (length onto) onto
+written_all zero (a ∷ from) onto e = absurd (omega (arith, e))
+written_all (suc n) [] onto e = absurd (omega (arith, e))
+written_all (suc n) (a ∷ from) [] e = refl
+written_all (suc n) (a ∷ from) (b ∷ onto) e = ap (λ (ws : List Waiting). a ∷ ws) (written_all n from onto (omega (arith, e)))

@@ -2,20 +2,19 @@
 #![tactic(auto)]
 
 pub mod inner;
-mod lent;
 
 ghost use Rattle.std.specs.Prelude.{length};
 ghost use Rattle.lock_queue.specs.Requests.{asks, leaves, lapses, Turns};
 ghost use Rattle.lock_queue_lent.specs.Slice.{lent_state};
 
 use inner::places::{load, store};
-use lent::{asked, lapsed, left};
 use lock_queue::{LeaseExpiry, LockAnswer, Waiting};
 use stamps::Pair;
 
 // ---- Between lent places and places by value: a lent slice of waiting entries is loaded, and the queue as it then is stored back.
 
 // What a queue keeps beside its places: how many of them are taken, and the largest stamps, s and x, that were accepted in it so far.
+// Kept: a count beside lent places, which may hold any number; one past the places is a bad queue (10, `good` of specs).
 #[derive(Clone, Copy)]
 pub struct Kept {
     pub count: usize,
@@ -33,8 +32,7 @@ pub struct LentOutcome {
 pub fn ask(places: &mut [Waiting], kept: Kept, new: Waiting) -> LentOutcome
     ensures { Turns (length places.old) (lent_state places.old kept) (asks new) result.answer (lent_state places.new result.kept) }
 {
-    let by_value = load(places);
-    let outcome = asked(by_value, kept, places.len(), new);
+    let outcome = lock_queue::ask(load(places, kept), places.len(), new);
     store(places, outcome)
 }
 
@@ -42,8 +40,7 @@ pub fn ask(places: &mut [Waiting], kept: Kept, new: Waiting) -> LentOutcome
 pub fn leave(places: &mut [Waiting], kept: Kept, desk: u32) -> LentOutcome
     ensures { Turns (length places.old) (lent_state places.old kept) (leaves desk) result.answer (lent_state places.new result.kept) }
 {
-    let by_value = load(places);
-    let outcome = left(by_value, kept, places.len(), desk);
+    let outcome = lock_queue::leave(load(places, kept), places.len(), desk);
     store(places, outcome)
 }
 
@@ -51,7 +48,6 @@ pub fn leave(places: &mut [Waiting], kept: Kept, desk: u32) -> LentOutcome
 pub fn lapse(places: &mut [Waiting], kept: Kept, expiry: LeaseExpiry) -> LentOutcome
     ensures { Turns (length places.old) (lent_state places.old kept) (lapses expiry) result.answer (lent_state places.new result.kept) }
 {
-    let by_value = load(places);
-    let outcome = lapsed(by_value, kept, places.len(), expiry);
+    let outcome = lock_queue::lapse(load(places, kept), places.len(), expiry);
     store(places, outcome)
 }

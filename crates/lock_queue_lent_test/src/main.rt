@@ -47,10 +47,8 @@ fn crowd() -> [Waiting; 32]
     ensures { result ≡ crowded.places }
 {
     let mut all = [guest(1); 32];
-    let mut i = 0;
-    while i < 32 {
+    for i in 0..32 {
         all[i] = guest(i as u16 + 1);
-        i += 1;
     }
     all
 }

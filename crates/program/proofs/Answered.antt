@@ -8,6 +8,7 @@ use lib.Seq.{take_at, length-take-le}
 use borrow.Author.Tests.{lt-ltb, le-ltb}
 use native.Mathlib.Omega.{arith}
 use native.Mathlib.Nat.{zero-add}
+use Rattle.std.specs.Prelude.{Some, None}
 use Rattle.lists.specs.Parts.{part, splice}
 use Rattle.lists.proofs.Parts.{part_replicate, splice_nil}
 use Rattle.image.specs.Layout.{most_room}
@@ -16,11 +17,11 @@ use Rattle.program.specs.Text.{quoted}
 use Rattle.program.specs.inner.Put.{Put}
 use Rattle.program.proofs.Puts.{put_put, put_wide}
 use Rattle.formats.specs.Format.{V1}
-use Rattle.image.specs.Image.{good_front, front_size, front_of, sound}
+use Rattle.image.specs.Image.{claimed, good_front, front_size, front_of, sound}
 use Rattle.image.specs.declared.Dimensions.{Dimensions}
 use Rattle.program.specs.Program.{first_line, most_line, most_input, image_of, stream_of, blank_of, printed, most_printed, output_of, most_output, output_within}
 use Rattle.program.specs.inner.Ready.{Ready}
-use Rattle.image.proofs.InFront.{Fronting, front, good_front_lem}
+use Rattle.image.proofs.InFront.{Fronting, good_front_lem}
 use Rattle.store.proofs.Running.{back_of}
 
 front_of_lem : (n : ℕ) (v l : List ℕ) → length v ≡ n → take n (splice 0 v l) ≡ v
@@ -45,18 +46,28 @@ answered_by size room input blank copy within most put run =
 -- ---- the three cases
 
 -- What the front is told to be, where there is one.
-module _ (input : List ℕ) (d : Dimensions) (is : d ≡ front_of input) (some : d.size ≡ 0 → ⊥) where
-  size_is : d.size ≡ front_size input
-  size_is = ap (λ (d : Dimensions). d.size) is
+module _ (input : List ℕ) (d : Dimensions) (is : Some d ≡ front_of input) where
+  good : good_front input ≡ true
+  good = go (good_front input) refl
+    where
+      go : (b : Bool) → good_front input ≡ b → good_front input ≡ true
+      go true e = e
+      go false e = let never : Some d ≡ None = is ∙ rw e in cc
 
   there : Fronting input
-  there = front input (λ e. some (size_is ∙ e))
+  there = good_front_lem input good
+
+  told : d ≡ record { size = claimed input; cards = count_of input; room = room_of input }
+  told = let same = is ∙ there.said in cc
+
+  size_is : d.size ≡ front_size input
+  size_is = ap (λ (d : Dimensions). d.size) told ∙ sym there.size
 
   cards_is : d.cards ≡ count_of input
-  cards_is = ap (λ (d : Dimensions). d.cards) is ∙ there.cards_said
+  cards_is = ap (λ (d : Dimensions). d.cards) told
 
   room_is : d.room ≡ room_of input
-  room_is = ap (λ (d : Dimensions). d.room) is ∙ there.room_said
+  room_is = ap (λ (d : Dimensions). d.room) told
 
   pub lent : (out : List ℕ) (at : ℕ) → length input ≤ most_input → at ≤ most_line → most_output ≤ length out → Ready input d.size d.room out at
   lent out at h j k =
@@ -87,28 +98,21 @@ module _ (input : List ℕ) {out out' : List ℕ} {r : ℕ} where
   too_long h p = rw (long_output input h) (put_wide (omega arith) p)
 
   module _ (h : length input ≤ most_input) where
-    pub bad_store : (d : Dimensions) → d ≡ front_of input → d.size ≡ 0 → Put 0 10 (quoted "bad store\n") out out' r → Put 0 most_output (output_of input) out out' r
-    bad_store d is z p = go (good_front input) refl
+    pub bad_store : None ≡ front_of input → Put 0 10 (quoted "bad store\n") out out' r → Put 0 most_output (output_of input) out out' r
+    bad_store none p = go (good_front input) refl
       where
         go : (b : Bool) → good_front input ≡ b → Put 0 most_output (output_of input) out out' r
         go false e = rw (bad_output input h e) (put_wide (omega arith) p)
-        go true e =
-            let f = good_front_lem input e in
-            let none : front_size input ≡ 0 = sym (ap (λ (d : Dimensions). d.size) is) ∙ z in
-            absurd (omega (arith, f.size, none))
+        go true e = let never = none ∙ (good_front_lem input e).said in cc
 
-    pub lines_of : (d : Dimensions) → d ≡ front_of input → (d.size ≡ 0 → ⊥) → {at : ℕ} {out₁ : List ℕ} →
+    pub lines_of : (d : Dimensions) → Some d ≡ front_of input → {at : ℕ} {out₁ : List ℕ} →
         Put 0 most_line (first_line d.cards) out out₁ at →
         Put at (most_printed (drop d.size input)) (printed (take d.size input) (replicate d.room 0) (drop d.size input)) out₁ out' r →
         Put 0 most_output (output_of input) out out' r
-    lines_of d is some first rest = go (good_front input) refl
-      where
-        go : (b : Bool) → good_front input ≡ b → Put 0 most_output (output_of input) out out' r
-        go true e =
-            rw (good_output input h e)
-            (put_wide (omega (arith, length-drop (front_size input) input))
-            (put_put (omega arith) (rw (cards_is input d is some) at first) (rw (size_is input d is some, room_is input d is some) at rest)))
-        go false e = absurd (some (size_is input d is some ∙ rw e))
+    lines_of d is first rest =
+        rw (good_output input h (good input d is))
+        (put_wide (omega (arith, length-drop (front_size input) input))
+        (put_put (omega arith) (rw (cards_is input d is) at first) (rw (size_is input d is, room_is input d is) at rest)))
 
 -- ---- by the room that is lent
 

@@ -4,12 +4,11 @@ use native.Mathlib.Omega.{arith}
 use mathlib.Core.Path.{◌≡◌, refl, ap, ◌∙◌}
 use mathlib.Core.List.{List, append-nil}
 use lib.ListN.{length, take, drop}
+use Rattle.std.specs.Prelude.{Option, Some, None}
 use Rattle.formats.specs.Format.{V1}
 use Rattle.lists.specs.Parts.{part, splice, concat_map}
 use Rattle.lists.proofs.Parts.{length_part}
 use Rattle.stream.specs.Stream.{commands, next_at, end_to_end}
-use Rattle.stream.specs.declared.Next.{Next}
-use Rattle.stream.specs.declared.Next.TheVariants.{Whole, Cut}
 use Rattle.stream.proofs.Walks as walk
 use Rattle.store_model.specs.Serve.{serve}
 use Rattle.store.specs.Runs.{runs, per_line, ServesTo}
@@ -28,25 +27,25 @@ module _ (image reply stream line : List ℕ) (from : ℕ) {image' reply' line' 
       × (line' ≡ splice 0 (lined (runs V1 image reply (take 1 cs))) line)))
   left cs e = rw (back_of from stream, eight, e) at run
 
-  pub none_left : ran.count ≡ 0 → next_at V1 stream from ≡ Cut
+  pub none_left : ran.count ≡ 0 → next_at V1 stream from ≡ None
   none_left none = go (next_at V1 stream from) refl
     where
-      go : (n : Next) → next_at V1 stream from ≡ n → next_at V1 stream from ≡ Cut
-      go Cut e = e
-      go (Whole end) e =
+      go : (n : Option ℕ) → next_at V1 stream from ≡ n → next_at V1 stream from ≡ None
+      go None e = e
+      go (Some end) e =
           let one = ap (λ (r : Ran). r.count) (left _ (walk.passes V1 stream from end e).2).0 in
           absurd (omega (arith, one, none))
 
   -- The place behind the command, and what it comes to.
   pub one_judged : (ran.count ≡ 0 → ⊥) →
-      (next_at V1 stream from ≡ Whole (from + ran.end)) × ServesTo V1 image (take (from + ran.end - from) (drop from stream)) reply line' image' reply'
+      (next_at V1 stream from ≡ Some (from + ran.end)) × ServesTo V1 image (take (from + ran.end - from) (drop from stream)) reply line' image' reply'
   unfolding runs concat_map part
   one_judged some = go (next_at V1 stream from) refl
     where
-      go : (n : Next) → next_at V1 stream from ≡ n →
-          (next_at V1 stream from ≡ Whole (from + ran.end)) × ServesTo V1 image (take (from + ran.end - from) (drop from stream)) reply line' image' reply'
-      go Cut e = absurd (some (ap (λ (r : Ran). r.count) (left _ (walk.stops V1 stream from e)).0))
-      go (Whole end) e =
+      go : (n : Option ℕ) → next_at V1 stream from ≡ n →
+          (next_at V1 stream from ≡ Some (from + ran.end)) × ServesTo V1 image (take (from + ran.end - from) (drop from stream)) reply line' image' reply'
+      go None e = absurd (some (ap (λ (r : Ran). r.count) (left _ (walk.stops V1 stream from e)).0))
+      go (Some end) e =
           let w = walk.passes V1 stream from end e in
           let l = left _ w.2 in
           let long : ran.end ≡ length (part from (end - from) stream) = ap (λ (r : Ran). r.end) l.0 ∙ ap length (append-nil (part from (end - from) stream)) in

@@ -4,6 +4,7 @@ use mathlib.Core.Path.{◌≡◌, refl, subst, ◌∙◌}
 use mathlib.Core.List.{List}
 use lib.ListN.{length, take, drop}
 use native.Mathlib.Omega.{arith}
+use Rattle.std.specs.Prelude.{Some, None}
 use Rattle.formats.specs.Format.{V1, fixed}
 use Rattle.lists.specs.Parts.{part}
 use Rattle.program.specs.inner.Put.{Put}
@@ -16,7 +17,6 @@ use Rattle.store.specs.declared.Ran.{Ran}
 use Rattle.program.proofs.OneLine.{none_left, one_judged}
 use Rattle.store_model.specs.Serve.{serve}
 use Rattle.stream.specs.Stream.{commands, next_at, end_of}
-use Rattle.stream.specs.declared.Next.TheVariants.{Whole, Cut}
 use Rattle.stream.proofs.Commands.{Walked, walked_none, walked_more, walked_done}
 use Rattle.stream.proofs.Walks as walk
 
@@ -46,19 +46,19 @@ module _ {start : ℕ} {image₀ reply₀ stream out₀ image reply out : List �
   -- What is left was run with room for one line.
   module _ (line : List ℕ) {image' reply' line' : List ℕ} {ran : Ran} (eight : length line ≡ per_line)
       (run : RunsTo V1 image (take (length stream - from) (drop from stream)) reply line ran image' reply' line') where
-    pub running_stops : ran.count ≡ 0 → next_at V1 stream from ≡ Cut
+    pub running_stops : ran.count ≡ 0 → next_at V1 stream from ≡ None
     running_stops = none_left image reply stream line from eight run
 
     pub running_judged : (ran.count ≡ 0 → ⊥) →
-        (next_at V1 stream from ≡ Whole (from + ran.end)) × ServesTo V1 image (take (from + ran.end - from) (drop from stream)) reply line' image' reply'
+        (next_at V1 stream from ≡ Some (from + ran.end)) × ServesTo V1 image (take (from + ran.end - from) (drop from stream)) reply line' image' reply'
     running_judged = one_judged image reply stream line from eight run
 
-  pub running_within : (end : ℕ) → next_at V1 stream from ≡ Whole end → (from < end) × (end ≤ length stream) × (place < end) × (to + most_line ≤ length out)
+  pub running_within : (end : ℕ) → next_at V1 stream from ≡ Some end → (from < end) × (end ≤ length stream) × (place < end) × (to + most_line ≤ length out)
   running_within end e =
       let s = walk.passes V1 stream from end e in
       (omega (arith, s.0), s.1, omega (arith, s.0, r.few), omega (arith, s.0, s.1, r.few, r.far, r.room, r.lines.long))
 
-  pub running_more : (end : ℕ) (a : Answer) (image' reply' out' : List ℕ) (to' : ℕ) → next_at V1 stream from ≡ Whole end →
+  pub running_more : (end : ℕ) (a : Answer) (image' reply' out' : List ℕ) (to' : ℕ) → next_at V1 stream from ≡ Some end →
       a ≡ (serve V1 image (take (end - from) (drop from stream)) reply).answer →
       image' ≡ (serve V1 image (take (end - from) (drop from stream)) reply).image →
       reply' ≡ (serve V1 image (take (end - from) (drop from stream)) reply).reply →
@@ -80,10 +80,10 @@ module _ {start : ℕ} {image₀ reply₀ stream out₀ image reply out : List �
         lines = putting_more (line_of place a) _ r.lines (rw (s.2, l, p, q)) o w.3;
       }
 
-  pub running_less : (end : ℕ) → next_at V1 stream from ≡ Whole end → length stream - end < length stream - from
+  pub running_less : (end : ℕ) → next_at V1 stream from ≡ Some end → length stream - end < length stream - from
   running_less end e = (walked_more V1 stream from end r.walked e).1
 
-  module _ (e : next_at V1 stream from ≡ Cut) where
+  module _ (e : next_at V1 stream from ≡ None) where
     pub running_fits : to + most_line ≤ length out
     running_fits = omega (arith, r.walked.within, r.few, r.far, r.room, r.lines.long)
 

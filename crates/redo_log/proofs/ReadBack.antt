@@ -6,7 +6,7 @@ use mathlib.Core.Bool.{true, false}
 use lib.ListN.{length, take, drop, get_or, get_or-eq_default}
 use Rattle.lists.proofs.ConcatMap.{get_d_tabulate, length_tabulate}
 use Rattle.redo_log.proofs.Records.{body_at}
-use Rattle.redo_log.specs.Log.{LogRecord, no_record, record_count, kind_at, length_at, start_at, record_at, good_log, records, read_at}
+use Rattle.redo_log.specs.Log.{LogRecord, no_record, record_count, kind_at, length_at, start_at, record_at, good_log, records, read_back, read_at}
 
 pub read_bad : (log : List ℕ) (i : ℕ) → good_log log ≡ false → no_record ≡ read_at log i
 unfolding read_at
@@ -15,6 +15,9 @@ read_bad log i g = rw g
 pub length_records : (log : List ℕ) → length (records log) ≡ record_count log
 unfolding records
 length_records log = length_tabulate (record_at log) (record_count log)
+
+pub length_read : (log : List ℕ) → good_log log ≡ true → length (read_back log) ≡ record_count log
+length_read log g = rw g (length_records log)
 
 pub record_of : (log : List ℕ) (i : ℕ) → i < record_count log → get_or (records log) i no_record ≡ record_at log i
 unfolding records

@@ -1,20 +1,17 @@
 -- Laws of what is read of a log, in the words of the code. Assumes nothing.
-use Prim.Native.Nat.{ℕ, zero, suc, ◌+◌, ◌*◌, ◌≤◌, ◌<◌}
-use native.Mathlib.Omega.{arith}
-use native.Mathlib.Nat.{mod-eq_of_lt}
+use Prim.Native.Nat.{ℕ, zero, suc, ◌+◌, ◌≤◌, ◌<◌}
 use native.Mathlib.Numerals.{add-one}
 use mathlib.Core.Path.{◌≡◌, refl, sym, ap, ◌∙◌, subst}
 use mathlib.Core.Logic.{◌⊎◌, inl, inr}
-use mathlib.Core.List.{List}
-use mathlib.Core.Bool.{Bool, true, false, not, ◌&&◌, ◌||◌}
-use borrow.Author.Tests.{eq-eqb, ne_eqb, le-leb, lt-leb, ltb-true, ltb-false}
-use lib.ListN.{length, drop, get_or, drop_of_length-le}
+use mathlib.Core.List.{List, [], ◌∷◌}
+use mathlib.Core.Bool.{Bool, true, false, cond, not, ◌&&◌, ◌||◌}
+use borrow.Author.Tests.{eqb-true, eq-eqb, ne_eqb, le-leb, lt-leb}
+use lib.ListN.{length}
 use lib.Dec.{ltb, leb, eqb}
 use Rattle.lists.specs.Parts.{part, every}
-use Rattle.lists.specs.Le.{le, field}
+use Rattle.lists.specs.Le.{field}
 use Rattle.lists.specs.Table.{all, all_from}
-use Rattle.lists.proofs.Tests.{and_right, or_cases, or_fails}
-use Rattle.lists.proofs.Parts.{drop_left, part_part}
+use Rattle.lists.proofs.Tests.{and_right, cases}
 use Rattle.lists.proofs.Every.{every_fail}
 use Rattle.redo_log.specs.Log.{
   LogRecord,
@@ -35,37 +32,23 @@ use Rattle.redo_log.specs.Log.{
   record_count,
   start_at,
   record_at,
+  record_transaction,
   last_begun,
   opened,
   record_ok,
   good_log,
 }
-use Rattle.redo_log.proofs.Records.{start_next, ok_inside, begin_length}
-use Rattle.redo_log.specs.inner.Scanned.{scanned}
-use Rattle.redo_log.specs.declared.inner.reading.Scan.{Scan}
+use Rattle.redo_log.proofs.Records.{start_next, ok_inside}
+use Rattle.std.specs.List.{sum_by}
+use Rattle.std.proofs.lemmas.List.Sums.{sum_by-cons}
 
 -- ---- the sum
 
-pub record Summing (body : List ℕ) (sum i : ℕ) : Type 0 where
-  pub within : i ≤ length body
-  pub adds : sum + total (drop i body) ≡ total body
-  pub small : sum ≤ 255 * i
-
-pub summing_none : (body : List ℕ) → Summing body 0 0
-summing_none body = record { within = omega arith; adds = omega arith; small = omega arith }
-
-pub summing_more : (body : List ℕ) (sum i : ℕ) → i < length body → get_or body i 0 < 256 → Summing body sum i → Summing body (sum + get_or body i 0) (i + 1)
+-- The bytes added up, as the library adds them.
+pub total_sum : (body : List ℕ) → sum_by (λ (x : ℕ). x) body ≡ total body
 unfolding total
-summing_more body sum i h b s =
-    let one : total (drop i body) ≡ get_or body i 0 + total (drop (i + 1) body) = rw (drop_left body 0 h) in
-    record { within = omega arith; adds = omega (arith, s.adds, one); small = omega (arith, s.small) }
-
-pub summing_done : (body : List ℕ) (sum i : ℕ) → length body ≤ 65536 → length body ≤ i → Summing body sum i → sum ≡ checksum body
-unfolding total
-summing_done body sum i m h s =
-    let none : total (drop i body) ≡ 0 = rw (drop_of_length-le body h) in
-    let whole : sum ≡ total body = omega (arith, s.adds, none) in
-    sym (rw (← whole) (mod-eq_of_lt (omega (arith, s.small, s.within))))
+total_sum [] = refl
+total_sum (b ∷ l) = sum_by-cons (λ (x : ℕ). x) b l ∙ ap (λ (n : ℕ). b + n) (total_sum l)
 
 -- ---- a record that may follow
 
@@ -105,17 +88,17 @@ module _ (log : List ℕ) (i : ℕ) where
   unfolding record_ok start_at all all_from
   ok_by h = rw (le-leb (start_at log i + length_at log i) (length log) h)
 
-  pub last_kept : (kind_at log i ≡ 1 → ⊥) → last_begun (record_at log) (i + 1) ≡ last_begun (record_at log) i
+  -- The last transaction begun, with record i.
+  pub last_next : (kind last : ℕ) (body : List ℕ) → kind ≡ (record_at log i).kind → body ≡ (record_at log i).body → last ≡ last_begun (record_at log) i
+      → cond (eqb kind begin_kind) (field 0 4 body) last ≡ last_begun (record_at log) (i + 1)
   unfolding last_begun record_at
-  last_kept n = rw (add-one, ne_eqb (kind_at log i) 1 n)
-
-  pub last_new : record_ok log i ≡ true → kind_at log i ≡ 1 → last_begun (record_at log) (i + 1) ≡ le (part (start_at log i) 4 log)
-  unfolding last_begun record_at
-  last_new e k =
-      let four : length_at log i ≡ 4 = begin_length log i e k in
-      let place : start_at log i + 0 ≡ start_at log i = omega arith in
-      rw (add-one, eq-eqb (kind_at log i) 1 k, four, k)
-      (ap le (part_part (start_at log i) 4 0 4 log (omega arith)) ∙ rw place)
+  last_next kind last body ek eb el = rw (add-one, ek, eb, el) (go (cases (eqb (kind_at log i) 1)))
+    where
+      go : (eqb (kind_at log i) 1 ≡ true) ⊎ (eqb (kind_at log i) 1 ≡ false)
+          → cond (eqb (kind_at log i) 1) (field 0 4 (record_at log i).body) (last_begun (record_at log) i)
+          ≡ cond (eqb (kind_at log i) 1) (record_transaction (record_at log i)) (last_begun (record_at log) i)
+      go (inl e) = let k : kind_at log i ≡ 1 = eqb-true (kind_at log i) 1 e in rw k
+      go (inr e) = rw e
 
   pub opened_next : opened (record_at log) (i + 1) ≡ (eqb (kind_at log i) begin_kind || opened (record_at log) i && not (eqb (kind_at log i) commit_kind))
   unfolding opened record_at
@@ -142,24 +125,17 @@ module _ (log : List ℕ) (i : ℕ) where
 -- ---- the whole log
 
 module _ (log : List ℕ) where
-  pub bad_size : (ltb (length log) 2201 || ltb 65536 (length log)) ≡ true → good_log log ≡ false
+  pub bad_short : length log < 2201 → good_log log ≡ false
   unfolding good_log
-  bad_size e = go (or_cases (ltb (length log) 2201) (ltb 65536 (length log)) e)
-    where
-      go : (ltb (length log) 2201 ≡ true) ⊎ (ltb 65536 (length log) ≡ true) →
-          (leb bodies_from (length log) && leb (length log) most_log && leb (record_count log) most_records && every (record_ok log) (record_count log)) ≡ false
-      go (inl f) = rw (lt-leb bodies_from (length log) (ltb-true (length log) 2201 f))
-      go (inr f) = rw (lt-leb (length log) most_log (ltb-true 65536 (length log) f))
-          (falls (leb bodies_from (length log)) (leb (record_count log) most_records) (every (record_ok log) (record_count log)))
-        where
-          falls : (a b c : Bool) → (a && false && b && c) ≡ false
-          falls true b c = refl
-          falls false b c = refl
+  bad_short h = rw (lt-leb bodies_from (length log) h)
 
-  pub size_from : (ltb (length log) 2201 || ltb 65536 (length log)) ≡ false → (2201 ≤ length log) × (length log ≤ 65536)
-  size_from e =
-      let both = or_fails (ltb (length log) 2201) (ltb 65536 (length log)) e in
-      (ltb-false (length log) 2201 both.0, ltb-false 65536 (length log) both.1)
+  pub bad_long : 65536 < length log → good_log log ≡ false
+  unfolding good_log
+  bad_long h = rw (lt-leb (length log) most_log h) (falls (leb bodies_from (length log)) (leb (record_count log) most_records) (every (record_ok log) (record_count log)))
+    where
+      falls : (a b c : Bool) → (a && false && b && c) ≡ false
+      falls true b c = refl
+      falls false b c = refl
 
   pub bad_count : 200 < record_count log → good_log log ≡ false
   unfolding good_log
@@ -184,47 +160,36 @@ module _ (log : List ℕ) where
   unfolding good_log
   good_by f m n e = rw (le-leb 2201 (length log) f, le-leb (length log) 65536 m, le-leb (record_count log) 200 n, e)
 
-  pub scanned_bad : good_log log ≡ false → record { good = false; stop = 0; last = 0; running = false } ≡ scanned log
-  unfolding scanned
-  scanned_bad e = rw e
+  -- What the scan knows before record i, of the first `count` records of `bytes`.
+  pub record Scanning (bytes : List ℕ) (count stop last : ℕ) (running : Bool) (i : ℕ) : Type 0 where
+    pub same : bytes ≡ log
+    pub counted : count ≡ i
+    pub kept : every (record_ok bytes) count ≡ true
+    pub stops : stop ≡ start_at bytes count
+    pub lasts : last ≡ last_begun (record_at bytes) count
+    pub runs : running ≡ opened (record_at bytes) count
 
-  -- What the loop knows before record i.
-  pub record Scanning (stop last : ℕ) (running : Bool) (i : ℕ) : Type 0 where
-    pub within : i ≤ record_count log
-    pub stops : stop ≡ start_at log i
-    pub fits : stop ≤ length log
-    pub lasts : last ≡ last_begun (record_at log) i
-    pub runs : running ≡ opened (record_at log) i
-    pub sofar : every (record_ok log) i ≡ true
-
-  pub scanning_none : 2201 ≤ length log → Scanning 2201 0 false 0
+  pub scanning_none : Scanning log 0 2201 0 false 0
   unfolding start_at last_begun opened every
-  scanning_none h = record { within = omega arith; stops = refl; fits = h; lasts = refl; runs = refl; sofar = refl }
+  scanning_none = record { same = refl; counted = refl; kept = refl; stops = refl; lasts = refl; runs = refl }
 
-  pub scanning_done : (stop last : ℕ) (running : Bool) (i : ℕ) → 2201 ≤ length log → length log ≤ 65536 → record_count log ≤ 200 → record_count log ≤ i
-      → Scanning stop last running i
-      → record { good = true; stop = stop; last = last; running = running } ≡ scanned log
-  unfolding scanned
-  scanning_done stop last running i f m n h s =
-      let all_of : i ≡ record_count log = omega (arith, s.within) in
-      rw (s.stops, s.lasts, s.runs, all_of, good_by f m n (rw all_of at s.sofar))
+-- The last record is reached.
+pub record Scanned (log : List ℕ) (stop last : ℕ) (running : Bool) : Type 0 where
+  pub good : good_log log ≡ true
+  pub stops : stop ≡ start_at log (record_count log)
+  pub lasts : last ≡ last_begun (record_at log) (record_count log)
+  pub runs : running ≡ opened (record_at log) (record_count log)
 
--- What a scan says, field by field.
-pub good_of : (s : Scan) (log : List ℕ) → s ≡ scanned log → s.good ≡ good_log log
-unfolding scanned
-good_of s log e = rw e
-
-pub stop_of : (s : Scan) (log : List ℕ) → s ≡ scanned log → good_log log ≡ true → s.stop ≡ start_at log (record_count log)
-unfolding scanned
-stop_of s log e g = rw (e, g)
-
-pub last_of : (s : Scan) (log : List ℕ) → s ≡ scanned log → good_log log ≡ true → s.last ≡ last_begun (record_at log) (record_count log)
-unfolding scanned
-last_of s log e g = rw (e, g)
-
-pub running_of : (s : Scan) (log : List ℕ) → s ≡ scanned log → good_log log ≡ true → s.running ≡ opened (record_at log) (record_count log)
-unfolding scanned
-running_of s log e g = rw (e, g)
+pub scanning_done : (log bytes : List ℕ) (count stop last : ℕ) (running : Bool) (i : ℕ) → 2201 ≤ length log → length log ≤ 65536 → record_count log ≤ 200 → i ≡ record_count log
+    → Scanning log bytes count stop last running i → Scanned log stop last running
+scanning_done log bytes count stop last running i f m n e s =
+    let all_of : count ≡ record_count log = s.counted ∙ e in
+    record {
+      good = good_by log f m n (rw (s.same, all_of) at s.kept);
+      stops = rw (s.same, all_of) at s.stops;
+      lasts = rw (s.same, all_of) at s.lasts;
+      runs = rw (s.same, all_of) at s.runs;
+    }
 
 -- The bodies of a good log lie within it.
 pub start_fits : (log : List ℕ) → 2201 ≤ length log → (n : ℕ) → every (record_ok log) n ≡ true → start_at log n ≤ length log

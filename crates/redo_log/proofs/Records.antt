@@ -149,6 +149,20 @@ shaped_synced : (body : List ℕ) → shaped (record { kind = 4; body = body }) 
 unfolding shaped
 shaped_synced body e = eqb-true (length body) 6 (and_right (ltb (length body) 65536) _ e)
 
+-- The same where the kind is known by an equation.
+pub update_long : (kind : ℕ) (body : List ℕ) → shaped (record { kind = kind; body = body }) ≡ true → kind ≡ 2 → (3 ≤ length body) × (length body < 65536)
+unfolding shaped
+update_long kind body s e = (
+  shaped_update body (subst (λ (k : ℕ). shaped (record { kind = k; body = body }) ≡ true) e s),
+  ltb-true (length body) 65536 (and_left (ltb (length body) 65536) _ s),
+)
+
+pub commit_long : (kind : ℕ) (body : List ℕ) → shaped (record { kind = kind; body = body }) ≡ true → kind ≡ 3 → length body ≡ 4
+commit_long kind body s e = shaped_four kind body s (λ f. absurd (omega arith)) (λ f. absurd (omega arith))
+
+pub synced_long : (kind : ℕ) (body : List ℕ) → shaped (record { kind = kind; body = body }) ≡ true → kind ≡ 4 → length body ≡ 6
+synced_long kind body s e = shaped_synced body (subst (λ (k : ℕ). shaped (record { kind = k; body = body }) ≡ true) e s)
+
 pub record_kind : (log : List ℕ) (i : ℕ) → (record_at log i).kind ≡ kind_at log i
 unfolding record_at
 record_kind log i = refl

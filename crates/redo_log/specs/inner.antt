@@ -1,2 +1,3 @@
-pub mod Scanned
 pub mod Admitted
+pub mod Placed
+pub mod Shown

@@ -3,11 +3,15 @@
 
 pub mod inner;
 
-ghost use Rattle.std.specs.Prelude.{◌≡◌};
-ghost use Rattle.redo_log.specs.Log.{log_number, read_at};
+ghost use Rattle.std.specs.Prelude.{◌≡◌, ◌<◌, ◌↔◌, [], IsSome, length};
+ghost use Rattle.std.specs.Option.{unwrap_or, option_copied};
+ghost use Rattle.numbers.specs.Refusals.{number_of};
+ghost use Rattle.redo_log.specs.Log.{log_number, read_at, read_back};
 ghost use Rattle.redo_log.specs.Append.{append_number, appended};
 
-use numbers::{ACCEPTED, APPEND_CUT, BAD_LOG, LOG_FULL};
+use inner::reading::may_join;
+use inner::records::{CheckedLog, LINE_AND_COUNT};
+use numbers::Refusal;
 
 // The layout of a log (rules 11.1 and 11.2): a byte for the count, a table of lines, and the bodies.
 pub const MOST_RECORDS: usize = 200;
@@ -16,62 +20,58 @@ pub const BODIES: usize = 2201;
 
 pub const MOST_LOG: usize = 65536;
 
-// 0 for a good log, else 23.
-pub fn check(log: &[u8]) -> u8
-    ensures { result ≡ log_number log.now }
+// Whether a log is good.
+pub fn check(log: &[u8]) -> Result<(), Refusal>
+    ensures { number_of result ≡ log_number log.now }
 {
-    let s = inner::reading::scan_of(log);
-    if !s.good {
-        return BAD_LOG;
+    match CheckedLog::of(log) {
+        Some(_) => Ok(()),
+        None => Err(Refusal::BadLog),
     }
-    0
 }
 
-// The kind of record i; 0 where the log is not good or has no such record.
-pub fn kind_of(log: &[u8], i: usize) -> u8
-    ensures { result ≡ (read_at log.now i).kind }
+// The kind of record i; none where the log is not good or has no such record.
+pub fn kind_of(log: &[u8], i: usize) -> Option<u8>
+    ensures kind { unwrap_or result 0 ≡ (read_at log.now i).kind }
+    ensures there { IsSome result ↔ (i < length (read_back log.now)) }
 {
-    if check(log) != ACCEPTED {
-        return 0;
+    let log = CheckedLog::of(log)?;
+    if log.count() as usize <= i {
+        return None;
     }
-    if inner::records::count(log) <= i {
-        return 0;
-    }
-    inner::records::kind_at(log, i)
+    Some(log.kind_at(i as u8))
 }
 
-// The body of record i, as a part of the log; empty where the log is not good or has no such record.
-pub fn body_of<'a>(log: &'a [u8], i: usize) -> &'a [u8]
-    ensures { result.now ≡ (read_at log.now i).body }
+// The body of record i, as a part of the log; none where the log is not good or has no such record.
+pub fn body_of<'a>(log: &'a [u8], i: usize) -> Option<&'a [u8]>
+    ensures body { unwrap_or (option_copied result) [] ≡ (read_at log.now i).body }
+    ensures there { IsSome result ↔ (i < length (read_back log.now)) }
 {
-    if check(log) != ACCEPTED {
-        return &log[..0];
+    let log = CheckedLog::of(log)?;
+    if log.count() as usize <= i {
+        return None;
     }
-    if inner::records::count(log) <= i {
-        return &log[..0];
-    }
-    inner::records::body_at(log, i)
+    Some(log.body_at(i as u8))
 }
 
 // Appends a record, as far as the first `budget` stores of one byte go.
-pub fn append(log: &mut [u8], kind: u8, body: &[u8], budget: usize) -> u8
-    ensures number { result ≡ append_number budget log.old (record { kind = kind; body = body.now }) }
+pub fn append(log: &mut [u8], kind: u8, body: &[u8], budget: usize) -> Result<(), Refusal>
+    ensures number { number_of result ≡ append_number budget log.old (record { kind = kind; body = body.now }) }
     ensures log { log.new ≡ appended budget log.old (record { kind = kind; body = body.now }) }
 {
-    let s = inner::reading::scan_of(log);
-    if !s.good {
-        return BAD_LOG;
+    let Some(good) = CheckedLog::of(log) else {
+        return Err(Refusal::BadLog);
+    };
+    let stop = good.stop;
+    if !may_join(kind, body, good.last, good.running) {
+        return Err(Refusal::BadLog);
     }
-    let stop = s.stop;
-    if !inner::reading::may_join(kind, body, s.last, s.running) {
-        return BAD_LOG;
-    }
-    if ((log[0] as usize) == MOST_RECORDS) | (log.len() < stop + body.len()) {
-        return LOG_FULL;
+    if (log[0] as usize == MOST_RECORDS) | (log.len() < stop + body.len()) {
+        return Err(Refusal::LogFull);
     }
     inner::storing::store(log, kind, body, stop, budget);
-    if budget < body.len() + inner::records::LINE_AND_COUNT {
-        return APPEND_CUT;
+    if budget < body.len() + LINE_AND_COUNT {
+        return Err(Refusal::AppendCut);
     }
-    0
+    Ok(())
 }

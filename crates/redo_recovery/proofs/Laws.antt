@@ -1,17 +1,15 @@
 -- Laws that the code of recovery cites. Assumes nothing.
-use Prim.Native.Nat.{ℕ, zero, suc, ◌+◌, ◌-◌, ◌≤◌, ◌<◌}
+use Prim.Native.Nat.{ℕ, ◌+◌, ◌≤◌, ◌<◌}
 use native.Mathlib.Omega.{arith}
-use native.Mathlib.Numerals.{add-one}
-use mathlib.Core.Path.{◌≡◌, refl, sym, ap, ◌∙◌, subst}
-use mathlib.Core.List.{List, [], ◌∷◌}
-use mathlib.Core.Bool.{Bool, true, false, not, ◌&&◌, ◌||◌, and-false}
-use borrow.Author.Tests.{eq-eqb, ne_eqb, le-ltb}
+use mathlib.Core.Path.{◌≡◌, sym, ap, ◌∙◌}
+use mathlib.Core.List.{List, []}
+use mathlib.Core.Bool.{Bool, true, false, not, ◌&&◌, and-false}
+use borrow.Author.Tests.{eq-eqb, eqb-true, le-ltb}
 use lib.ListN.{length, get_or-eq_default}
-use lib.Dec.{leb, eqb, lit<}
+use lib.Dec.{eqb, lit<}
 use Rattle.formats.specs.Format.{V1, translations, entry_size}
-use Rattle.lists.specs.Parts.{Bytes, tabulate, zeros}
-use Rattle.lists.specs.Le.{field}
-use Rattle.lists.proofs.Tests.{to_T, or_left, or_right}
+use Rattle.lists.specs.Parts.{Bytes, zeros}
+use Rattle.lists.proofs.Tests.{to_T, and_left}
 use Rattle.lists.proofs.Bytes.{Bytes_nil}
 use Rattle.commands.specs.Command.{well_formed, FitsCommand}
 use Rattle.commands.specs.declared.Command.{Command}
@@ -27,71 +25,36 @@ use Rattle.store_model.specs.Serve.{serve}
 use Rattle.store_model.proofs.Sound.{stays_sound}
 use Rattle.store.specs.inner.Carried.{carried}
 use Rattle.store.proofs.Step.{refusal, serve_malformed, serve_no_card, serve_found}
-use Rattle.redo_log.specs.Log.{LogRecord, good_log, record_count, last_begun, record_at, records}
+use Rattle.redo_log.specs.Log.{LogRecord, record_count, record_card, last_begun, record_at, records}
 use Rattle.redo_log.proofs.Records.{last_ext}
 use Rattle.redo_log.proofs.ReadBack.{record_of}
 use Rattle.redo_recovery_model.specs.Recovery.{record_in, transaction_in, commits_to, syncs_from, due, entry_for}
 use Rattle.lists.specs.Search.{any}
-use Rattle.store_model.proofs.Meaning.{any_append}
+use Rattle.redo_log.specs.inner.Placed.{Placed, placed_at}
+use Rattle.redo_recovery.specs.inner.Step.{due_by}
 
--- ---- a search through the records
+-- ---- a record that is due
 
-module _ (p : LogRecord → Bool) (log : List ℕ) where
-  abbrev among : ℕ → Bool
-  among n = any p (tabulate (record_at log) n)
+module _ (rs : List LogRecord) (p : Placed) (e : p.entry.kind ≡ 2) {a : Bool} (ea : a ≡ any (commits_to p.transaction) rs) where
+  pub due_when : {b : Bool} → a ≡ true → b ≡ any (syncs_from (record_card p.entry) p.transaction) rs → not b ≡ due_by rs p
+  due_when t eb = rw (eq-eqb p.entry.kind 2 e, sym ea ∙ t, eb)
 
-  pub sought_none : among 0 ≡ false
-  unfolding tabulate
-  sought_none = refl
+  pub due_unless : a ≡ false → a ≡ due_by rs p
+  due_unless f = rw (eq-eqb p.entry.kind 2 e, sym ea ∙ f, f)
 
-  next_of : (n : ℕ) → among (suc n) ≡ (among n || (p (record_at log n) || false))
-  unfolding tabulate
-  next_of n = any_append p (tabulate (record_at log) n) (record_at log n ∷ [])
-
-  pub sought_more : (n : ℕ) → among n ≡ false → p (record_at log n) ≡ false → among (n + 1) ≡ false
-  sought_more n e g = rw add-one (next_of n ∙ rw (e, g))
-
-  grows : (i k : ℕ) → among i ≡ true → among (i + k) ≡ true
-  grows i zero e = let z : i + 0 ≡ i = omega arith in rw z e
-  grows i (suc k) e = let z : i + suc k ≡ suc (i + k) = omega arith in rw z (next_of (i + k) ∙ or_left (p (record_at log (i + k)) || false) (grows i k e))
-
-  pub sought_found : (i : ℕ) → i < record_count log → p (record_at log i) ≡ true → any p (records log) ≡ true
-  unfolding records
-  sought_found i h e =
-      let z : suc i + (record_count log - suc i) ≡ record_count log = omega arith in
-      subst (λ (m : ℕ). among m ≡ true) z (grows (suc i) (record_count log - suc i) (next_of i ∙ or_right (among i) (or_left false e)))
-
-  pub sought_all : (i : ℕ) → i ≡ record_count log → among i ≡ false → any p (records log) ≡ false
-  unfolding records
-  sought_all i e h = rw e at h
-
--- ---- a record, by its kind
-
-pub not_commit : (r : LogRecord) (t : ℕ) → (r.kind ≡ 3 → ⊥) → commits_to t r ≡ false
-not_commit r t n = rw (ne_eqb r.kind 3 n)
-
-pub commit_is : (r : LogRecord) (t : ℕ) → r.kind ≡ 3 → commits_to t r ≡ eqb (field 0 4 r.body) t
-commit_is r t e = rw e
-
-pub not_synced : (r : LogRecord) (card t : ℕ) → (r.kind ≡ 4 → ⊥) → syncs_from card t r ≡ false
-not_synced r card t n = rw (ne_eqb r.kind 4 n)
-
-pub synced_is : (r : LogRecord) (card t : ℕ) → r.kind ≡ 4 → syncs_from card t r ≡ (eqb (field 0 2 r.body) card && leb t (field 2 4 r.body))
-synced_is r card t e = rw e
-
-module _ (log : List ℕ) (j : ℕ) (g : good_log log ≡ true) (h : j < record_count log) where
-  pub not_due : ((record_at log j).kind ≡ 2 → ⊥) → due (records log) j ≡ false
-  unfolding due
-  not_due n = rw (record_of log j h, ne_eqb (record_at log j).kind 2 n)
-
+module _ (log : List ℕ) (j : ℕ) (h : j < record_count log) where
   -- The transaction of record j, as the list of records has it and as the log has it.
   pub last_is : transaction_in (records log) j ≡ last_begun (record_at log) j
   last_is = last_ext (record_in (records log)) (record_at log) j (λ i k. record_of log i (omega arith))
 
-  pub due_is : (record_at log j).kind ≡ 2 → due (records log) j
-      ≡ (any (commits_to (last_begun (record_at log) j)) (records log) && not (any (syncs_from (field 0 2 (record_at log j).body) (last_begun (record_at log) j)) (records log)))
+  pub due_at : due_by (records log) (placed_at log j) ≡ due (records log) j
   unfolding due
-  due_is e = rw (last_is, record_of log j h, eq-eqb (record_at log j).kind 2 e)
+  due_at = rw (last_is, record_of log j h)
+
+pub due_kind : (rs : List LogRecord) (p : Placed) → due_by rs p ≡ true → p.entry.kind ≡ 2
+due_kind rs p d =
+    eqb-true p.entry.kind 2
+    (and_left (eqb p.entry.kind 2) _ (and_left (eqb p.entry.kind 2 && any (commits_to p.transaction) rs) _ d))
 
 -- ---- entries
 

@@ -9,13 +9,15 @@ use lib.ListN.{length}
 use Rattle.formats.specs.Format.{V1}
 use Rattle.lists.proofs.Table.{settled_old}
 use Rattle.image.specs.Image.{sound}
-use Rattle.redo_log.specs.Log.{LogRecord, good_log, record_count, last_begun, record_at, records}
+use Rattle.redo_log.specs.Log.{LogRecord, good_log, record_count, records}
 use Rattle.redo_log.proofs.ReadBack.{length_records}
 use Rattle.redo_recovery_model.specs.Recovery.{Pairs, Recovery, record_in, recovery_sent, recovery_step, recovering, recovered}
 use Rattle.redo_recovery_model.proofs.Steps.{R, Idle, Sends, next}
 use Rattle.redo_recovery.specs.inner.Step.{write_outcome, step_number, step_image}
-use Rattle.redo_recovery.specs.Recover.{recovery_answer}
-use Rattle.redo_recovery.specs.declared.Recovered.{Recovered}
+use Rattle.redo_recovery.specs.Recover.{Recovered, recovery_answer}
+
+abbrev pub pick : ℕ → ℕ → Recovered
+pick m l = record { number = m; line = l }
 
 pub answers_bad : (pairs : Pairs) (log image : List ℕ) → good_log log ≡ false
     → (record { number = 23; line = 0 } ≡ recovery_answer pairs log image) × (image ≡ (recovered pairs log image).image)
@@ -66,19 +68,18 @@ module _ (pairs : Pairs) (log image : List ℕ) where
       go (inr s) h = absurd (n (sym (ap (λ (r : Recovery). r.number) h) ∙ s.so_far))
 
   -- What the loop knows before record i.
-  pub record Going (now : List ℕ) (ok : Bool) (last i : ℕ) : Type 0 where
+  pub record Going (now : List ℕ) (ok : Bool) (i : ℕ) : Type 0 where
     pub within : i ≤ record_count log
-    pub lasts : last ≡ last_begun (record_at log) i
     pub none : (R pairs rs image i).number ≡ 0
     pub image' : now ≡ (R pairs rs image i).image
     pub sounds : ok ≡ sound V1 now
     pub long : length now ≡ length image
 
-  pub going_none : (ok : Bool) → ok ≡ sound V1 image → Going image ok 0 0
-  unfolding last_begun recovering
-  going_none ok o = record { within = omega arith; lasts = refl; none = refl; image' = refl; sounds = o; long = refl }
+  pub going_none : (ok : Bool) → ok ≡ sound V1 image → Going image ok 0
+  unfolding recovering
+  going_none ok o = record { within = omega arith; none = refl; image' = refl; sounds = o; long = refl }
 
-  module _ (now : List ℕ) (ok : Bool) (last i : ℕ) (w : Going now ok last i) (h : i < record_count log) {number : ℕ} {after : List ℕ}
+  module _ (now : List ℕ) (ok : Bool) (i : ℕ) (w : Going now ok i) (h : i < record_count log) {number : ℕ} {after : List ℕ}
       (en : number ≡ step_number pairs rs now i) (ea : after ≡ step_image pairs rs now i) where
     number_is : number ≡ (R pairs rs image (suc i)).number
     number_is = en ∙ ap (λ (im : List ℕ). step_number pairs rs im i) w.image' ∙ sym (stepped i w.none).number
@@ -86,12 +87,11 @@ module _ (pairs : Pairs) (log image : List ℕ) where
     after_is : after ≡ (R pairs rs image (suc i)).image
     after_is = ea ∙ ap (λ (im : List ℕ). step_image pairs rs im i) w.image' ∙ sym (stepped i w.none).image'
 
-    pub going_more : number ≡ 0 → {last' : ℕ} → last' ≡ last_begun (record_at log) (i + 1) → ok ≡ sound V1 after → length after ≡ length now → Going after ok last' (i + 1)
-    going_more z el o n =
+    pub going_more : number ≡ 0 → ok ≡ sound V1 after → length after ≡ length now → Going after ok (i + 1)
+    going_more z o n =
         let one : suc i ≡ i + 1 = omega arith in
         record {
           within = omega arith;
-          lasts = el;
           none = rw (← one) (sym number_is ∙ z);
           image' = rw (← one) after_is;
           sounds = o;
@@ -110,14 +110,11 @@ module _ (pairs : Pairs) (log image : List ℕ) where
           sym (ap (λ (r : Recovery). pick r.number r.line) whole ∙ ap (λ (m : ℕ). pick m (R pairs rs image (suc i)).line) (sym number_is) ∙ ap (pick number) line_is),
           after_is ∙ sym (ap (λ (r : Recovery). r.image) whole),
         )
-      where
-        pick : ℕ → ℕ → Recovered
-        pick m l = record { number = m; line = l }
 
-  pub going_done : (now : List ℕ) (ok : Bool) (last i : ℕ) → Going now ok last i → record_count log ≤ i → good_log log ≡ true → (R pairs rs image i).line ≡ 0
+  pub going_done : (now : List ℕ) (ok : Bool) (i : ℕ) → Going now ok i → record_count log ≤ i → good_log log ≡ true → (R pairs rs image i).line ≡ 0
       → (record { number = 0; line = 0 } ≡ recovery_answer pairs log image) × (now ≡ (recovered pairs log image).image)
   unfolding recovered
-  going_done now ok last i w h g l =
+  going_done now ok i w h g l =
       let z : i ≡ record_count log = omega (arith, w.within) in (
         rw (g, length_records log, ← z, w.none, l),
         w.image' ∙ rw (g, length_records log, z),

@@ -1,98 +1,72 @@
-ghost use Rattle.std.specs.Prelude.{◌≡◌, true, cond, [], ◌≤◌, ◌<◌, length, get_or, eqb};
+ghost use Rattle.std.specs.Prelude.{◌≡◌, true, cond, [], ◌≤◌, ◌<◌, length, eqb};
 ghost use Rattle.formats.specs.Format.{V1, translations};
 ghost use Rattle.image.specs.Image.{sound};
 ghost use Rattle.commands.specs.Bytes.{command_bytes};
+ghost use Rattle.stamps.specs.Stamp.{FitsPair};
 ghost use Rattle.commands.specs.Command.{FitsCommand};
-ghost use Rattle.redo_log.specs.Log.{good_log, record_count, last_begun, record_at, records};
+ghost use Rattle.redo_log.specs.Log.{records};
+ghost use Rattle.redo_log.specs.inner.Shown.{as_record};
 ghost use Rattle.store_model.specs.Serve.{serve};
-ghost use Rattle.lists.specs.Search.{any};
-ghost use Rattle.redo_recovery_model.specs.Recovery.{commits_to, syncs_from, due, entry_for, write_by};
-ghost use Rattle.redo_recovery.specs.inner.Step.{write_outcome, step_number, step_image};
-ghost use Rattle.redo_recovery.specs.Recover.{pairs_of};
+ghost use Rattle.redo_recovery_model.specs.Recovery.{commits_to, syncs_from, recovery_pair, entry_for, write_by};
+ghost use Rattle.redo_recovery.specs.inner.Step.{update_written, write_outcome, due_by};
+ghost use Rattle.redo_recovery.specs.Recover.{pairs_in};
 
+use crate::LentPairs;
 use commands::Command;
+use commands::formed::Formed;
+use formats::Version;
 use guard::Entry;
 use redo_log::inner::reading::{COMMIT, SYNCED, UPDATE};
-use redo_log::inner::records;
+use redo_log::inner::records::{CheckedLog, Record};
 use slices::inner::fixed_width as le;
 use stamps::{NO_PAIR, Pair};
 
-// Whether record j commits transaction t.
-fn is_commit(log: &[u8], t: u32, j: usize) -> bool
-    requires { (good_log log.now ≡ true) × (j < record_count log.now) }
-    ensures { result ≡ commits_to t (record_at log.now j) }
+// Kept: it is like `is_update_of` of the steps, and differs in the kind, and in the place and width of the number that it compares.
+// Whether a record commits transaction t.
+fn is_commit(record: &Record, t: u32) -> bool
+    ensures { result ≡ commits_to t (as_record record.now).entry }
 {
-    if records::kind_at(log, j) != COMMIT {
+    if record.kind != COMMIT {
         return false;
     }
-    le::read_u32(records::body_at(log, j), 0) == t
+    le::read_u32(record.body, 0) == t
 }
 
-// Whether record j says that a card is synced as of transaction t or a higher one.
-fn is_synced(log: &[u8], card: u16, t: u32, j: usize) -> bool
-    requires { (good_log log.now ≡ true) × (j < record_count log.now) }
-    ensures { result ≡ syncs_from card t (record_at log.now j) }
+// Whether a record says that a card is synced as of transaction t or a higher one.
+fn is_synced(record: &Record, card: u16, t: u32) -> bool
+    ensures { result ≡ syncs_from card t (as_record record.now).entry }
 {
-    if records::kind_at(log, j) != SYNCED {
+    if record.kind != SYNCED {
         return false;
     }
-    let body = records::body_at(log, j);
-    (le::read_u16(body, 0) == card) & (t <= le::read_u32(body, 2))
+    (le::read_u16(record.body, 0) == card) & (t <= le::read_u32(record.body, 2))
 }
 
-// Whether some record commits transaction t.
-fn committed(log: &[u8], t: u32) -> bool
-    requires { good_log log.now ≡ true }
-    ensures { result ≡ any (commits_to t) (records log.now) }
+// Whether a record of a log is to be applied: an update whose transaction is committed and whose card is not synced as of it.
+pub fn is_due(log: &CheckedLog, record: &Record) -> bool
+    ensures { result ≡ due_by (records log.now.bytes.now) (as_record record.now) }
 {
-    let count = records::count(log);
-    let mut j: usize = 0;
-    while j < count {
-        if is_commit(log, t, j) {
-            return true;
+    if record.kind != UPDATE {
+        return false;
+    }
+    let card = le::read_u16(record.body, 0);
+    let t = record.transaction;
+    log.records().any(|r| is_commit(&r, t)) && !log.records().any(|r| is_synced(&r, card, t))
+}
+
+impl<'a> LentPairs<'a> {
+    ghost use Rattle.redo_recovery.specs.Recover.{pairs_in};
+
+    // The pair of card k; zeros for a card beyond the end.
+    fn of(&self, k: u16) -> Pair
+        ensures pair { result ≡ recovery_pair (pairs_in self.now) k }
+        ensures fits { FitsPair result }
+    {
+        Pair {
+            s: self.s.get(k as usize).copied().unwrap_or(0),
+            x: self.x.get(k as usize).copied().unwrap_or(0),
         }
-        j += 1;
     }
-    false
-}
-
-// Whether some record says that a card is synced as of transaction t or a higher one.
-fn synced(log: &[u8], card: u16, t: u32) -> bool
-    requires { good_log log.now ≡ true }
-    ensures { result ≡ any (syncs_from card t) (records log.now) }
-{
-    let count = records::count(log);
-    let mut j: usize = 0;
-    while j < count {
-        if is_synced(log, card, t, j) {
-            return true;
-        }
-        j += 1;
-    }
-    false
-}
-
-// Whether record i is to be applied.
-pub fn is_due(log: &[u8], i: usize, last: u32) -> bool
-    requires { (good_log log.now ≡ true) × (i < record_count log.now) × (last ≡ last_begun (record_at log.now) i) }
-    ensures { result ≡ due (records log.now) i }
-{
-    if records::kind_at(log, i) != UPDATE {
-        return false;
-    }
-    let card = le::read_u16(records::body_at(log, i), 0);
-    committed(log, last) & !synced(log, card, last)
-}
-
-// The stamp of card k; 0 for a card beyond the end.
-fn at_or_zero(l: &[u64], k: u16) -> u64
-    ensures { result ≡ get_or l.now k 0 }
-{
-    let at = k as usize;
-    if l.len() <= at {
-        return 0;
-    }
-    l[at]
 }
 
 // The entry of card k as stored; zeros where there is no such card.
@@ -103,27 +77,17 @@ fn entry_for(image: &[u8], k: u16) -> Entry
     if image::inner::read::count(image) <= k {
         return guard::NO_ENTRY;
     }
-    image::inner::read::entry_at(formats::V1, image, k, 0)
+    image::inner::read::entry_at(Version::V1, image, k, 0)
 }
 
-// Writing an original, or a translation.
-fn act_of(side: u8) -> u8
-    ensures { result ≡ cond (eqb side 1) 3 4 }
+// What is written on a side of a card, and the edition that the write names: on side 1 an original, which names none; else a translation, of the stored one.
+fn act_of(side: u8, edition: u16) -> (u8, u16)
+    ensures { result ≡ (cond (eqb side 1) 3 4, cond (eqb side 1) 0 edition) }
 {
-    if side == 1 {
-        return commands::WRITE_ORIGINAL;
+    match side {
+        1 => (commands::WRITE_ORIGINAL, 0),
+        _ => (commands::WRITE_TRANSLATION, edition),
     }
-    commands::WRITE_TRANSLATION
-}
-
-// A translation names the stored edition, an original none.
-fn edition_of(side: u8, edition: u16) -> u16
-    ensures { result ≡ cond (eqb side 1) 0 edition }
-{
-    if side == 1 {
-        return 0;
-    }
-    edition
 }
 
 // The write of an update: the one place where recovery makes a command.
@@ -133,8 +97,9 @@ fn write_of(pair: Pair, e: Entry, body: &[u8]) -> Command
 {
     let mark = e.mark;
     let size = body.len() - 3;
+    let (act, edition) = act_of(body[2], e.edition);
     Command {
-        act: act_of(body[2]),
+        act,
         mode: stamps::EXCLUSIVE,
         language: 0,
         card: le::read_u16(body, 0),
@@ -142,11 +107,12 @@ fn write_of(pair: Pair, e: Entry, body: &[u8]) -> Command
         opened: NO_PAIR,
         expected: mark,
         next: mark,
-        edition: edition_of(body[2], e.edition),
+        edition,
         length: size as u16,
     }
 }
 
+// Kept: a number, that of the guard's answer, as the definition `serve` has it; so has `apply`.
 // A command by its numbers and its text, on a sound image: what its bytes and an empty reply buffer would get.
 fn carry_out(image: &mut [u8], c: Command, text: &[u8]) -> u8
     requires { (sound V1 image.old ≡ true) × (length text.now ≡ c.length) × FitsCommand c × (c.language < translations V1) }
@@ -161,46 +127,32 @@ fn carry_out(image: &mut [u8], c: Command, text: &[u8]) -> u8
         return numbers::NO_CARD;
     }
     let mut none = [0u8; 0];
-    let a = store::inner::step::carry(formats::V1, image, c, c.update(), text, &mut none);
+    let formed = Formed {
+        command: c,
+        pair: c.update(),
+    };
+    let a = store::inner::step::carry(Version::V1, image, formed, text, &mut none);
     a.number
 }
 
-// The write of an update, through the guard; `ok` says whether the image is sound, which is found once for all writes.
-fn apply<'a>(image: &mut [u8], ok: bool, body: &[u8], s: &'a [u64], x: &'a [u64]) -> u8
-    requires { (ok ≡ sound V1 image.old) × (3 ≤ length body.now) × (length body.now < 65536) }
-    ensures number { result ≡ (write_outcome (pairs_of s.now x.now) image.old (record { kind = 2; body = body.now })).answer.number }
-    ensures image { image.new ≡ (write_outcome (pairs_of s.now x.now) image.old (record { kind = 2; body = body.now })).image }
-    ensures kept { ok ≡ sound V1 image.new }
+// The write of an update under a pair, through the guard.
+fn write(image: &mut [u8], pair: Pair, body: &[u8]) -> u8
+    requires { (sound V1 image.old ≡ true) × (3 ≤ length body.now) × (length body.now < 65536) × FitsPair pair }
+    ensures number { result ≡ (update_written pair image.old (record { kind = 2; body = body.now })).answer.number }
+    ensures image { image.new ≡ (update_written pair image.old (record { kind = 2; body = body.now })).image }
+    ensures kept { sound V1 image.new ≡ true }
 {
-    if !ok {
-        return numbers::UNSOUND;
-    }
-    let card = le::read_u16(body, 0);
-    let pair = Pair {
-        s: at_or_zero(s, card),
-        x: at_or_zero(x, card),
-    };
-    let c = write_of(pair, entry_for(image, card), body);
+    let c = write_of(pair, entry_for(image, le::read_u16(body, 0)), body);
     carry_out(image, c, &body[3..])
 }
 
-// Record i of a good log: applied if it is due.
-pub fn step<'a>(
-    image: &mut [u8],
-    ok: bool,
-    log: &[u8],
-    i: usize,
-    last: u32,
-    s: &'a [u64],
-    x: &'a [u64],
-) -> u8
-    requires { (ok ≡ sound V1 image.old) × (good_log log.now ≡ true) × (i < record_count log.now) × (last ≡ last_begun (record_at log.now) i) }
-    ensures number { result ≡ step_number (pairs_of s.now x.now) (records log.now) image.old i }
-    ensures image { image.new ≡ step_image (pairs_of s.now x.now) (records log.now) image.old i }
-    ensures kept { ok ≡ sound V1 image.new }
+// The write of a record, which is an update, under the pair of its card.
+pub fn apply<'a>(image: &mut [u8], pairs: &LentPairs<'a>, record: &Record) -> u8
+    requires { (sound V1 image.old ≡ true) × (record.now.kind ≡ 2) }
+    ensures number { result ≡ (write_outcome (pairs_in pairs.now) image.old (as_record record.now).entry).answer.number }
+    ensures image { image.new ≡ (write_outcome (pairs_in pairs.now) image.old (as_record record.now).entry).image }
+    ensures kept { sound V1 image.new ≡ true }
 {
-    if !is_due(log, i, last) {
-        return 0;
-    }
-    apply(image, ok, records::body_at(log, i), s, x)
+    let pair = pairs.of(le::read_u16(record.body, 0));
+    write(image, pair, record.body)
 }

@@ -5,40 +5,55 @@ pub mod inner;
 
 ghost use Rattle.std.specs.Prelude.{◌≡◌};
 ghost use Rattle.redo_recovery_model.specs.Recovery.{recovered};
-ghost use Rattle.redo_recovery.specs.Recover.{pairs_of, recovery_answer};
+ghost use Rattle.redo_recovery.specs.Recover.{pairs_in, recovery_told, recovery_answer};
 
-// A number, and the line of the record whose write was refused; line 0 where none was.
+use formats::Version;
+use numbers::{ACCEPTED, BAD_LOG, UNSOUND};
+use redo_log::inner::records::CheckedLog;
+
+// Lent pairs: the s and the x of each card, by number. A card beyond the end of a list has a zero there.
 #[derive(Clone, Copy)]
-pub struct Recovered {
+pub struct LentPairs<'a> {
+    pub s: &'a [u64],
+    pub x: &'a [u64],
+}
+
+// Where recovery stopped: the number of the write that was refused and the line of its record, or 23 and line 0 for a log that is not good.
+// Kept: `number` is the one in the guard's answer to the write (`guard::Answer`): a `Refusal` would be made of it here, and a number again for `recovery_answer`.
+#[derive(Clone, Copy)]
+pub struct Stopped {
     pub number: u8,
     pub line: u8,
 }
 
-// Brings an image up to date from a log, under the exclusive pairs given by card in `s` and `x`. What was written before a refusal stays.
-pub fn recover<'a>(log: &[u8], image: &mut [u8], s: &'a [u64], x: &'a [u64]) -> Recovered
-    ensures answer { result ≡ recovery_answer (pairs_of s.now x.now) log.now image.old }
-    ensures image { image.new ≡ (recovered (pairs_of s.now x.now) log.now image.old).image }
+// Brings an image up to date from a log, under the exclusive pairs given by card. What was written before a refusal stays.
+pub fn recover<'a>(log: &[u8], image: &mut [u8], pairs: LentPairs<'a>) -> Result<(), Stopped>
+    ensures answer { recovery_told result ≡ recovery_answer (pairs_in pairs.entry) log.now image.old }
+    ensures image { image.new ≡ (recovered (pairs_in pairs.entry) log.now image.old).image }
 {
-    if redo_log::check(log) != 0 {
-        return Recovered {
-            number: numbers::BAD_LOG,
+    let Some(log) = CheckedLog::of(log) else {
+        return Err(Stopped {
+            number: BAD_LOG,
             line: 0,
-        };
-    }
-    let ok = image::sound(formats::V1, image);
-    let count = redo_log::inner::records::count(log);
-    let mut last: u32 = 0;
-    let mut i: usize = 0;
-    while i < count {
-        let number = inner::step(image, ok, log, i, last, s, x);
-        if number != 0 {
-            return Recovered {
-                number: number,
-                line: i as u8,
-            };
+        });
+    };
+    let is_sound = image::sound(Version::V1, image);
+    let records = log.records();
+    for record in records {
+        if !inner::is_due(&log, &record) {
+            continue;
         }
-        last = redo_log::inner::records::last_at(log, i, last);
-        i += 1;
+        let line = record.line;
+        if !is_sound {
+            return Err(Stopped {
+                number: UNSOUND,
+                line,
+            });
+        }
+        let number = inner::apply(image, &pairs, &record);
+        if number != ACCEPTED {
+            return Err(Stopped { number, line });
+        }
     }
-    Recovered { number: 0, line: 0 }
+    Ok(())
 }

@@ -12,6 +12,8 @@ use Rattle.formats.specs.Format.{V1}
 use Rattle.lists.specs.Parts.{Bytes, tabulate}
 use Rattle.lists.proofs.Bytes.{Bytes_nil, Bytes_drop, Bytes_part}
 use Rattle.lists.proofs.Le.{le_part_bound}
+use Rattle.stamps.specs.declared.Pair.{Pair}
+use Rattle.stamps.specs.Stamp.{FitsPair}
 use Rattle.lists.proofs.ConcatMap.{get_d_tabulate, length_tabulate}
 use Rattle.lists.proofs.Tests.{cases}
 use Rattle.guard.specs.declared.Entry.{Entry}
@@ -30,7 +32,7 @@ use Rattle.store_model.proofs.Demand.{bytes_reverse, demand3}
 use Rattle.redo_log.specs.Log.{LogRecord, record_card, record_side, record_text, record_count, record_at, start_at, length_at, good_log, records}
 use Rattle.redo_log.proofs.Records.{short_record}
 use Rattle.redo_log.proofs.ReadBack.{length_records, record_of}
-use Rattle.redo_recovery_model.specs.Recovery.{Pairs, FitsPairs, Recovery, record_in, write_of, recovery_sent, entry_for, recovery_step, recovering, recovered}
+use Rattle.redo_recovery_model.specs.Recovery.{Pairs, FitsPairs, Recovery, record_in, recovery_pair, write_by, write_of, recovery_sent, entry_for, recovery_step, recovering, recovered}
 use Rattle.redo_recovery_model.specs.Claims.{Deed, one_request, one_recovery, image_after_deeds, requests_of_deeds, FitsDeeds, Demand3Mixed}
 use Rattle.redo_recovery_model.proofs.Steps.{R, S, Idle, Sends, next, stands, recovers}
 
@@ -58,15 +60,15 @@ stored_fits image k b = go (cases (ltb k (count_of image)))
         (get_or-eq_default (tabulate (card_at V1 image) (count_of image)) (no_card V1) {n = k} (rw length_tabulate (ltb-false k (count_of image) e)))
         (record { mark = fits_none.mark; edition = fits_none.edition })
 
-pub fits_write : (pairs : Pairs) (image : List ℕ) (r : LogRecord) → FitsPairs pairs → Bytes image → Bytes r.body → length r.body < 65536
-    → FitsCommand (write_of pairs image r)
-fits_write pairs image r p ib b h =
+pub fits_under : (pair : Pair) (image : List ℕ) (r : LogRecord) → FitsPair pair → Bytes image → Bytes r.body → length r.body < 65536
+    → FitsCommand (write_by pair (entry_for image (record_card r)) r)
+fits_under pair image r p ib b h =
     record {
       act = small (eqb (record_side r) 1);
       mode = lit< tt;
       language = lit< tt;
       card = le_part_bound 0 2 r.body b;
-      verifier = record { s = p.s (record_card r); x = p.x (record_card r) };
+      verifier = p;
       opened = record { s = lit< tt; x = lit< tt };
       expected = (stored_fits image (record_card r) ib).mark;
       next = (stored_fits image (record_card r) ib).mark;
@@ -81,6 +83,11 @@ fits_write pairs image r p ib b h =
     named : (t : Bool) → cond t 0 (entry_for image (record_card r)).edition < 65536
     named true = lit< tt
     named false = (stored_fits image (record_card r) ib).edition
+
+pub fits_write : (pairs : Pairs) (image : List ℕ) (r : LogRecord) → FitsPairs pairs → Bytes image → Bytes r.body → length r.body < 65536
+    → FitsCommand (write_of pairs image r)
+fits_write pairs image r p ib b h =
+    fits_under (recovery_pair pairs (record_card r)) image r (record { s = p.s (record_card r); x = p.x (record_card r) }) ib b h
 
 pub sent_bytes : (pairs : Pairs) (image : List ℕ) (r : LogRecord) → FitsCommand (write_of pairs image r) → Bytes r.body → SentBytes (recovery_sent pairs image r)
 unfolding recovery_sent

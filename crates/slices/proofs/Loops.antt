@@ -1,16 +1,16 @@
 -- The loops of this crate: what each has done when it has some elements left. Assumes nothing.
 use Prim.Native.Nat.{ℕ, suc, ◌+◌, ◌-◌, ◌*◌, ◌^◌, ◌≤◌, ◌<◌}
 use native.Mathlib.Omega.{arith}
-use native.Mathlib.Nat.{add-zero, sub-zero, one-le-pow}
-use mathlib.Core.Path.{◌≡◌, refl, sym, ◌∙◌}
-use mathlib.Core.List.{List, [], ◌∷◌}
+use native.Mathlib.Nat.{add-zero, sub-zero, one-le-pow, pow-suc}
+use mathlib.Core.Path.{◌≡◌, refl, sym, ap, ◌∙◌}
+use mathlib.Core.List.{List, [], ◌∷◌, ◌++◌}
 use mathlib.Core.Bool.{Bool, true, false, ◌&&◌}
 use lib.Dec.{eqb, lit<}
-use lib.ListN.{length, take, drop, get_or, set, replicate, length-set, length-take, drop_of_length-le}
-use Rattle.lists.specs.Parts.{part, splice, zeros}
+use lib.ListN.{length, drop, get_or, set, replicate, length-set, length-append, drop_of_length-le}
+use Rattle.lists.specs.Parts.{splice, zeros}
 use Rattle.lists.specs.Le.{le}
 use Rattle.lists.proofs.Parts.{drop_left, splice_nil, splice_cons}
-use Rattle.lists.proofs.Le.{le_from, digit}
+use Rattle.lists.proofs.Le.{le_append, digit, fewer}
 
 -- A loop that writes v over s₀ from place `at` on, one element after the other: it has made `s` when it has written i elements,
 -- and `rest` is what is left to write.
@@ -35,34 +35,44 @@ module _ {A : Type 0} where
   pub replicate_left : (a : A) {i n : ℕ} → i < n → replicate (n - i) a ≡ a ∷ replicate (n - (i + 1)) a
   replicate_left a {i} {n} h = let one : n - i ≡ suc (n - (i + 1)) = omega arith in rw one
 
--- A loop that reads the number of n bytes from place `at` on, from the last byte down: what it has in `sum` with `left` bytes still to read.
-pub record Reading (at n left sum : ℕ) (l : List ℕ) : Type 0 where
-  pub within : left ≤ n
-  pub reads : sum ≡ le (drop left (part at n l))
-  pub small : sum < 256 ^ (n - left)
+-- A loop that reads the number of count bytes, from the last byte down: `rest` is what it has still to read, and `sum` the number of what stands behind.
+pub record Reading (count sum : ℕ) (rest bytes : List ℕ) : Type 0 where
+  pub within : length rest ≤ count
+  pub reads : sum * 256 ^ length rest + le rest ≡ le bytes
+  pub small : sum < 256 ^ (count - length rest)
 
-pub reading_none : (at n : ℕ) (l : List ℕ) → Reading at n n 0 l
-unfolding le part
-reading_none at n l =
+pub reading_none : {count : ℕ} (bytes : List ℕ) → length bytes ≡ count → Reading count 0 bytes bytes
+reading_none {count} bytes e =
     record {
       within = omega arith;
-      reads = rw (drop_of_length-le (take n (drop at l)) {i = n} (simp length-take (omega arith)));
-      small = one-le-pow (n - n) 256 (lit< tt);
+      reads = omega arith;
+      small = one-le-pow (count - length bytes) 256 (lit< tt);
     }
 
-pub reading_more : {at n left sum : ℕ} (l : List ℕ) → at + n ≤ length l → 0 < left → get_or l (at + (left - 1)) 0 < 256 → Reading at n left sum l →
-    Reading at n (left - 1) (sum * 256 + get_or l (at + (left - 1)) 0) l
-reading_more {at} {n} {left} {sum} l fits some byte r =
-    let one : suc (left - 1) ≡ left = omega arith in
-    let more : suc (n - left) ≡ n - (left - 1) = omega arith in
+pub reading_more : {count sum b : ℕ} {rest bytes : List ℕ} (more : List ℕ) → Reading count sum rest bytes → rest ≡ more ++ (b ∷ []) → b < 256 →
+    Reading count (sum * 256 + b) more bytes
+unfolding le
+reading_more {count} {sum} {b} {rest} {bytes} more r e byte =
+    let long : length rest ≡ suc (length more) = ap length e ∙ length-append more (b ∷ []) ∙ omega arith in
+    let left : suc (count - length rest) ≡ count - length more = omega (arith, r.within) in
+    let last : le rest ≡ (0 + b) * 256 ^ length more + le more = ap le e ∙ le_append more (b ∷ []) in
+    let parts : sum * (256 ^ length more * 256) + ((0 + b) * 256 ^ length more + le more) ≡ le bytes = rw (long, last, pow-suc) at r.reads in
     record {
-      within = omega arith;
-      reads = rw (le_from at n (left - 1) l fits (omega arith), one, r.reads);
-      small = rw more at (digit (n - left) r.small byte);
+      within = omega (arith, r.within);
+      reads = omega arith;
+      small = rw left at (digit (count - length rest) r.small byte);
     }
 
-pub reading_done : {at n sum : ℕ} (l : List ℕ) → Reading at n 0 sum l → (sum ≡ le (part at n l)) × (sum < 256 ^ n)
-reading_done {at} {n} l r = (r.reads, rw sub-zero at r.small)
+-- With a byte left of at most 8, the sum has room for one more.
+pub reading_room : {count sum : ℕ} {rest bytes : List ℕ} (more : List ℕ) (b : ℕ) → Reading count sum rest bytes → rest ≡ more ++ (b ∷ []) → count ≤ 8 → sum < 256 ^ 7
+reading_room {count} {rest = rest} more b r e few =
+    let long : length rest ≡ suc (length more) = ap length e ∙ length-append more (b ∷ []) ∙ omega arith in
+    fewer (count - length rest) 7 r.small (omega arith)
+
+pub reading_done : {count sum : ℕ} {rest bytes : List ℕ} → Reading count sum rest bytes → length rest ≡ 0 → (sum ≡ le bytes) × (sum < 256 ^ count)
+unfolding le
+reading_done {rest = []} r e = (sym (sym r.reads ∙ omega arith), rw sub-zero at r.small)
+reading_done {rest = b ∷ l} r e = absurd (omega arith)
 
 -- A loop that asks whether every element is zero: `z` says so of those before place i, and those from there on decide the rest.
 pub zeros_more : (z : Bool) (i : ℕ) (l : List ℕ) → i < length l → (z && zeros (drop i l)) ≡ (z && eqb (get_or l i 0) 0 && zeros (drop (i + 1) l))

@@ -10,10 +10,8 @@ pub fn read(s: &[u8], at: usize, count: usize) -> u64
     ensures { (result ≡ le (part at count s.now)) × (result < 256 ^ count) }
 {
     let mut sum: u64 = 0;
-    let mut left = count;
-    while 0 < left {
-        left -= 1;
-        sum = sum * 256 + (s[at + left] as u64);
+    for b in s[at..at + count].iter().rev() {
+        sum = sum * 256 + (*b as u64);
     }
     sum
 }
@@ -24,24 +22,19 @@ pub fn write(s: &mut [u8], at: usize, count: usize, value: u64)
     ensures { s.new ≡ splice at (to_le count value) s.old }
 {
     let mut rest = value;
-    let mut i = 0;
-    while i < count {
-        s[at + i] = (rest % 256) as u8;
+    for b in s[at..at + count].iter_mut() {
+        *b = (rest % 256) as u8;
         rest /= 256;
-        i += 1;
     }
 }
 
 // Copies the whole of `v` into `s` from `at` on.
+#[tactic(auto, using(crate::proofs::Written::written_part))]
 pub fn put(s: &mut [u8], at: usize, v: &[u8])
     requires { at + length v.now ≤ length s.old }
     ensures { s.new ≡ splice at v.now s.old }
 {
-    let mut i = 0;
-    while i < v.len() {
-        s[at + i] = v[i];
-        i += 1;
-    }
+    s[at..at + v.len()].copy_from_slice(v);
 }
 
 // The most bytes that are copied at once.
@@ -49,6 +42,8 @@ const AT_ONCE: usize = 1024;
 
 // Copies the whole of `v` into `s` from `at` on, as `put`, but for no more than 1,024 bytes: through a local array, of which the compiler makes one
 // move of a block.
+// Kept: of two lent slices the compiler does not know that they lie apart, so that `put` is a test of overlap with a loop of bytes and one of
+// blocks, about 100 instructions; this is 16 and one move.
 pub fn put_short(s: &mut [u8], at: usize, v: &[u8])
     requires { (length v.now ≤ 1024) × (at + length v.now ≤ length s.old) }
     ensures { s.new ≡ splice at v.now s.old }
@@ -62,13 +57,10 @@ pub fn put_short(s: &mut [u8], at: usize, v: &[u8])
 }
 
 // Makes the `count` bytes from `at` on zero.
+#[tactic(auto, using(crate::proofs::Written::written_part))]
 pub fn clear(s: &mut [u8], at: usize, count: usize)
     requires { at + count ≤ length s.old }
     ensures { s.new ≡ splice at (replicate count 0) s.old }
 {
-    let mut i = 0;
-    while i < count {
-        s[at + i] = 0;
-        i += 1;
-    }
+    s[at..at + count].fill(0);
 }

@@ -9,14 +9,13 @@ ghost use Rattle.lists.specs.Parts.{zeros};
 // ---- Little-endian numbers of any byte count in byte slices, and the loops over parts of byte slices that the layers above share.
 
 // Whether every byte is zero. Every byte is looked at, so that the loop compiles to one over many bytes at a time.
+#[tactic(auto, using(crate::proofs::Loops::zeros_more, crate::proofs::Loops::zeros_done))]
 pub fn all_zero(s: &[u8]) -> bool
     ensures { result ≡ zeros s.now }
 {
     let mut zero = true;
-    let mut i = 0;
-    while i < s.len() {
-        zero = zero & (s[i] == 0);
-        i += 1;
+    for b in s {
+        zero &= *b == 0;
     }
     zero
 }

@@ -6,7 +6,7 @@ ghost use Rattle.lists.specs.Table.{all};
 ghost use Rattle.stamps.specs.Stamp.{stamp_valid, own, desk_of, session_checks, stale, stamp_too_far, too_far, larger_of_each, mark_whole, mark_fits};
 
 // Two stamps, s for shared and x for exclusive (Minuet: a session identifier). Zero means none.
-#[derive(Clone, Copy)]
+#[derive(Clone, Copy, PartialEq, Eq)]
 pub struct Pair {
     pub s: u64,
     pub x: u64,
@@ -16,7 +16,7 @@ pub struct Pair {
 pub const NO_PAIR: Pair = Pair { s: 0, x: 0 };
 
 // A commit mark (Minuet: a commit session identifier). Both zero means none.
-#[derive(Clone, Copy)]
+#[derive(Clone, Copy, PartialEq, Eq)]
 pub struct Mark {
     pub desk: u16,
     pub transaction: u32,
@@ -29,6 +29,7 @@ pub const NO_MARK: Mark = Mark {
 };
 
 // The modes.
+// Kept: a mode is a byte of a command or of a request, and may be any number: `session_ok` answers for each, and the guard answers a command of another mode with 1.
 pub const SHARED: u8 = 1;
 
 pub const EXCLUSIVE: u8 = 2;
@@ -116,10 +117,7 @@ pub fn mark_fits(stored: Mark, expected: Mark) -> bool
 pub fn larger(a: u64, b: u64) -> u64
     ensures { result ≡ max a b }
 {
-    if a < b {
-        return b;
-    }
-    a
+    a.max(b)
 }
 
 // The larger of each stamp of two pairs.

@@ -1,32 +1,20 @@
--- The fields in a line. Assumes nothing.
+-- The numbers of a line. Assumes nothing.
 use Prim.Native.Nat.{ℕ}
-use mathlib.Core.Path.{◌≡◌, refl}
-use mathlib.Core.List.{List, [], ◌∷◌}
-use lib.ListN.{get_or}
-use Rattle.guard.specs.Replies.{reply_fields}
+use mathlib.Core.Path.{◌≡◌}
+use mathlib.Core.List.{List, ◌∷◌}
+use borrow.Rule.Slice.PartMut.{put_mid}
+use lib.ListN.{get_or, take, drop}
+use lib.Seq.{drop-drop}
+use Rattle.lists.specs.Parts.{splice}
 use Rattle.guard.specs.declared.Answer.{Answer}
 use Rattle.store.specs.Runs.{numbers_of}
 
-all_numbers : (a : Answer) →
-    (get_or (numbers_of a) 0 0 ∷ get_or (numbers_of a) 1 0 ∷ get_or (numbers_of a) 2 0 ∷ get_or (numbers_of a) 3 0 ∷ get_or (numbers_of a) 4 0 ∷ get_or
-    (numbers_of a) 5 0 ∷ get_or (numbers_of a) 6 0 ∷ get_or (numbers_of a) 7 0 ∷ [])
-    ≡ numbers_of a
+-- A line is its first number and those behind it.
+pub line_numbers : (a : Answer) {m fields : List ℕ} → m ≡ numbers_of a → fields ≡ take 7 (drop 1 m) → (get_or m 0 0 ∷ fields) ≡ numbers_of a
 unfolding numbers_of
-all_numbers a = refl
+line_numbers a p q = rw (q, p)
 
--- A line is its numbers.
-pub line_numbers : (a : Answer) {m : List ℕ} → m ≡ numbers_of a →
-    (get_or m 0 0 ∷ get_or m 1 0 ∷ get_or m 2 0 ∷ get_or m 3 0 ∷ get_or m 4 0 ∷ get_or m 5 0 ∷ get_or m 6 0 ∷ get_or m 7 0 ∷ []) ≡ numbers_of a
-line_numbers a p = rw p (all_numbers a)
-
-each_field : (a : Answer) →
-    (a.number ∷ get_or (reply_fields a) 0 0 ∷ get_or (reply_fields a) 1 0 ∷ get_or (reply_fields a) 2 0 ∷ get_or (reply_fields a) 3 0 ∷ get_or (reply_fields a) 4 0
-    ∷ get_or (reply_fields a) 5 0 ∷ get_or (reply_fields a) 6 0 ∷ [])
-    ≡ numbers_of a
-unfolding numbers_of
-each_field a = refl
-
--- A line is the number and the reply fields.
-pub fields_line : (a : Answer) {f : List ℕ} → f ≡ reply_fields a →
-    (a.number ∷ get_or f 0 0 ∷ get_or f 1 0 ∷ get_or f 2 0 ∷ get_or f 3 0 ∷ get_or f 4 0 ∷ get_or f 5 0 ∷ get_or f 6 0 ∷ []) ≡ numbers_of a
-fields_line a p = rw p (each_field a)
+-- A line that is written anew at a place is a splice.
+pub written_line : (at : ℕ) (a : Answer) (new lines : List ℕ) → new ≡ numbers_of a → put_mid at 8 lines new ≡ splice at (numbers_of a) lines
+unfolding splice numbers_of
+written_line at a new lines e = rw (e, drop-drop)

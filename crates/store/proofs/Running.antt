@@ -6,6 +6,7 @@ use mathlib.Core.Path.{◌≡◌, refl, sym, ap, ◌∙◌}
 use mathlib.Core.List.{List, [], ◌++◌}
 use lib.ListN.{length, take, drop, length-append, length-drop}
 use lib.Seq.{take-nil, take-length}
+use Rattle.std.specs.Prelude.{Some, None}
 use Rattle.formats.specs.Format.{Format}
 use Rattle.formats.proofs.Numbers.{numbers}
 use Rattle.lists.specs.Parts.{part, splice, concat_map}
@@ -14,7 +15,6 @@ use Rattle.guard.specs.declared.Answer.{Answer}
 use Rattle.store_model.specs.Serve.{serve}
 use Rattle.store.specs.Runs.{runs, numbers_of, per_line}
 use Rattle.stream.specs.Stream.{commands, next_at, end_to_end}
-use Rattle.stream.specs.declared.Next.TheVariants.{Whole, Cut}
 use Rattle.stream.proofs.Place.{next_whole, next_cut, says_whole, says_cut}
 use Rattle.stream.proofs.Commands.{Walked, walked_none, walked_more}
 use Rattle.stream.proofs.Walks as walk
@@ -24,12 +24,12 @@ use Rattle.store.specs.Ran.{lined, RunsTo}
 pub back_of : (at : ℕ) (s : List ℕ) → take (length s - at) (drop at s) ≡ drop at s
 back_of at s = rw (← length-drop at s) (take-length (drop at s))
 
-pub rest_whole : (f : Format) (stream : List ℕ) (at size : ℕ) → next_at f (take (length stream - at) (drop at stream)) 0 ≡ Whole size → next_at f stream at ≡ Whole (at + size)
+pub rest_whole : (f : Format) (stream : List ℕ) (at size : ℕ) → next_at f (take (length stream - at) (drop at stream)) 0 ≡ Some size → next_at f stream at ≡ Some (at + size)
 rest_whole f stream at size e =
     let stands = says_whole f (drop at stream) 0 size (rw (back_of at stream) at e) in
-    next_whole f stream at stands.begins ∙ ap (λ (n : ℕ). Whole (at + n)) (sym (stands.ends ∙ zero-add _))
+    next_whole f stream at stands.begins ∙ ap (λ (n : ℕ). Some (at + n)) (sym (stands.ends ∙ zero-add _))
 
-pub rest_cut : (f : Format) (stream : List ℕ) (at : ℕ) → next_at f (take (length stream - at) (drop at stream)) 0 ≡ Cut → next_at f stream at ≡ Cut
+pub rest_cut : (f : Format) (stream : List ℕ) (at : ℕ) → next_at f (take (length stream - at) (drop at stream)) 0 ≡ None → next_at f stream at ≡ None
 rest_cut f stream at e = next_cut f stream at (says_cut f (drop at stream) 0 (rw (back_of at stream) at e))
 
 pub per_line_lem : (a : Answer) → length (numbers_of a) ≡ per_line
@@ -78,13 +78,13 @@ running_none f m image reply stream lines h =
     }
 
 module _ {f : Format} {m : ℕ} {image₀ reply₀ stream lines₀ image reply lines : List ℕ} {at count : ℕ} (r : Running f m image₀ reply₀ stream lines₀ image reply lines at count) where
-  pub running_within : (end : ℕ) → next_at f stream at ≡ Whole end → count < m → (at < end) × (end ≤ length stream) × (count * per_line + per_line ≤ length lines) × (count < end)
+  pub running_within : (end : ℕ) → next_at f stream at ≡ Some end → count < m → (at < end) × (end ≤ length stream) × (count * per_line + per_line ≤ length lines) × (count < end)
   running_within end e h =
       let n = numbers f in
       let s = walk.passes f stream at end e in
       (omega (arith, s.0), s.1, omega (arith, r.room, r.long), omega (arith, s.0, r.few))
 
-  pub running_more : (end : ℕ) (a : Answer) (image' reply' lines' : List ℕ) → next_at f stream at ≡ Whole end → count < m →
+  pub running_more : (end : ℕ) (a : Answer) (image' reply' lines' : List ℕ) → next_at f stream at ≡ Some end → count < m →
       numbers_of a ≡ numbers_of (serve f image (take (end - at) (drop at stream)) reply).answer →
       image' ≡ (serve f image (take (end - at) (drop at stream)) reply).image →
       reply' ≡ (serve f image (take (end - at) (drop at stream)) reply).reply →
@@ -118,7 +118,7 @@ module _ {f : Format} {m : ℕ} {image₀ reply₀ stream lines₀ image reply l
             (line_more count _ _ lines (omega (arith, w.2)) ∙ rw (one, s.2) at r.left_lines);
       }
 
-  pub running_less : (end : ℕ) → next_at f stream at ≡ Whole end → length stream - end < length stream - at
+  pub running_less : (end : ℕ) → next_at f stream at ≡ Some end → length stream - end < length stream - at
   running_less end e = (walked_more f stream at end r.walked e).1
 
   -- Where nothing is left, the run is done.
@@ -150,5 +150,5 @@ module _ {f : Format} {m : ℕ} {image₀ reply₀ stream lines₀ image reply l
   pub full_none : m ≤ count → left_at f m stream at count ≡ []
   full_none h = let zero : m - count ≡ 0 = omega arith in rw zero
 
-  pub cut_none : next_at f stream at ≡ Cut → left_at f m stream at count ≡ []
+  pub cut_none : next_at f stream at ≡ None → left_at f m stream at count ≡ []
   cut_none e = rw (walk.stops f stream at e) (take-nil (m - count))

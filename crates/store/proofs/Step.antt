@@ -10,17 +10,21 @@ use lib.Seq.{take_all}
 use lib.Dec.{ltb}
 use Rattle.lists.specs.Parts.{splice}
 use Rattle.lists.proofs.Tests.{to_T}
-use Rattle.commands.specs.Command.{original, reads, reads_translation}
+use Rattle.commands.specs.Command.{original, reads, reads_translation, well_formed}
 use Rattle.commands.specs.Bytes.{fields_of, payload, formed}
 use Rattle.lists.specs.Table.{first}
-use Rattle.guard.specs.Judge.{judge_rows, raise, judged}
+use Rattle.guard.specs.Judge.{editions_spent, entry_rows, judge_rows, raise, judged}
 use Rattle.guard.specs.Replies.{read_length, replied, refused}
 use Rattle.guard.specs.declared.Answer.{Answer}
 use Rattle.commands.specs.declared.Command.{Command}
 use Rattle.guard.specs.declared.Entry.{Entry}
 use Rattle.guard.specs.declared.Judged.{Judged}
 use Rattle.commands.proofs.CommandBytes.{language_within}
-use Rattle.guard.proofs.Judge.{Accepted, accepted, judged_by}
+use Rattle.std.specs.Prelude.{Result, is_ok}
+use Rattle.numbers.specs.declared.Refusal.{Refusal}
+use Rattle.numbers.specs.Refusals.{number_of}
+use Rattle.numbers.proofs.Refusals.{of_ok, of_err}
+use Rattle.guard.proofs.Judge.{Accepted, accepted, accepted_none, judged_by, rows_formed}
 use Rattle.lists.proofs.Table.{settled_new, settled_old}
 use Rattle.image.proofs.Decode.{count_decode, card_decode, view_at}
 use Rattle.store.specs.inner.Carried.{judged_at, carried}
@@ -140,52 +144,66 @@ module _ (f : Format) where
         → serve f image command reply ≡ carried f image c text reply
     serve_found e u p q h = rw (p, q) (serve_carried e u (rw p at h))
 
-  -- ---- what a judged command leaves, by its number
+  -- ---- what a judged command leaves, by the outcome of its entry's rows
 
-  module _ (image : List ℕ) (c : Command) (reply : List ℕ) {n : ℕ}
-      (p : n ≡ first (judge_rows (entry_at f image c.card c.language) c (room_of image) (length reply))) where
+  module _ (image : List ℕ) (c : Command) (text reply : List ℕ) where
     abbrev stored : Entry
     stored = entry_at f image c.card c.language
 
-    pub as_refused : (n ≡ 0 → ⊥) → ◌≡◌ {A = Judged} (record { number = n; entry = stored }) (judged_at f image c (length reply))
-    as_refused h = judged_by stored c (room_of image) (length reply) p (sym (settled_old {n = n} (raise stored c) stored h))
-
-    pub as_accepted : n ≡ 0 → ◌≡◌ {A = Judged} (record { number = n; entry = raise stored c }) (judged_at f image c (length reply))
-    as_accepted z = judged_by stored c (room_of image) (length reply) p (sym (settled_new {n = n} (raise stored c) stored z))
-
-  module _ (image : List ℕ) (c : Command) (text reply : List ℕ) {j : Judged} (p : j ≡ judged_at f image c (length reply)) where
-    pub refuses : (j.number ≡ 0 → ⊥) → carried f image c text reply ≡ refusal (replied j.number j.entry c) image reply
+    -- By the judgement.
+    by_refusal : {j : Judged} → j ≡ judged_at f image c (length reply) → (j.number ≡ 0 → ⊥) → carried f image c text reply ≡ refusal (replied j.number j.entry c) image reply
     unfolding carried
-    refuses h =
+    by_refusal {j} p h =
         rw (
           ← p,
           settled_old {n = j.number} (encode f (with_card c.card (stepped (card_at f image c.card) c text) (decode f image))) image h,
           settled_old {n = j.number} (splice 0 (text_read (card_at f image c.card) c) reply) reply h,
         )
 
-    module _ (z : j.number ≡ 0) where
-      pub accepts :
-          carried f image c text reply
-          ≡ record {
-            answer = replied j.number j.entry c;
-            image = encode f (with_card c.card (stepped (card_at f image c.card) c text) (decode f image));
-            reply = splice 0 (text_read (card_at f image c.card) c) reply;
+    by_acceptance : {e : Entry} → ◌≡◌ {A = Judged} (record { number = 0; entry = e }) (judged_at f image c (length reply)) →
+        carried f image c text reply
+        ≡ record {
+          answer = replied 0 e c;
+          image = encode f (with_card c.card (stepped (card_at f image c.card) c text) (decode f image));
+          reply = splice 0 (text_read (card_at f image c.card) c) reply;
+        }
+    unfolding carried
+    by_acceptance p = rw (← p)
+
+    -- For an entry, a room and an outcome that were found: what is asked of an accepted command, and what is left.
+    pub record Accepting (e : Entry) : Type 0 where
+      pub unspent : editions_spent e c ≡ false
+      pub payload : c.length ≤ room_of image
+      pub lent : read_length e c ≤ length reply
+      pub left : carried f image c text reply ≡ record {
+        answer = replied 0 (raise e c) c;
+        image = encode f (with_card c.card (stepped (card_at f image c.card) c text) (decode f image));
+        reply = splice 0 (text_read (card_at f image c.card) c) reply;
+      }
+
+    module _ {e : Entry} {room : ℕ} (p : e ≡ stored) (q : room ≡ room_of image) (w : well_formed c ≡ true) (o : Result Unit Refusal)
+        (t : number_of o ≡ first (entry_rows e c room (length reply))) where
+      by_table : number_of o ≡ first (judge_rows stored c (room_of image) (length reply))
+      by_table = rw (← p, ← q) (t ∙ sym (rows_formed e c room (length reply) w))
+
+      pub refuses : is_ok o ≡ false → {n : ℕ} → n ≡ number_of o → carried f image c text reply ≡ refusal (replied n e c) image reply
+      refuses r n =
+          rw (n, p) (by_refusal (judged_by stored c (room_of image) (length reply) by_table (sym (settled_old (raise stored c) stored (of_err o r)))) (of_err o r))
+
+      passed : number_of o ≡ 0 → Accepted stored c (room_of image) (length reply)
+      unfolding judged
+      passed zero = accepted stored c (room_of image) (length reply) (sym by_table ∙ zero)
+
+      pub accepts : is_ok o ≡ true → Accepting e
+      accepts r =
+          let zero : number_of o ≡ 0 = of_ok o r in
+          let known = passed zero in
+          record {
+            unspent = rw p (accepted_none stored c (room_of image) (length reply) (sym by_table ∙ zero) 7);
+            payload = known.length;
+            lent = rw p (read_fits stored c (room_of image) (length reply) known);
+            left = rw p (by_acceptance (judged_by stored c (room_of image) (length reply) (sym zero ∙ by_table) (sym (settled_new (raise stored c) stored refl))));
           }
-      unfolding carried
-      accepts = rw (← p, z)
-
-      zero_number : (judged_at f image c (length reply)).number ≡ 0
-      zero_number = rw p at z
-
-      known : Accepted (entry_at f image c.card c.language) c (room_of image) (length reply)
-      known = accepted (entry_at f image c.card c.language) c (room_of image) (length reply) zero_number
-
-      -- Its payload fits the room, and its text the lent buffer.
-      pub payload_fits : c.length ≤ room_of image
-      payload_fits = known.length
-
-      pub lent_fits : {e : Entry} → e ≡ entry_at f image c.card c.language → read_length e c ≤ length reply
-      lent_fits e = rw e (read_fits (entry_at f image c.card c.language) c (room_of image) (length reply) known)
 
 -- The same for a place that was found to be the end of the fixed part.
 pub behind_place : (f : Format) (bytes : List ℕ) {n : ℕ} → n ≡ fixed f → take (length bytes - n) (drop n bytes) ≡ payload f bytes

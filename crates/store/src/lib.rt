@@ -11,6 +11,7 @@ ghost use Rattle.store.specs.Ran.{RunsTo};
 use formats::Version;
 use inner::run::PER_LINE;
 
+// Kept: the number and seven fields as C has them, with a refusal too: `ServesTo` speaks of the eight numbers of an answer.
 // One request: a command of a version judged on an image of that version. It gives the number and the seven reply fields, and leaves the image and
 // the reply buffer as the rules say; every refusal leaves both as they were.
 pub fn answer(
@@ -25,9 +26,7 @@ pub fn answer(
     let checked = image::sound(v, image);
     let mut line = [0u64; PER_LINE];
     inner::run::one(v, image, command, reply, checked, &mut line);
-    *fields = [
-        line[1], line[2], line[3], line[4], line[5], line[6], line[7],
-    ];
+    fields.copy_from_slice(&line[1..]);
     line[0] as u8
 }
 

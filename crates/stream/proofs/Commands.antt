@@ -7,13 +7,18 @@ use mathlib.Core.List.{List, [], ◌∷◌}
 use mathlib.Core.Bool.{Bool, true, false, cond}
 use lib.ListN.{length, take, drop, length-drop, length-append}
 use lib.Seq.{length-take-le, drop-drop}
+use Rattle.std.specs.Prelude.{Some, None}
 use Rattle.formats.proofs.Numbers.{numbers}
 use Rattle.formats.specs.Format.{Format}
 use Rattle.lists.specs.Parts.{concat_map}
 use Rattle.commands.specs.Bytes.{extent}
 use Rattle.stream.specs.Stream.{whole, next_at, commands_within, commands, end_within, end_of, end_to_end}
-use Rattle.stream.specs.declared.Next.TheVariants.{Whole, Cut}
 use Rattle.stream.proofs.Place.{extent_fixed, whole_out, cut_short, says_whole, says_cut}
+
+-- As many bytes as the first command has, and those of the others.
+pub paid_in : {cs ds : List (List ℕ)} {c : List ℕ} → cs ≡ c ∷ ds → length (end_to_end cs) ≡ length c + length (end_to_end ds)
+unfolding concat_map
+paid_in {c = c} e = rw (e, length-append)
 
 module _ (v : Format) where
   -- ---- one step, with as many steps left as one likes
@@ -99,7 +104,7 @@ module _ (v : Format) where
   walked_none s = record { within = zero-le; rest = zero-add (end_of v s) }
 
   module _ (s : List ℕ) (at : ℕ) where
-    pub walked_more : (end : ℕ) → Walked s at → next_at v s at ≡ Whole end → Walked s end × (length s - end < length s - at)
+    pub walked_more : (end : ℕ) → Walked s at → next_at v s at ≡ Some end → Walked s end × (length s - end < length s - at)
     walked_more end w e =
         let stands = says_whole v s at end e in
         let left : end_of v (drop at s) ≡ extent v (drop at s) + end_of v (drop end s) =
@@ -108,5 +113,5 @@ module _ (v : Format) where
         let some = extent_fixed v (drop at s) in
         (record { within = omega (arith, numbers v, stands.ends, w.within); rest = omega (arith, numbers v, stands.ends, w.rest) }, omega (arith, numbers v, stands.ends, w.within))
 
-    pub walked_done : Walked s at → next_at v s at ≡ Cut → at ≡ end_of v s
+    pub walked_done : Walked s at → next_at v s at ≡ None → at ≡ end_of v s
     walked_done w e = let none = end_cut (drop at s) (says_cut v s at e) in omega (arith, numbers v, w.rest)

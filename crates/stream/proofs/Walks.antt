@@ -7,13 +7,13 @@ use mathlib.Core.List.{List, [], ◌∷◌, ◌++◌, append_assoc}
 use mathlib.Core.Bool.{Bool, true, false}
 use lib.ListN.{length, take, drop, get_or, length-drop, length-append, take-append-drop}
 use lib.Seq.{length-take-le, drop-drop, take_at, drop_at, take-suc, take-length, drop-cons}
+use Rattle.std.specs.Prelude.{Some, None}
 use Rattle.formats.proofs.Numbers.{numbers}
 use Rattle.formats.specs.Format.{Format, V1, V2, fixed}
 use Rattle.lists.specs.Parts.{part, concat_map}
 use Rattle.lists.proofs.ConcatMap.{concat_map_append}
 use Rattle.commands.specs.Bytes.{extent}
 use Rattle.stream.specs.Stream.{whole, OneCommand, next_at, commands, end_of, end_to_end, place_of}
-use Rattle.stream.specs.declared.Next.TheVariants.{Whole, Cut}
 use Rattle.stream.proofs.Place.{extent_fixed, extent_take, extent_append, whole_in, whole_out, says_whole, says_cut}
 use Rattle.stream.proofs.Commands.{commands_whole, commands_cut, end_length, end_whole, end_cut, along}
 
@@ -58,6 +58,10 @@ module _ (v : Format) where
       more : (s : List ℕ) → whole v s ≡ true → ((i : ℕ) → i < length (commands v (drop (extent v s) s)) → OneCommand v (get_or (commands v (drop (extent v s) s)) i [])) →
           (i : ℕ) → i < length (commands v s) → OneCommand v (get_or (commands v s) i [])
       more s e rest = rw (commands_whole v s e) (nth (take (extent v s) s) (commands v (drop (extent v s) s)) (front s e) rest)
+
+  -- What comes first is one command.
+  pub given : (s : List ℕ) {c : List ℕ} {cs : List (List ℕ)} → commands v s ≡ c ∷ cs → OneCommand v c
+  given s e = (rw e at (each s 0)) (suc-le-suc zero-le)
 
   pub stopped : (s : List ℕ) → whole v (drop (end_of v s) s) ≡ false
   stopped =
@@ -104,7 +108,7 @@ module _ (v : Format) where
   -- ---- stepping
 
   -- What stands at a place is whole: the first of the commands from there on, and the others begin behind it.
-  pub passes : (s : List ℕ) (at end : ℕ) → next_at v s at ≡ Whole end →
+  pub passes : (s : List ℕ) (at end : ℕ) → next_at v s at ≡ Some end →
       (at + fixed v ≤ end) × (end ≤ length s) × (commands v (drop at s) ≡ part at (end - at) s ∷ commands v (drop end s))
   unfolding part
   passes s at end e =
@@ -118,7 +122,7 @@ module _ (v : Format) where
       )
 
   -- It is not: no command is left.
-  pub stops : (s : List ℕ) (at : ℕ) → next_at v s at ≡ Cut → commands v (drop at s) ≡ []
+  pub stops : (s : List ℕ) (at : ℕ) → next_at v s at ≡ None → commands v (drop at s) ≡ []
   stops s at e = commands_cut v (drop at s) (says_cut v s at e)
 
   -- What the commands of some bytes say of the bytes.

@@ -6,12 +6,12 @@ use mathlib.Core.Path.{◌≡◌, refl, sym, ap, ◌∙◌}
 use mathlib.Core.List.{List}
 use lib.ListN.{length}
 use denote.Ref.{Bor}
-use Rattle.formats.specs.Format.{Format, V1}
+use Rattle.std.specs.Prelude.{Option, Some}
+use Rattle.formats.specs.declared.Version.{Version}
+use Rattle.formats.specs.Format.{Format, format_of}
 use Rattle.lists.specs.Parts.{concat_map}
 use Rattle.stream.specs.Stream.{onward, commands, end_of, place_of, begun, moved_to, passed, steps}
 use Rattle.stream_claims.specs.Claims.{Parts, Stepping, Visits, Reads, StreamClaims}
-use Rattle.stream.specs.declared.Next.{Next}
-use Rattle.stream.specs.declared.Next.TheVariants.{Whole}
 use Rattle.stream.proofs.Place.{next_whole, next_cut}
 use Rattle.stream.proofs.Walks as walk
 
@@ -33,7 +33,7 @@ unfolding place_of concat_map
 visits v s =
     record {
       starts = refl;
-      goes = λ i h. next_whole v s (place_of v s i) (walk.at v s i h).begins ∙ ap Whole (sym (walk.place v s i h));
+      goes = λ i h. next_whole v s (place_of v s i) (walk.at v s i h).begins ∙ ap Some (sym (walk.place v s i h));
       sees = walk.sees v s;
       arrives = walk.arrives v s;
       stops = next_cut v s (end_of v s) (walk.stopped v s);
@@ -41,31 +41,32 @@ visits v s =
 
 -- ---- a reader
 
-module _ (stream : Bor (List ℕ)) where
-  reads_stands : (i : ℕ) → i ≤ length (commands V1 stream.now) → steps i (begun stream) ≡ moved_to (begun stream) (place_of V1 stream.now i)
+module _ (v : Version) (stream : Bor (List ℕ)) where
+  reads_stands : (i : ℕ) → i ≤ length (commands (format_of v) stream.now) → steps i (begun v stream) ≡ moved_to (begun v stream) (place_of (format_of v) stream.now i)
   unfolding steps place_of concat_map
   reads_stands zero h = refl
   reads_stands (suc i) h =
       ap passed (reads_stands i (omega arith))
-      ∙ ap (λ (n : Next). moved_to (begun stream) (onward (place_of V1 stream.now i) n)) ((visits V1 stream.now).goes i (omega arith))
+      ∙ ap (λ (n : Option ℕ). moved_to (begun v stream) (onward (place_of (format_of v) stream.now i) n)) ((visits (format_of v) stream.now).goes i (omega arith))
 
   -- So many steps past the last command.
-  reads_stays : (n : ℕ) → steps (n + length (commands V1 stream.now)) (begun stream) ≡ moved_to (begun stream) (end_of V1 stream.now)
+  reads_stays : (n : ℕ) → steps (n + length (commands (format_of v) stream.now)) (begun v stream) ≡ moved_to (begun v stream) (end_of (format_of v) stream.now)
   unfolding steps
   reads_stays zero =
-      ap (λ (i : ℕ). steps i (begun stream)) (zero-add (length (commands V1 stream.now)))
-      ∙ reads_stands (length (commands V1 stream.now)) (omega arith)
-      ∙ ap (moved_to (begun stream)) (visits V1 stream.now).arrives
+      ap (λ (i : ℕ). steps i (begun v stream)) (zero-add (length (commands (format_of v) stream.now)))
+      ∙ reads_stands (length (commands (format_of v) stream.now)) (omega arith)
+      ∙ ap (moved_to (begun v stream)) (visits (format_of v) stream.now).arrives
   reads_stays (suc n) =
-      ap (λ (i : ℕ). steps i (begun stream)) (suc-add n (length (commands V1 stream.now)))
+      ap (λ (i : ℕ). steps i (begun v stream)) (suc-add n (length (commands (format_of v) stream.now)))
       ∙ ap passed (reads_stays n)
-      ∙ ap (λ (a : Next). moved_to (begun stream) (onward (end_of V1 stream.now) a)) (visits V1 stream.now).stops
+      ∙ ap (λ (a : Option ℕ). moved_to (begun v stream) (onward (end_of (format_of v) stream.now) a)) (visits (format_of v) stream.now).stops
 
-  reads : Reads stream
+  reads : Reads v stream
   reads =
       record {
         stands = reads_stands;
-        ends = λ i h. let past : i ≡ i - length (commands V1 stream.now) + length (commands V1 stream.now) = omega arith in rw past (reads_stays (i - length (commands V1 stream.now)));
+        ends = λ i h. let past : i ≡ i - length (commands (format_of v) stream.now) + length (commands (format_of v) stream.now) = omega arith in rw past (reads_stays
+            (i - length (commands (format_of v) stream.now)));
       }
 
 pub claims : StreamClaims

@@ -5,12 +5,12 @@ use native.Mathlib.Omega.{arith}
 use mathlib.Core.Path.{◌≡◌, refl}
 use mathlib.Core.List.{[], ◌∷◌, ◌++◌}
 use lib.ListN.{drop, replicate}
+use Rattle.std.specs.Prelude.{None}
 use Rattle.lists.specs.Le.{le, to_le}
 use Rattle.lists.proofs.Bytes.{Bytes_nil, Bytes_cons}
 use Rattle.lists.proofs.Claims.{number_comes_back, bytes_come_back, number_fits}
 use Rattle.formats.specs.Format.{V1, V2}
 use Rattle.stream.specs.Stream.{end_to_end, whole, commands, end_of, next_at}
-use Rattle.stream.specs.declared.Next.TheVariants.{Cut}
 use Rattle.stream_claims.proofs.Claims.{claims}
 
 -- No bytes at all, in either version.
@@ -20,7 +20,7 @@ joined_none = (claims.parts V1 []).joined
 within_none : end_of V2 [] ≤ 0
 within_none = (claims.parts V2 []).within
 
-stops_none : next_at V2 [] (end_of V2 []) ≡ Cut
+stops_none : next_at V2 [] (end_of V2 []) ≡ None
 stops_none = (claims.visits V2 []).stops
 
 -- 51 and 67 bytes begin no whole command, also with none in front of them.
@@ -33,7 +33,7 @@ unfolding whole
 rest67 = claims.back V2 [] (replicate 67 0) (λ i h. absurd (omega (arith, h))) refl
 
 -- A place beyond the end is a cut, and nothing is read from there on.
-beyond : next_at V1 [] 99 ≡ Cut → commands V1 (drop 99 []) ≡ []
+beyond : next_at V1 [] 99 ≡ None → commands V1 (drop 99 []) ≡ []
 beyond = (claims.stepping V1 [] 99).stops
 
 -- ---- little-endian numbers, of no bytes and of one, at its largest

@@ -6,6 +6,11 @@ pub mod inner;
 ghost use Rattle.std.specs.Prelude.{◌≡◌};
 ghost use Rattle.text_drops.specs.Drop.{in_fahrenheit, near};
 
+// The units that a drop is written in.
+pub const CELSIUS: u8 = 67;
+
+pub const FAHRENHEIT: u8 = 70;
+
 // A drop in degrees of its own scale.
 #[derive(Clone, Copy)]
 pub enum Drop {

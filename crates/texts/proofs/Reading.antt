@@ -31,9 +31,8 @@ use Rattle.texts.specs.Text.{
   deepest,
 }
 use Rattle.texts.proofs.Once.{never, step_once, section_once}
+use Rattle.std.specs.Prelude.{Option, Some, None}
 use Rattle.texts.specs.inner.Read.{Finds, ReadsSection, ReadsStep, ReadsSteps}
-use Rattle.texts.specs.declared.inner.read.Extent.{Extent}
-use Rattle.texts.specs.declared.inner.read.Extent.TheVariants.{Past, Ill}
 
 pub step_long : (s : TextStep) → 2 ≤ length (step_bytes s)
 unfolding step_bytes to_le
@@ -66,27 +65,27 @@ module _ (l : List ℕ) (at : ℕ) where
   apart i k = sym (take-append-drop k (drop i l)) ∙ ap (λ (x : List ℕ). take k (drop i l) ++ x) (drop-drop k i l)
 
   -- Fewer than two bytes are no step and no section.
-  pub step_short : (n : ℕ) → length l - at < 2 → ReadsStep l at n Ill
+  pub step_short : (n : ℕ) → length l - at < 2 → ReadsStep l at n None
   unfolding Finds
   step_short n h s f rest e = omega (arith, step_long s, length-drop at l, ap length e, length-append (step_bytes s) rest)
 
-  pub section_short : (n : ℕ) → length l - at < 2 → ReadsSection l at n Ill
+  pub section_short : (n : ℕ) → length l - at < 2 → ReadsSection l at n None
   unfolding Finds
   section_short n h s f rest e = omega (arith, length-drop at l, ap length e, length-append (section_bytes s) rest)
 
-  pub section_deep : ReadsSection l at 0 Ill
+  pub section_deep : ReadsSection l at 0 None
   unfolding Finds SectionWithin
   section_deep s f rest e = absurd f
 
-  pub section_other : (n : ℕ) → at + 2 ≤ length l → (get_or l at 0 ≡ 1 → ⊥) → ReadsSection l at n Ill
+  pub section_other : (n : ℕ) → at + 2 ≤ length l → (get_or l at 0 ≡ 1 → ⊥) → ReadsSection l at n None
   unfolding Finds
   section_other n h other s f rest e = never (sym (two h) ∙ e) other
 
   module _ (n : ℕ) (h : at + 2 ≤ length l) where
     -- ---- a section and its steps
-    pub section_read : (r : Extent) → get_or l (at + 1) 0 < 256 → get_or l at 0 ≡ 1 → ReadsSteps l (at + 2) n (get_or l (at + 1) 0) r → ReadsSection l at (suc n) r
+    pub section_read : (r : Option ℕ) → get_or l (at + 1) 0 < 256 → get_or l at 0 ≡ 1 → ReadsSteps l (at + 2) n (get_or l (at + 1) 0) r → ReadsSection l at (suc n) r
     unfolding Finds SectionWithin
-    section_read (Past next) small one (s, stands) =
+    section_read (Some next) small one (s, stands) =
         let long : length (section_bytes s) ≡ 2 + length (steps_bytes s) = omega arith in
         let begins : drop at l ≡ 1 ∷ get_or l (at + 1) 0 ∷ drop (at + 2) l = rw one at (two h) in
         let many : step_count s ≡ get_or l (at + 1) 0 = stands.allowed.1 in
@@ -98,13 +97,13 @@ module _ (l : List ℕ) (at : ℕ) where
             behind = omega (arith, stands.behind);
           },
         )
-    section_read Ill small one fails = λ s f rest e.
+    section_read None small one fails = λ s f rest e.
         let begins : drop at l ≡ get_or l at 0 ∷ get_or l (at + 1) 0 ∷ drop (at + 2) l = two h in
         let many : step_count s ≡ get_or l (at + 1) 0 = cc in
         let there : drop (at + 2) l ≡ steps_bytes s ++ rest = cc in
         fails s (f.1, many) rest there
 
-  pub section_read_at : (n : ℕ) (r : Extent) → (n ≡ 0 → ⊥) → at + 2 ≤ length l → get_or l (at + 1) 0 < 256 → get_or l at 0 ≡ 1 → ReadsSteps l (at + 2) (n - 1)
+  pub section_read_at : (n : ℕ) (r : Option ℕ) → (n ≡ 0 → ⊥) → at + 2 ≤ length l → get_or l (at + 1) 0 < 256 → get_or l at 0 ≡ 1 → ReadsSteps l (at + 2) (n - 1)
       (get_or l (at + 1) 0) r → ReadsSection l at n r
   section_read_at n r some h small one reads =
       let e : suc (n - 1) ≡ n = omega (arith, some) in
@@ -112,9 +111,9 @@ module _ (l : List ℕ) (at : ℕ) where
 
   module _ (n : ℕ) where
     -- ---- a step that is a section
-    pub step_section : (r : Extent) → at < length l → get_or l at 0 ≡ 4 → ReadsSection l (at + 1) n r → ReadsStep l at n r
+    pub step_section : (r : Option ℕ) → at < length l → get_or l at 0 ≡ 4 → ReadsSection l (at + 1) n r → ReadsStep l at n r
     unfolding Finds step_bytes
-    step_section (Past next) h four (s, stands) =
+    step_section (Some next) h four (s, stands) =
         let begins : drop at l ≡ 4 ∷ drop (at + 1) l = rw four at (drop_left l 0 h) in
         let there : drop (at + 1) l ≡ section_bytes s ++ drop next l = stands.here in (
           section s,
@@ -124,7 +123,7 @@ module _ (l : List ℕ) (at : ℕ) where
             behind = omega (arith, stands.behind);
           },
         )
-    step_section Ill h four fails = go
+    step_section None h four fails = go
       where
         begins : drop at l ≡ 4 ∷ drop (at + 1) l
         begins = rw four at (drop_left l 0 h)
@@ -138,7 +137,7 @@ module _ (l : List ℕ) (at : ℕ) where
             fails s (out n s f) rest there
 
     -- A step begins with 2, 3 or 4.
-    pub step_other : at < length l → (get_or l at 0 ≡ 2 → ⊥) → (get_or l at 0 ≡ 3 → ⊥) → (get_or l at 0 ≡ 4 → ⊥) → ReadsStep l at n Ill
+    pub step_other : at < length l → (get_or l at 0 ≡ 2 → ⊥) → (get_or l at 0 ≡ 3 → ⊥) → (get_or l at 0 ≡ 4 → ⊥) → ReadsStep l at n None
     unfolding Finds step_bytes
     step_other h x2 x3 x4 = go
       where
@@ -148,13 +147,13 @@ module _ (l : List ℕ) (at : ℕ) where
         go (section s) f rest e = never (sym (drop_left l 0 h) ∙ e) x4
 
     -- ---- so many steps
-    pub steps_none : (many : ℕ) → many ≡ 0 → ReadsSteps l at n many (Past at)
+    pub steps_none : (many : ℕ) → many ≡ 0 → ReadsSteps l at n many (Some at)
     unfolding Finds steps_bytes StepsWithin step_count
     steps_none many z = (done, record { allowed = (tt, sym z); here = refl; behind = omega arith })
 
-    pub steps_more : (next many : ℕ) (r : Extent) → (many ≡ 0 → ⊥) → ReadsStep l at n (Past next) → ReadsSteps l next n (many - 1) r → ReadsSteps l at n many r
+    pub steps_more : (next many : ℕ) (r : Option ℕ) → (many ≡ 0 → ⊥) → ReadsStep l at n (Some next) → ReadsSteps l next n (many - 1) r → ReadsSteps l at n many r
     unfolding Finds steps_bytes StepsWithin step_count
-    steps_more next many (Past past) some (s, p) (ss, q) =
+    steps_more next many (Some past) some (s, p) (ss, q) =
         let there : drop next l ≡ steps_bytes ss ++ drop past l = q.here in (
           s then ss,
           record {
@@ -163,7 +162,7 @@ module _ (l : List ℕ) (at : ℕ) where
             behind = omega (arith, p.behind, q.behind, length-append (step_bytes s) (steps_bytes ss));
           },
         )
-    steps_more next many Ill some (s, p) fails = go
+    steps_more next many None some (s, p) fails = go
       where
         go : (t : Section) → StepsWithin t n × (step_count t ≡ many) → (rest : List ℕ) → drop at l ≡ steps_bytes t ++ rest → ⊥
         go done f rest e = some (sym f.1)
@@ -171,7 +170,7 @@ module _ (l : List ℕ) (at : ℕ) where
             let both = step_once s t n n p.allowed f.0.0 (drop next l) (steps_bytes ts ++ rest) (sym p.here ∙ e ∙ append_assoc (step_bytes t) (steps_bytes ts) rest) in
             fails ts (f.0.1, omega (arith, f.1)) rest both.1
 
-    pub steps_ill : (many : ℕ) → (many ≡ 0 → ⊥) → ReadsStep l at n Ill → ReadsSteps l at n many Ill
+    pub steps_ill : (many : ℕ) → (many ≡ 0 → ⊥) → ReadsStep l at n None → ReadsSteps l at n many None
     unfolding Finds steps_bytes StepsWithin step_count
     steps_ill many some fails = go
       where
@@ -181,7 +180,7 @@ module _ (l : List ℕ) (at : ℕ) where
 
     module _ (h : at + 2 ≤ length l) where
       -- ---- words
-      pub words_read : get_or l at 0 ≡ 2 → get_or l (at + 1) 0 < 256 → at + 2 + get_or l (at + 1) 0 ≤ length l → ReadsStep l at n (Past (at + 2 + get_or l (at + 1) 0))
+      pub words_read : get_or l at 0 ≡ 2 → get_or l (at + 1) 0 < 256 → at + 2 + get_or l (at + 1) 0 ≤ length l → ReadsStep l at n (Some (at + 2 + get_or l (at + 1) 0))
       unfolding Finds step_bytes StepWithin
       words_read is-2 small fits =
           let w = part (at + 2) (get_or l (at + 1) 0) l in
@@ -196,7 +195,7 @@ module _ (l : List ℕ) (at : ℕ) where
             },
           )
 
-      pub words_cut : get_or l at 0 ≡ 2 → length l - (at + 2) < get_or l (at + 1) 0 → ReadsStep l at n Ill
+      pub words_cut : get_or l at 0 ≡ 2 → length l - (at + 2) < get_or l (at + 1) 0 → ReadsStep l at n None
       unfolding Finds step_bytes
       words_cut is-2 cut = go
         where
@@ -213,7 +212,7 @@ module _ (l : List ℕ) (at : ℕ) where
           go (section s) f rest e = never (sym begins ∙ e) (λ a. omega arith)
 
       -- ---- drops
-      pub drop_read : Bytes l → get_or l at 0 ≡ 3 → ((scale : Scale) × (get_or l (at + 1) 0 ≡ unit_byte scale)) → at + 4 ≤ length l → ReadsStep l at n (Past (at + 4))
+      pub drop_read : Bytes l → get_or l at 0 ≡ 3 → ((scale : Scale) × (get_or l (at + 1) 0 ≡ unit_byte scale)) → at + 4 ≤ length l → ReadsStep l at n (Some (at + 4))
       unfolding Finds step_bytes StepWithin
       drop_read small is-3 (scale, unit) fits =
           let w = part (at + 2) 2 l in
@@ -231,7 +230,7 @@ module _ (l : List ℕ) (at : ℕ) where
           )
 
       -- What begins with 3 is a drop or nothing.
-      drop_go : get_or l at 0 ≡ 3 → ((u : Scale) (t : ℕ) (rest : List ℕ) → get_or l (at + 1) 0 ≡ unit_byte u → drop (at + 2) l ≡ to_le 2 t ++ rest → ⊥) → ReadsStep l at n Ill
+      drop_go : get_or l at 0 ≡ 3 → ((u : Scale) (t : ℕ) (rest : List ℕ) → get_or l (at + 1) 0 ≡ unit_byte u → drop (at + 2) l ≡ to_le 2 t ++ rest → ⊥) → ReadsStep l at n None
       unfolding Finds step_bytes StepWithin
       drop_go is-3 fails = go
         where
@@ -245,11 +244,11 @@ module _ (l : List ℕ) (at : ℕ) where
               fails u t rest (cc) (cc)
           go (section s) f rest e = never (sym begins ∙ e) (λ a. omega arith)
 
-      pub drop_cut : get_or l at 0 ≡ 3 → length l - at < 4 → ReadsStep l at n Ill
+      pub drop_cut : get_or l at 0 ≡ 3 → length l - at < 4 → ReadsStep l at n None
       drop_cut is-3 cut =
           drop_go is-3 (λ u t rest e there. omega (arith, ap length there, length-append (to_le 2 t) rest, length_to_le 2 t, length-drop (at + 2) l))
 
-      pub drop_unit : get_or l at 0 ≡ 3 → (get_or l (at + 1) 0 ≡ unit_byte celsius → ⊥) → (get_or l (at + 1) 0 ≡ unit_byte fahrenheit → ⊥) → ReadsStep l at n Ill
+      pub drop_unit : get_or l at 0 ≡ 3 → (get_or l (at + 1) 0 ≡ unit_byte celsius → ⊥) → (get_or l (at + 1) 0 ≡ unit_byte fahrenheit → ⊥) → ReadsStep l at n None
       drop_unit is-3 x67 x70 = drop_go is-3 (λ u t rest e there. other u e)
         where
           other : (u : Scale) → get_or l (at + 1) 0 ≡ unit_byte u → ⊥
@@ -260,18 +259,18 @@ module _ (l : List ℕ) (at : ℕ) where
 
 module _ (l : List ℕ) where
   -- The section that stands at the front, up to a place.
-  pub front_says : {next : ℕ} → ReadsSection l 0 deepest (Past next) → next ≡ length l → WellFormedText l
+  pub front_says : {next : ℕ} → ReadsSection l 0 deepest (Some next) → next ≡ length l → WellFormedText l
   unfolding Finds
   front_says {next} (s, stands) e =
       let over : drop next l ≡ [] = ap (λ (i : ℕ). drop i l) e ∙ drop-length l in
       (s, record { within = stands.allowed; bytes = stands.here ∙ ap (λ (x : List ℕ). section_bytes s ++ x) over ∙ append-nil (section_bytes s) })
 
-  pub front_whole : {next : ℕ} → ReadsSection l 0 deepest (Past next) → WellFormedText l → next ≡ length l
+  pub front_whole : {next : ℕ} → ReadsSection l 0 deepest (Some next) → WellFormedText l → next ≡ length l
   unfolding Finds
   front_whole {next} (s, stands) (t, says) =
       let both = section_once s t deepest deepest stands.allowed says.within (drop next l) [] (sym stands.here ∙ says.bytes ∙ sym (append-nil (section_bytes t))) in
       stands.behind ∙ ap (λ (u : Section). 0 + length (section_bytes u)) both.0 ∙ omega (arith, ap length says.bytes)
 
-  pub front_ill : ReadsSection l 0 deepest Ill → WellFormedText l → ⊥
+  pub front_ill : ReadsSection l 0 deepest None → WellFormedText l → ⊥
   unfolding Finds
   front_ill fails (t, says) = fails t says.within [] (says.bytes ∙ sym (append-nil (section_bytes t)))

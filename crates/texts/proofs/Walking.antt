@@ -1,7 +1,9 @@
 -- Laws of the walk over two texts: one for each way in which it goes on or answers. Assumes nothing.
-use Prim.Native.Nat.{ℕ, ◌+◌, ◌-◌, ◌≤◌, ◌<◌}
+use Prim.Native.Nat.{ℕ, ◌+◌, ◌-◌, ◌≤◌, ◌<◌, min}
 use native.Mathlib.Omega.{arith}
 use mathlib.Core.Path.{◌≡◌, refl, sym, ap, ◌∙◌}
+use mathlib.Core.Logic.{◌⊎◌, inl, inr}
+use Rattle.std.proofs.lemmas.Bool.{cases_lt}
 use mathlib.Core.Bool.{Bool, true, false, cond}
 use mathlib.Core.Option.{Option, none, some}
 use mathlib.Core.List.{List}
@@ -9,26 +11,34 @@ use lib.ListN.{length, get_or, length-append}
 use Rattle.text_drops.specs.Drop.{Scale, celsius, fahrenheit, unit_byte, scale_of, drop_of, near}
 use Rattle.texts.specs.Text.{TextStep, words, temperature, section, Section, done, ◌then◌, step_count, step_bytes, steps_bytes, section_bytes}
 use Rattle.texts.specs.Agree.{unmatched_step, unmatched, or_else}
-use Rattle.texts.specs.inner.Walk.{drop_there, walked, TwoSections, TwoRuns, TwoSteps, SectionsWalked, RunsWalked, StepsWalked}
-use Rattle.texts.specs.declared.inner.walk.Walk.{Walk}
-use Rattle.texts.specs.declared.inner.walk.Walk.TheVariants.{Same, Differ}
+use Rattle.std.specs.Prelude.{Ok, Err}
+use Rattle.texts.specs.inner.Walk.{Walk, same, differ, drop_there, walked, TwoSections, TwoRuns, TwoSteps, SectionsWalked, RunsWalked, StepsWalked}
 use Rattle.texts.proofs.Standing.{kind, opened, step_of, rest_of, step_fits, kind_here, words_here, drop_here, section_here, words_end, drop_end}
 
 scale_back : (u : Scale) → scale_of (unit_byte u) ≡ u
 scale_back celsius = refl
 scale_back fahrenheit = refl
 
-pub places : {x y x' y' : ℕ} → x ≡ x' → y ≡ y' → Same x y ≡ Same x' y'
+pub places : {x y x' y' : ℕ} → x ≡ x' → y ≡ y' → same x y ≡ same x' y'
 places {x} {y} {x'} {y'} e f = cc
 
 moved : {o o' : Option ℕ} {x y x' y' : ℕ} → o ≡ o' → x ≡ x' → y ≡ y' → walked o x y ≡ walked o' x' y'
 moved {o} {o'} {x} {y} {x'} {y'} e f g = ap (λ (p : Option ℕ). walked p x y) e ∙ ap (λ (k : ℕ). walked o' k y) f ∙ ap (λ (k : ℕ). walked o' x' k) g
 
-walked_cond : (p : Bool) (i x y : ℕ) → cond p (Same x y) (Differ i) ≡ walked (cond p none (some i)) x y
+walked_cond : (p : Bool) (i x y : ℕ) → cond p (same x y) (differ i) ≡ walked (cond p none (some i)) x y
 walked_cond true i x y = refl
 walked_cond false i x y = refl
 
-differ_first : (o p : Option ℕ) (at x y x' y' : ℕ) → Differ at ≡ walked o x y → Differ at ≡ walked (or_else o p) x' y'
+-- The places of a walk that found nothing unmatched.
+first_place : Walk → ℕ
+first_place (Ok both) = both.0
+first_place (Err unmatched) = 0
+
+second_place : Walk → ℕ
+second_place (Ok both) = both.1
+second_place (Err unmatched) = 0
+
+differ_first : (o p : Option ℕ) (at x y x' y' : ℕ) → differ at ≡ walked o x y → differ at ≡ walked (or_else o p) x' y'
 differ_first none p at x y x' y' e = let z : ◌≡◌ {A = ℕ} 0 1 = cc in absurd (omega arith)
 differ_first (some k) p at x y x' y' e = e
 
@@ -37,8 +47,9 @@ record Went (o : Option ℕ) (x y x' y' : ℕ) : Type 0 where
   pub one : x ≡ x'
   pub other : y ≡ y'
 
-went : (o : Option ℕ) (x y x' y' : ℕ) → Same x y ≡ walked o x' y' → Went o x y x' y'
-went none x y x' y' e = record { matched = refl; one = cc; other = cc }
+went : (o : Option ℕ) (x y x' y' : ℕ) → same x y ≡ walked o x' y' → Went o x y x' y'
+unfolding first_place second_place
+went none x y x' y' e = record { matched = refl; one = ap first_place e; other = ap second_place e }
 went (some k) x y x' y' e = let z : ◌≡◌ {A = ℕ} 0 1 = cc in absurd (omega arith)
 
 module _ (a : List ℕ) (i : ℕ) (b : List ℕ) (j : ℕ) (n : ℕ) where
@@ -68,11 +79,11 @@ module _ (a : List ℕ) (i : ℕ) (b : List ℕ) (j : ℕ) (n : ℕ) where
   pub pair_fits : ((s t : TextStep) × TwoSteps a i b j n s t) → (i + 2 ≤ length a) × (j + 2 ≤ length b)
   pair_fits (s, t, both) = (step_fits a i n s both.one, step_fits b j n t both.other)
 
-  pub pair_other : (get_or a i 0 ≡ get_or b j 0 → ⊥) → StepsWalked a i b j n (Differ i)
+  pub pair_other : (get_or a i 0 ≡ get_or b j 0 → ⊥) → StepsWalked a i b j n (differ i)
   unfolding unmatched_step
   pair_other apart s t both = go s t (λ e. apart (here_one s t both ∙ e ∙ sym (here_other s t both)))
     where
-      go : (s t : TextStep) → (kind s ≡ kind t → ⊥) → Differ i ≡ walked (unmatched_step s t i) (i + length (step_bytes s)) (j + length (step_bytes t))
+      go : (s t : TextStep) → (kind s ≡ kind t → ⊥) → differ i ≡ walked (unmatched_step s t i) (i + length (step_bytes s)) (j + length (step_bytes t))
       go (words w) (words v) x = absurd (x refl)
       go (words w) (temperature u t) x = refl
       go (words w) (section t) x = refl
@@ -87,11 +98,11 @@ module _ (a : List ℕ) (i : ℕ) (b : List ℕ) (j : ℕ) (n : ℕ) where
     kinds : (k : ℕ) → get_or a i 0 ≡ k → (s t : TextStep) → TwoSteps a i b j n s t → (kind s ≡ k) × (kind t ≡ k)
     kinds k e s t both = (sym (here_one s t both) ∙ e, sym (here_other s t both) ∙ sym alike ∙ e)
 
-    pub pair_words : get_or a i 0 ≡ 2 → StepsWalked a i b j n (Same (i + 2 + get_or a (i + 1) 0) (j + 2 + get_or b (j + 1) 0))
+    pub pair_words : get_or a i 0 ≡ 2 → StepsWalked a i b j n (same (i + 2 + get_or a (i + 1) 0) (j + 2 + get_or b (j + 1) 0))
     unfolding unmatched_step step_bytes
     pair_words is-2 s t both = go s t both (kinds 2 is-2 s t both)
       where
-        go : (s t : TextStep) → TwoSteps a i b j n s t → (kind s ≡ 2) × (kind t ≡ 2) → Same (i + 2 + get_or a (i + 1) 0)
+        go : (s t : TextStep) → TwoSteps a i b j n s t → (kind s ≡ 2) × (kind t ≡ 2) → same (i + 2 + get_or a (i + 1) 0)
             (j + 2 + get_or b (j + 1) 0) ≡ walked (unmatched_step s t i) (i + length (step_bytes s)) (j + length (step_bytes t))
         go (words w) (words v) p e = places (omega (arith, (words_here a i n w p.one).0)) (omega (arith, (words_here b j n v p.other).0))
         go (words w) (temperature u t) p e = absurd (omega (arith, e.1))
@@ -117,11 +128,11 @@ module _ (a : List ℕ) (i : ℕ) (b : List ℕ) (j : ℕ) (n : ℕ) where
     abbrev near_here : Bool
     near_here = near (drop_there a i) (drop_there b j)
 
-    pub pair_drops : (r : Walk) → get_or a i 0 ≡ 3 → r ≡ cond (near (drop_there a i) (drop_there b j)) (Same (i + 4) (j + 4)) (Differ i) → StepsWalked a i b j n r
+    pub pair_drops : (r : Walk) → get_or a i 0 ≡ 3 → r ≡ cond (near (drop_there a i) (drop_there b j)) (same (i + 4) (j + 4)) (differ i) → StepsWalked a i b j n r
     unfolding unmatched_step
     pair_drops r is-3 e s t both = e ∙ go s t both (kinds 3 is-3 s t both)
       where
-        go : (s t : TextStep) → TwoSteps a i b j n s t → (kind s ≡ 3) × (kind t ≡ 3) → cond near_here (Same (i + 4) (j + 4)) (Differ i) ≡ walked
+        go : (s t : TextStep) → TwoSteps a i b j n s t → (kind s ≡ 3) × (kind t ≡ 3) → cond near_here (same (i + 4) (j + 4)) (differ i) ≡ walked
             (unmatched_step s t i) (i + length (step_bytes s)) (j + length (step_bytes t))
         go (words w) (words v) p e = absurd (omega (arith, e.0))
         go (words w) (temperature u t) p e = absurd (omega (arith, e.0))
@@ -169,35 +180,42 @@ module _ (a : List ℕ) (i : ℕ) (b : List ℕ) (j : ℕ) (n : ℕ) where
               ∙ moved (ap (unmatched s t) place) one other
 
   -- ---- so many steps of each
-  pub steps_done : {many more : ℕ} → many ≡ 0 → more ≡ 0 → RunsWalked a i b j n many more (Same i j)
+  pub steps_done : {many more : ℕ} → many ≡ 0 → more ≡ 0 → RunsWalked a i b j n many more (same i j)
   unfolding unmatched steps_bytes step_count
   steps_done {many} {more} z z' s t both = go s t (both.one.allowed.1 ∙ z) (both.other.allowed.1 ∙ z')
     where
-      go : (s t : Section) → step_count s ≡ 0 → step_count t ≡ 0 → Same i j ≡ walked (unmatched s t i) (i + length (steps_bytes s)) (j + length (steps_bytes t))
+      go : (s t : Section) → step_count s ≡ 0 → step_count t ≡ 0 → same i j ≡ walked (unmatched s t i) (i + length (steps_bytes s)) (j + length (steps_bytes t))
       go done done e f = places (omega arith) (omega arith)
       go done (t then ts) e f = absurd (omega (arith, f))
       go (s then ss) done e f = absurd (omega (arith, e))
       go (s then ss) (t then ts) e f = absurd (omega (arith, e))
 
-  pub steps_fewer : {many more : ℕ} → many ≡ 0 → (more ≡ 0 → ⊥) → RunsWalked a i b j n many more (Differ i)
+  pub steps_fewer : {many more : ℕ} → many ≡ 0 → (more ≡ 0 → ⊥) → RunsWalked a i b j n many more (differ i)
   unfolding unmatched step_count
   steps_fewer {many} {more} z x s t both = go s t (both.one.allowed.1 ∙ z) (λ e. x (sym both.other.allowed.1 ∙ e))
     where
-      go : (s t : Section) → step_count s ≡ 0 → (step_count t ≡ 0 → ⊥) → Differ i ≡ walked (unmatched s t i) (i + length (steps_bytes s)) (j + length (steps_bytes t))
+      go : (s t : Section) → step_count s ≡ 0 → (step_count t ≡ 0 → ⊥) → differ i ≡ walked (unmatched s t i) (i + length (steps_bytes s)) (j + length (steps_bytes t))
       go done done e f = absurd (f refl)
       go done (t then ts) e f = refl
       go (s then ss) done e f = absurd (f refl)
       go (s then ss) (t then ts) e f = absurd (omega (arith, e))
 
-  pub steps_more : {many more : ℕ} → (many ≡ 0 → ⊥) → more ≡ 0 → RunsWalked a i b j n many more (Differ i)
+  pub steps_more : {many more : ℕ} → (many ≡ 0 → ⊥) → more ≡ 0 → RunsWalked a i b j n many more (differ i)
   unfolding unmatched step_count
   steps_more {many} {more} x z s t both = go s t (λ e. x (sym both.one.allowed.1 ∙ e)) (both.other.allowed.1 ∙ z)
     where
-      go : (s t : Section) → (step_count s ≡ 0 → ⊥) → step_count t ≡ 0 → Differ i ≡ walked (unmatched s t i) (i + length (steps_bytes s)) (j + length (steps_bytes t))
+      go : (s t : Section) → (step_count s ≡ 0 → ⊥) → step_count t ≡ 0 → differ i ≡ walked (unmatched s t i) (i + length (steps_bytes s)) (j + length (steps_bytes t))
       go done done e f = absurd (e refl)
       go done (t then ts) e f = absurd (e refl)
       go (s then ss) done e f = refl
       go (s then ss) (t then ts) e f = absurd (omega (arith, f))
+
+  -- Where the steps of one of the two are over, and those of the other are not.
+  pub steps_unlike : (many more k : ℕ) → (many ≡ more → ⊥) → k ≤ many → k ≤ more → min many more ≤ k → RunsWalked a i b j n (many - k) (more - k) (differ i)
+  steps_unlike many more k unlike one other over = go (cases_lt many more) where
+    go : (many < more) ⊎ (more ≤ many) → RunsWalked a i b j n (many - k) (more - k) (differ i)
+    go (inl less) = steps_fewer (omega (arith, less, over)) (λ none. omega (arith, none, less, over, one))
+    go (inr no_less) = steps_more (λ none. unlike (omega (arith, none, no_less, over, other, one))) (omega (arith, no_less, over))
 
   module _ {many more : ℕ} (x : many ≡ 0 → ⊥) (y : more ≡ 0 → ⊥) where
     -- Two first steps, and the others of each.
@@ -234,11 +252,11 @@ module _ (a : List ℕ) (i : ℕ) (b : List ℕ) (j : ℕ) (n : ℕ) where
     pub pair_first : ((s t : Section) × TwoRuns a i b j n many more s t) → ((s t : TextStep) × TwoSteps a i b j n s t)
     pair_first (s, t, both) = let f = firsts s t both in (f.one, f.other, f.pair)
 
-    pub steps_differ : (at : ℕ) → StepsWalked a i b j n (Differ at) → RunsWalked a i b j n many more (Differ at)
+    pub steps_differ : (at : ℕ) → StepsWalked a i b j n (differ at) → RunsWalked a i b j n many more (differ at)
     unfolding unmatched
     steps_differ at w s t both = go s t (firsts s t both)
       where
-        go : (s t : Section) → First s t → Differ at ≡ walked (unmatched s t i) (i + length (steps_bytes s)) (j + length (steps_bytes t))
+        go : (s t : Section) → First s t → differ at ≡ walked (unmatched s t i) (i + length (steps_bytes s)) (j + length (steps_bytes t))
         go s t f =
             rw (f.first_is, f.second_is)
             (differ_first
@@ -251,7 +269,7 @@ module _ (a : List ℕ) (i : ℕ) (b : List ℕ) (j : ℕ) (n : ℕ) where
             (j + length (steps_bytes (f.other then f.others)))
             (w f.one f.other f.pair))
 
-    module _ (k m : ℕ) (w : StepsWalked a i b j n (Same k m)) where
+    module _ (k m : ℕ) (w : StepsWalked a i b j n (same k m)) where
       gone : (s t : TextStep) → TwoSteps a i b j n s t → Went (unmatched_step s t i) k m (i + length (step_bytes s)) (j + length (step_bytes t))
       gone s t p = went (unmatched_step s t i) k m (i + length (step_bytes s)) (j + length (step_bytes t)) (w s t p)
 

@@ -1,11 +1,12 @@
 -- When two texts agree, where two that do not first differ, and what comparing them tells (docs/RULES.md, 12.8 to 12.10).
 -- Assumes nothing.
-use Rattle.std.specs.Prelude.{ℕ, ◌+◌, ◌≡◌, Bool, true, false, cond, ◌&&◌, List, length}
+use Rattle.std.specs.Prelude.{ℕ, ◌+◌, ◌≡◌, Bool, true, false, cond, ◌&&◌, List, length, Result, Ok, Err}
 use Rattle.std.proofs.Math.Option.{Option, none, some}
 use Rattle.text_drops.specs.Drop.{drop_of, near}
 use Rattle.texts.specs.Text.{TextStep, words, temperature, section, Section, done, ◌then◌, step_bytes, Says, WellFormedText}
-use Rattle.texts.specs.declared.Agreement.{Agreement}
-use Rattle.texts.specs.declared.Agreement.TheVariants.{Agree, FirstIll, SecondIll, Unmatched}
+use Rattle.texts.specs.declared.inner.walk.UnmatchedAt.{UnmatchedAt}
+use Rattle.texts.specs.declared.Disagreement.{Disagreement}
+use Rattle.texts.specs.declared.Disagreement.TheVariants.{FirstIll, SecondIll, Unmatched}
 use Rattle.numbers.specs.Numbers.{FIRST_ILL, SECOND_ILL, UNMATCHED}
 
 -- Two sections agree: as many steps, each of the same kind as its partner, sections in turn, and each two drops near. Words may be any (rule 12.8).
@@ -61,12 +62,16 @@ pub record Verdict : Type 0 where
 abbrev pub verdict : ℕ → ℕ → Verdict
 verdict number place = record { number = number; place = place }
 
+-- Two texts that differ, at the unmatched place.
+abbrev pub differing : UnmatchedAt → Disagreement
+differing unmatched = Unmatched unmatched.at
+
 -- The number and the place of each case of the code's answer.
-abbrev pub told : Agreement → Verdict
-told Agree = verdict 0 0
-told FirstIll = verdict FIRST_ILL 0
-told SecondIll = verdict SECOND_ILL 0
-told (Unmatched place) = verdict UNMATCHED place
+abbrev pub told : Result Unit Disagreement → Verdict
+told (Ok _) = verdict 0 0
+told (Err FirstIll) = verdict FIRST_ILL 0
+told (Err SecondIll) = verdict SECOND_ILL 0
+told (Err (Unmatched place)) = verdict UNMATCHED place
 
 -- Two well formed texts agree if no place is unmatched, else the place is told.
 abbrev pub placed : Option ℕ → Verdict

@@ -5,13 +5,13 @@ use native.Mathlib.Numerals.{add-one}
 use mathlib.Core.Path.{◌≡◌, refl, sym, ap, ◌∙◌}
 use mathlib.Core.List.{List}
 use mathlib.Core.Bool.{Bool, true, false, cond, not, ◌&&◌, ◌||◌, and-false, or-false}
-use borrow.Author.Tests.{le-ltb, eq-eqb, ne_eqb}
+use borrow.Author.Tests.{le-ltb}
 use lib.Dec.{eqb, ltb, leb}
 use Rattle.lists.specs.Parts.{every}
-use Rattle.lists.specs.Le.{field}
 use Rattle.lists.specs.Search.{any}
 use Rattle.lists.proofs.Tests.{and_left, and_right, never_both}
-use Rattle.redo_log.specs.Log.{LogRecord, update_kind, most_records, record_card, last_begun, record_at, record_count, records}
+use Rattle.redo_log.specs.Log.{LogRecord, update_kind, most_records, record_card, record_count, records}
+use Rattle.redo_log.specs.inner.Placed.{Placed, placed_at}
 use Rattle.redo_log.proofs.ReadBack.{record_of}
 use Rattle.redo_recovery_model.specs.Recovery.{record_in, transaction_in, commits_to, syncs_from, due}
 use Rattle.transactions.specs.System.{due_for, written_out, update_in}
@@ -128,16 +128,10 @@ pub surveyed_none : (rs : List LogRecord) (k reach t : ℕ) → survey false 200
 unfolding surveyed every first_due last_due
 surveyed_none rs k reach t = refl
 
--- ---- a record, by its kind
+-- ---- a record of the log
 
 module _ (log : List ℕ) (i k : ℕ) (h : i < record_count log) where
-  pub not_update : ((record_at log i).kind ≡ 2 → ⊥) → (eqb (record_in (records log) i).kind update_kind && eqb (record_card (record_in (records log) i)) k) ≡ false
-  not_update n = rw (record_of log i h, ne_eqb (record_at log i).kind 2 n)
-
-  pub update_is : (record_at log i).kind ≡ 2 → (eqb (record_in (records log) i).kind update_kind && eqb (record_card (record_in (records log) i)) k) ≡ eqb (field 0 2 (record_at log i).body) k
-  update_is e = rw (record_of log i h, eq-eqb (record_at log i).kind 2 e)
-
--- Before the first record none is begun.
-pub last_none : (log : List ℕ) → 0 ≡ last_begun (record_at log) 0
-unfolding last_begun
-last_none log = refl
+  -- The test of the code, of the record that the list has there.
+  pub update_there : {p : Placed} → p ≡ placed_at log i
+      → (eqb p.entry.kind update_kind && eqb (record_card p.entry) k) ≡ (eqb (record_in (records log) i).kind update_kind && eqb (record_card (record_in (records log) i)) k)
+  update_there e = rw (record_of log i h, e)

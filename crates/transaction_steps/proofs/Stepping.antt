@@ -2,14 +2,12 @@
 use Prim.Native.Nat.{ℕ}
 use mathlib.Core.Path.{◌≡◌, sym, ap, ◌∙◌, subst}
 use mathlib.Core.List.{List}
-use mathlib.Core.Bool.{Bool, true, false, not, ◌&&◌}
+use mathlib.Core.Bool.{Bool, true, false, not, ◌&&◌, and-false}
+use borrow.Author.Tests.{eq-eqb, ne_eqb}
 use lib.ListN.{length, set}
 use lib.Dec.{eqb}
 use Rattle.redo_log.specs.Log.{LogRecord, last_begun, opened, record_at, record_count, records, good_log}
 use Rattle.redo_log.specs.Append.{stored, puts}
-use Rattle.redo_log.specs.inner.Scanned.{scanned}
-use Rattle.redo_log.specs.declared.inner.reading.Scan.{Scan}
-use Rattle.redo_log.proofs.Reading.{good_of, last_of, running_of}
 use Rattle.redo_log.proofs.Records.{last_ext, opened_ext}
 use Rattle.redo_log.proofs.ReadBack.{record_of, length_records}
 use Rattle.redo_recovery_model.specs.Recovery.{record_in, transaction_in}
@@ -32,30 +30,37 @@ module _ (log : List ℕ) where
   open_is : opened (record_at log) (record_count log) ≡ opened (record_in rs) (length rs)
   open_is = opened_ext (record_at log) (record_in rs) (record_count log) (λ i h. sym (record_of log i h)) ∙ ap (opened (record_in rs)) (sym (length_records log))
 
-  module _ (k reach : ℕ) (scan : Scan) (found : Survey) where
+  module _ (k reach last : ℕ) (running : Bool) (found : Survey) where
     pub record Surveys : Type 0 where
       pub due_is : found.due ≡ not (written_out rs k 0 (length rs))
       pub line_is : found.line ≡ first_due rs k reach (length rs)
       pub transaction_is : found.transaction ≡ last_due rs k (length rs)
-      pub wants_is : (scan.running && found.changed) ≡ wants rs k
+      pub wants_is : (running && found.changed) ≡ wants rs k
 
-    pub surveys : scan ≡ scanned log → good_log log ≡ true → found ≡ surveyed rs k reach scan.last (record_count log) → Surveys
+    pub surveys : last ≡ last_begun (record_at log) (record_count log) → running ≡ opened (record_at log) (record_count log)
+        → found ≡ surveyed rs k reach last (record_count log) → Surveys
     unfolding surveyed
-    surveys s g f =
+    surveys l r f =
         let whole : found ≡ surveyed rs k reach (transaction_in rs (length rs)) (length rs) =
-        f ∙ ap (λ (t : ℕ). surveyed rs k reach t (record_count log)) (last_of scan log s g ∙ last_is) ∙ ap (surveyed rs k reach (transaction_in rs (length rs))) (sym (length_records log)) in
+        f ∙ ap (λ (t : ℕ). surveyed rs k reach t (record_count log)) (l ∙ last_is) ∙ ap (surveyed rs k reach (transaction_in rs (length rs))) (sym (length_records log)) in
         record {
           due_is = ap (λ (q : Survey). q.due) whole;
           line_is = ap (λ (q : Survey). q.line) whole;
           transaction_is = ap (λ (q : Survey). q.transaction) whole;
-          wants_is = ap (λ (b : Bool). b && found.changed) (running_of scan log s g ∙ open_is) ∙ ap (λ (q : Survey). opened (record_in rs) (length rs) && q.changed) whole;
+          wants_is = ap (λ (b : Bool). b && found.changed) (r ∙ open_is) ∙ ap (λ (q : Survey). opened (record_in rs) (length rs) && q.changed) whole;
         }
 
 -- ---- the rows
 
--- The first test, by what the scan says.
-pub good_now : (scan : Scan) (log : List ℕ) (d : ℕ) {b : Bool} → scan ≡ scanned log → (scan.good && not (eqb d 0)) ≡ b → (good_log log && not (eqb d 0)) ≡ b
-good_now scan log d {b} s e = subst (λ (g : Bool). (g && not (eqb d 0)) ≡ b) (good_of scan log s) e
+-- The first test.
+pub good_desk : (log : List ℕ) (d : ℕ) → good_log log ≡ true → (d ≡ 0 → ⊥) → (good_log log && not (eqb d 0)) ≡ true
+good_desk log d g n = rw (g, ne_eqb d 0 n)
+
+pub bad_desk : (log : List ℕ) (d : ℕ) → d ≡ 0 → (good_log log && not (eqb d 0)) ≡ false
+bad_desk log d e = rw (eq-eqb d 0 e) (and-false (good_log log))
+
+pub bad_bytes : (log : List ℕ) (d : ℕ) → good_log log ≡ false → (good_log log && not (eqb d 0)) ≡ false
+bad_bytes log d e = rw e
 
 module _ (log : List ℕ) (d k : ℕ) (going : Bool) (v : LastSeen) where
   pub step_bad : (good_log log && not (eqb d 0)) ≡ false → plain_step bad_step ≡ next_of log d k going v
@@ -67,24 +72,24 @@ module _ (log : List ℕ) (d k : ℕ) (going : Bool) (v : LastSeen) where
     unfolding next_of next_step
     step_look e = rw (g, e)
 
-    module _ (scan : Scan) (found : Survey) (s : Surveys log k v.reach scan found) (known : v.known ≡ true) where
+    module _ (last : ℕ) (running : Bool) (found : Survey) (s : Surveys log k v.reach last running found) (known : v.known ≡ true) where
       pub step_finish : found.due ≡ true → finishing d v.mark found.line found.transaction ≡ next_of log d k going v
       unfolding next_of next_step
       step_finish e = rw (g, known, sym s.due_is ∙ e, s.line_is, s.transaction_is)
 
-      pub step_ready : found.due ≡ false → (going && (scan.running && found.changed)) ≡ true → readying d v ≡ next_of log d k going v
+      pub step_ready : found.due ≡ false → (going && (running && found.changed)) ≡ true → readying d v ≡ next_of log d k going v
       unfolding next_of next_step
       step_ready e f =
           let wanted : (going && wants (records log) k) ≡ true = subst (λ (b : Bool). (going && b) ≡ true) s.wants_is f in
           rw (g, known, sym s.due_is ∙ e, wanted)
 
-      pub step_release : found.due ≡ false → (going && (scan.running && found.changed)) ≡ false → eqb v.mark d ≡ true → plain_step release_step ≡ next_of log d k going v
+      pub step_release : found.due ≡ false → (going && (running && found.changed)) ≡ false → eqb v.mark d ≡ true → plain_step release_step ≡ next_of log d k going v
       unfolding next_of next_step
       step_release e f m =
           let unwanted : (going && wants (records log) k) ≡ false = subst (λ (b : Bool). (going && b) ≡ false) s.wants_is f in
           rw (g, known, sym s.due_is ∙ e, unwanted, m)
 
-      pub step_nothing : found.due ≡ false → (going && (scan.running && found.changed)) ≡ false → eqb v.mark d ≡ false → plain_step nothing_step ≡ next_of log d k going v
+      pub step_nothing : found.due ≡ false → (going && (running && found.changed)) ≡ false → eqb v.mark d ≡ false → plain_step nothing_step ≡ next_of log d k going v
       unfolding next_of next_step
       step_nothing e f m =
           let unwanted : (going && wants (records log) k) ≡ false = subst (λ (b : Bool). (going && b) ≡ false) s.wants_is f in

@@ -8,7 +8,8 @@ use Rattle.redo_log.specs.Log.{LogRecord, most_records, record_card, opened, goo
 use Rattle.redo_recovery_model.specs.Recovery.{record_in, transaction_in}
 use Rattle.transactions.specs.System.{due_for, written_out, update_in}
 use Rattle.transaction_steps.specs.declared.LastSeen.{LastSeen}
-use Rattle.transaction_steps.specs.declared.ToldStep.{ToldStep}
+use Rattle.transaction_steps.specs.declared.NextStep.{NextStep}
+use Rattle.transaction_steps.specs.declared.NextStep.TheVariants.{Nothing, Look, Prepare, Ready, Write, Release, Note, Wait, Bad}
 
 -- ---- the steps (rule 16.25)
 
@@ -46,9 +47,28 @@ wait_step = 7
 abbrev pub bad_step : ℕ
 bad_step = 8
 
+-- A step in numbers: which one it is, the line of the log that is to be written, and the transaction that is to be noted
+-- as synced. Both are 0 with other steps.
+pub record ToldStep : Type 0 where
+  pub step : ℕ
+  pub line : ℕ
+  pub transaction : ℕ
+
 -- A step with neither line nor transaction.
 abbrev pub plain_step : ℕ → ToldStep
 plain_step step = record { step = step; line = 0; transaction = 0 }
+
+-- What a step says, in numbers.
+abbrev pub step_told : NextStep → ToldStep
+step_told Nothing = plain_step nothing_step
+step_told Look = plain_step look_step
+step_told Prepare = plain_step prepare_step
+step_told Ready = plain_step ready_step
+step_told (Write line) = record { step = write_step; line = line; transaction = 0 }
+step_told Release = plain_step release_step
+step_told (Note transaction) = record { step = note_step; line = 0; transaction = transaction }
+step_told Wait = plain_step wait_step
+step_told Bad = plain_step bad_step
 
 -- ---- what a desk sees (rule 16.24)
 

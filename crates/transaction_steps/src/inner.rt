@@ -1,20 +1,22 @@
 // Steps of the operations, and what asks something of its caller.
-ghost use Rattle.std.specs.Prelude.{◌≡◌, true, cond, ◌&&◌, ◌+◌, ◌<◌, eqb, leb};
-ghost use Rattle.redo_log.specs.Log.{good_log, record_count, record_at, last_begun, records, update_kind, record_card};
-ghost use Rattle.redo_recovery_model.specs.Recovery.{record_in};
+ghost use Rattle.std.specs.Prelude.{◌≡◌, cond, ◌&&◌, ◌+◌, ◌<◌, eqb, leb};
+ghost use Rattle.redo_log.specs.Log.{record_count, records, update_kind, record_card};
+ghost use Rattle.redo_log.specs.inner.Placed.{placed_at};
+ghost use Rattle.redo_log.specs.inner.Shown.{as_record};
 ghost use Rattle.transactions.specs.System.{nothing_due};
-ghost use Rattle.transaction_steps.specs.Steps.{reach_by, plain_step, first_of, finishing, readying};
+ghost use Rattle.transaction_steps.specs.Steps.{reach_by, step_told, first_of, finishing, readying};
 ghost use Rattle.transaction_steps.specs.inner.Surveyed.{surveyed};
 
-use crate::{LastSeen, NOTE, PREPARE, READY, RELEASE, ToldStep, WAIT, WRITE};
+use crate::{LastSeen, NextStep, WRITE};
 use numbers::ACCEPTED;
 use redo_log::inner::reading::UPDATE;
-use redo_log::inner::records;
+use redo_log::inner::records::{CheckedLog, Record};
 use redo_recovery::inner::is_due;
 use slices::inner::fixed_width as le;
 
 // What the log says of a card: whether something is due; the first line that is due and not below the reach, or 200; the transaction of the last line
 // that is due; and whether the transaction begun last changes the card.
+// Kept: 200 and 0 for none, since `finishing` and `first_of` (rule 16.25) reckon with them: an `Option` would be made a number again where it is used.
 #[derive(Clone, Copy)]
 pub struct Survey {
     pub due: bool,
@@ -33,26 +35,15 @@ pub fn reach_by(step: u8, line: u8, number: u8) -> u16
     0
 }
 
-// A step with neither line nor transaction.
-pub fn plain(step: u8) -> ToldStep
-    ensures { result ≡ plain_step step }
+// Kept: it is like `is_commit` of recovery, and differs in the kind, and in the place and width of the number that it compares.
+// Whether a record is an update of a card.
+fn is_update_of(record: &Record, card: u16) -> bool
+    ensures { result ≡ (eqb (as_record record.now).entry.kind update_kind && eqb (record_card (as_record record.now).entry) card) }
 {
-    ToldStep {
-        step: step,
-        line: 0,
-        transaction: 0,
-    }
-}
-
-// Whether record i is an update of a card.
-fn is_update_of(log: &[u8], i: usize, card: u16) -> bool
-    requires { (good_log log.now ≡ true) × (i < record_count log.now) }
-    ensures { result ≡ (eqb (record_in (records log.now) i).kind update_kind && eqb (record_card (record_in (records log.now) i)) card) }
-{
-    if records::kind_at(log, i) != UPDATE {
+    if record.kind != UPDATE {
         return false;
     }
-    le::read_u16(records::body_at(log, i), 0) == card
+    le::read_u16(record.body, 0) == card
 }
 
 // The line found so far, with line i.
@@ -78,104 +69,77 @@ fn transaction_after(is: bool, last: u32, before: u32) -> u32
     before
 }
 
-// What the log says of a card, with record i.
-fn with_record(
-    log: &[u8],
-    card: u16,
-    reach: u16,
-    begun: u32,
-    i: usize,
-    last: u32,
-    found: Survey,
-) -> Survey
-    requires { (good_log log.now ≡ true) × (i < record_count log.now) × (last ≡ last_begun (record_at log.now) i) × (found ≡ surveyed (records log.now) card reach begun i) }
-    ensures { result ≡ surveyed (records log.now) card reach begun (i + 1) }
+// What the log says of a card, with one record more.
+fn with_record(log: &CheckedLog, record: &Record, card: u16, reach: u16, found: Survey) -> Survey
+    requires { (as_record record.now ≡ placed_at log.now.bytes.now record.now.line) × (record.now.line < record_count log.now.bytes.now)
+        × (found ≡ surveyed (records log.now.bytes.now) card reach log.now.last record.now.line) }
+    ensures { result ≡ surveyed (records log.now.bytes.now) card reach log.now.last (record.now.line + 1) }
 {
-    if !is_update_of(log, i, card) {
+    if !is_update_of(record, card) {
         return found;
     }
-    let is = is_due(log, i, last);
+    let is = is_due(log, record);
     Survey {
         due: found.due | is,
-        line: line_after(found.line, reach, i as u16, is),
-        transaction: transaction_after(is, last, found.transaction),
-        changed: found.changed | (last == begun),
+        line: line_after(found.line, reach, record.line as u16, is),
+        transaction: transaction_after(is, record.transaction, found.transaction),
+        changed: found.changed | (record.transaction == log.last),
     }
 }
 
 // What the log says of a card, record by record.
-pub fn survey_of(log: &[u8], card: u16, reach: u16, begun: u32) -> Survey
-    requires { good_log log.now ≡ true }
-    ensures { result ≡ surveyed (records log.now) card reach begun (record_count log.now) }
+pub fn survey_of(log: &CheckedLog, card: u16, reach: u16) -> Survey
+    ensures { result ≡ surveyed (records log.now.bytes.now) card reach log.now.last (record_count log.now.bytes.now) }
 {
-    let count = records::count(log);
     let mut found = Survey {
         due: false,
         line: 200,
         transaction: 0,
         changed: false,
     };
-    let mut last: u32 = 0;
-    let mut i: usize = 0;
-    while i < count {
-        found = with_record(log, card, reach, begun, i, last, found);
-        last = records::last_at(log, i, last);
-        i += 1;
+    for record in log.records() {
+        found = with_record(log, &record, card, reach, found);
     }
     found
 }
 
 // The step for a card of which something is due.
-pub fn finish(desk: u16, mark: u16, line: u16, transaction: u32) -> ToldStep
-    ensures { result ≡ finishing desk mark line transaction }
+pub fn finish(desk: u16, mark: u16, line: u16, transaction: u32) -> NextStep
+    ensures { step_told result ≡ finishing desk mark line transaction }
 {
     if mark != desk {
-        return ToldStep {
-            step: NOTE,
-            line: 0,
-            transaction: transaction,
-        };
+        return NextStep::Note(transaction);
     }
     if line < 200 {
-        return ToldStep {
-            step: WRITE,
-            line: line as u8,
-            transaction: 0,
-        };
+        return NextStep::Write(line as u8);
     }
-    plain(RELEASE)
+    NextStep::Release
 }
 
 // The step for a card of which nothing is due and that the open transaction changes.
-pub fn make_ready(desk: u16, seen: LastSeen) -> ToldStep
-    ensures { result ≡ readying desk seen }
+pub fn make_ready(desk: u16, seen: LastSeen) -> NextStep
+    ensures { step_told result ≡ readying desk seen }
 {
     if seen.mark == 0 {
-        return plain(PREPARE);
+        return NextStep::Prepare;
     }
     if seen.mark != desk {
-        return plain(WAIT);
+        return NextStep::Wait;
     }
     if seen.held {
-        return plain(READY);
+        return NextStep::Ready;
     }
-    plain(RELEASE)
+    NextStep::Release
 }
 
 // Whether no record of a log is due.
-pub fn none_due(log: &[u8]) -> bool
-    requires { good_log log.now ≡ true }
-    ensures { result ≡ nothing_due (records log.now) }
+pub fn none_due(log: &CheckedLog) -> bool
+    ensures { result ≡ nothing_due (records log.now.bytes.now) }
 {
-    let count = records::count(log);
-    let mut last: u32 = 0;
-    let mut i: usize = 0;
-    while i < count {
-        if is_due(log, i, last) {
+    for record in log.records() {
+        if is_due(log, &record) {
             return false;
         }
-        last = records::last_at(log, i, last);
-        i += 1;
     }
     true
 }

@@ -4,13 +4,13 @@
 pub mod inner;
 
 ghost use Rattle.std.specs.Prelude.{◌≡◌};
-ghost use Rattle.transaction_steps.specs.Steps.{seen_upon, next_of};
+ghost use Rattle.transaction_steps.specs.Steps.{seen_upon, next_of, step_told};
 ghost use Rattle.transaction_steps.specs.Again.{begins_again, begun_again};
 
 use numbers::ACCEPTED;
-use redo_log::inner::reading;
+use redo_log::inner::records::CheckedLog;
 
-// The steps.
+// The steps in numbers, as C has them.
 pub const NOTHING: u8 = 0;
 
 pub const LOOK: u8 = 1;
@@ -29,6 +29,7 @@ pub const WAIT: u8 = 7;
 
 pub const BAD: u8 = 8;
 
+// Kept: `known` stands beside the rest, since `seen_upon` (rule 16.24, `lupaniele_heard`) tells the mark and the reach also of an answer that shows nothing.
 // What a desk has seen of a card: whether the command that it last sent for the card was answered; whether that was a prepare that was accepted; the
 // desk in the mark that the answer shows; and how many lines of the log are written out.
 #[derive(Clone, Copy)]
@@ -39,15 +40,22 @@ pub struct LastSeen {
     pub reach: u16,
 }
 
-// A step; the line of the log that is to be written, and the transaction that is to be noted as synced. Both are 0 with other steps.
-#[derive(Clone, Copy)]
-pub struct ToldStep {
-    pub step: u8,
-    pub line: u8,
-    pub transaction: u32,
+// The next step for a card. A write is that of a line of the log, and a note says that a transaction is synced.
+#[derive(Clone, Copy, PartialEq, Eq)]
+pub enum NextStep {
+    Nothing,
+    Look,
+    Prepare,
+    Ready,
+    Write(u8),
+    Release,
+    Note(u32),
+    Wait,
+    Bad,
 }
 
 // What a desk sees by an answer to the step that it took: its number, and the desk of the mark that it shows.
+// Kept: `step` is a number and no `NextStep`, since `lupaniele_heard` hands on any byte of its caller's, and `seen_upon` speaks of every one.
 pub fn heard(step: u8, line: u8, number: u8, mark: u16) -> LastSeen
     ensures { result ≡ seen_upon step line number mark }
 {
@@ -62,27 +70,29 @@ pub fn heard(step: u8, line: u8, number: u8, mark: u16) -> LastSeen
 }
 
 // The next step of a desk for a card; `going` says whether the desk goes on with the transaction that is open.
-pub fn next_step(log: &[u8], desk: u16, card: u16, going: bool, seen: LastSeen) -> ToldStep
-    ensures { result ≡ next_of log.now desk card going seen }
+pub fn next_step(log: &[u8], desk: u16, card: u16, going: bool, seen: LastSeen) -> NextStep
+    ensures { step_told result ≡ next_of log.now desk card going seen }
 {
-    let scan = reading::scan_of(log);
-    if !(scan.good & !(desk == 0)) {
-        return inner::plain(BAD);
+    let Some(log) = CheckedLog::of(log) else {
+        return NextStep::Bad;
+    };
+    if desk == 0 {
+        return NextStep::Bad;
     }
     if !seen.known {
-        return inner::plain(LOOK);
+        return NextStep::Look;
     }
-    let found = inner::survey_of(log, card, seen.reach, scan.last);
+    let found = inner::survey_of(&log, card, seen.reach);
     if found.due {
         return inner::finish(desk, seen.mark, found.line, found.transaction);
     }
-    if going & (scan.running & found.changed) {
+    if going & (log.running & found.changed) {
         return inner::make_ready(desk, seen);
     }
     if seen.mark == desk {
-        return inner::plain(RELEASE);
+        return NextStep::Release;
     }
-    inner::plain(NOTHING)
+    NextStep::Nothing
 }
 
 // Lets a log begin again by one store, if nothing in it is due.
@@ -90,10 +100,10 @@ pub fn begin_again(log: &mut [u8]) -> bool
     ensures answer { result ≡ begins_again log.old }
     ensures log { log.new ≡ begun_again log.old }
 {
-    if redo_log::check(log) != ACCEPTED {
+    let Some(good) = CheckedLog::of(log) else {
         return false;
-    }
-    if !inner::none_due(log) {
+    };
+    if !inner::none_due(&good) {
         return false;
     }
     log[0] = 0;

@@ -49,8 +49,7 @@ use Rattle.transactions.specs.System.{
 use Rattle.transactions.specs.Claims.{StepBytes, AllSteps, Moment}
 use Rattle.transactions.proofs.Kept.{Kept}
 use Rattle.transactions.proofs.Claims.{kept_opening, kept_next}
-use Rattle.transaction_steps.specs.declared.ToldStep.{ToldStep}
-use Rattle.transaction_steps.specs.Steps.{prepare_step, ready_step, write_step, release_step, note_step, last_due, next_step}
+use Rattle.transaction_steps.specs.Steps.{ToldStep, prepare_step, ready_step, write_step, release_step, note_step, last_due, next_step}
 use Rattle.transaction_steps_claims.specs.Follower.{
   Mind,
   Follower,

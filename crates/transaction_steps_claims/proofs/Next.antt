@@ -19,8 +19,22 @@ use Rattle.redo_recovery_model.specs.Claims.{side_is}
 use Rattle.transactions.specs.System.{due_for, written_out}
 use Rattle.transactions.proofs.Kept.{Clear}
 use Rattle.transaction_steps.specs.declared.LastSeen.{LastSeen}
-use Rattle.transaction_steps.specs.declared.ToldStep.{ToldStep}
-use Rattle.transaction_steps.specs.Steps.{plain_step, nothing_step, look_step, prepare_step, ready_step, write_step, release_step, note_step, wait_step, first_due, last_due, wants, next_step}
+use Rattle.transaction_steps.specs.Steps.{
+  ToldStep,
+  plain_step,
+  nothing_step,
+  look_step,
+  prepare_step,
+  ready_step,
+  write_step,
+  release_step,
+  note_step,
+  wait_step,
+  first_due,
+  last_due,
+  wants,
+  next_step,
+}
 
 -- ---- the lines of a card
 

@@ -27,8 +27,22 @@ use Rattle.transactions_cases.specs.Cases.{
   notes,
 }
 use Rattle.transaction_steps.specs.declared.LastSeen.{LastSeen}
-use Rattle.transaction_steps.specs.declared.ToldStep.{ToldStep}
-use Rattle.transaction_steps.specs.Steps.{plain_step, nothing_step, look_step, prepare_step, ready_step, write_step, release_step, note_step, wait_step, bad_step, next_step, next_of, seen_upon}
+use Rattle.transaction_steps.specs.Steps.{
+  ToldStep,
+  plain_step,
+  nothing_step,
+  look_step,
+  prepare_step,
+  ready_step,
+  write_step,
+  release_step,
+  note_step,
+  wait_step,
+  bad_step,
+  next_step,
+  next_of,
+  seen_upon,
+}
 use Rattle.transaction_steps_claims.specs.AgainCases.{AgainCases}
 use Rattle.transaction_steps_claims.specs.Ends.{nobody_between}
 use Rattle.transaction_steps_claims.specs.Follower.{Doing, incoming, arriving, sending, logging, renewing, falling, follower_opening, all_as_told}

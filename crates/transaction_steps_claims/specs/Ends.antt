@@ -16,8 +16,7 @@ use Rattle.redo_log.specs.Log.{LogRecord, synced_kind, record_card, record_trans
 use Rattle.transactions.specs.System.{OneDesk, command_in, mark_in, written_out, outcome}
 use Rattle.transactions.specs.Claims.{Moment}
 use Rattle.transaction_steps.specs.declared.LastSeen.{LastSeen}
-use Rattle.transaction_steps.specs.declared.ToldStep.{ToldStep}
-use Rattle.transaction_steps.specs.Steps.{plain_step, nothing_step, look_step, write_step, release_step, note_step, seen_upon, next_step}
+use Rattle.transaction_steps.specs.Steps.{ToldStep, plain_step, nothing_step, look_step, write_step, release_step, note_step, seen_upon, next_step}
 use Rattle.transaction_steps_claims.specs.Follower.{no_mind}
 
 -- The records of the log, the desk in the mark that the card bears, and what the desk has seen of it.

@@ -37,8 +37,7 @@ use Rattle.transactions.specs.System.{
 }
 use Rattle.transactions.specs.Claims.{StepBytes, Clean, Blank, Moment}
 use Rattle.transaction_steps.specs.declared.LastSeen.{LastSeen}
-use Rattle.transaction_steps.specs.declared.ToldStep.{ToldStep}
-use Rattle.transaction_steps.specs.Steps.{look_step, prepare_step, ready_step, write_step, release_step, note_step, seen_upon, next_step}
+use Rattle.transaction_steps.specs.Steps.{ToldStep, look_step, prepare_step, ready_step, write_step, release_step, note_step, seen_upon, next_step}
 
 -- ---- what there is
 

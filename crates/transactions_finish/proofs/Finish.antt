@@ -30,8 +30,7 @@ use Rattle.transactions.proofs.Serving.{at}
 use Rattle.transactions.proofs.Requests.{if_so}
 use Rattle.transactions.proofs.Claims.{kept_always, refines, meant_only_then}
 use Rattle.transactions_progress.specs.Progress.{originals_due, edition_before, can_write}
-use Rattle.transaction_steps.specs.declared.ToldStep.{ToldStep}
-use Rattle.transaction_steps.specs.Steps.{note_step, last_due, next_step}
+use Rattle.transaction_steps.specs.Steps.{ToldStep, note_step, last_due, next_step}
 use Rattle.transaction_steps_claims.specs.Follower.{
   Mind,
   Follower,

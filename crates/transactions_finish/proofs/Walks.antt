@@ -30,8 +30,7 @@ use Rattle.redo_recovery_model.specs.Recovery.{record_in}
 use Rattle.transactions.specs.System.{Shown, no_shown, command_in, same_bytes, prepares, writes_out, releases, opens_above, outcome, after_step, reach_of}
 use Rattle.transactions.proofs.Serving.{at, then, taken, kept, stepped_here}
 use Rattle.transaction_steps.specs.declared.LastSeen.{LastSeen}
-use Rattle.transaction_steps.specs.declared.ToldStep.{ToldStep}
-use Rattle.transaction_steps.specs.Steps.{plain_step, look_step, write_step, release_step, shows_none, seen_upon, next_step}
+use Rattle.transaction_steps.specs.Steps.{ToldStep, plain_step, look_step, write_step, release_step, shows_none, seen_upon, next_step}
 use Rattle.transaction_steps_claims.specs.Follower.{
   Mind,
   Follower,

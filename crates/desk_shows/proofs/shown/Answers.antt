@@ -26,14 +26,14 @@ part_of-requires c =
     let a = c.args in
     let o = held_text a.original.now a.original_length in
     let t = held_text a.translation.now a.translation_length in
-    within o t a.edition a.from a.asked c.behind_asked.ensures c.number_of-given.ensures Original
+    within o t a.edition a.from a.asked c.behind_asked.ensures c.judged-given.ensures Original
 
 pub part_of-requires-in-Translation : goal.part_of-requires-in-Translation
 part_of-requires-in-Translation c =
     let a = c.args in
     let o = held_text a.original.now a.original_length in
     let t = held_text a.translation.now a.translation_length in
-    within o t a.edition a.from a.asked c.behind_asked.ensures c.number_of-given.ensures Translation
+    within o t a.edition a.from a.asked c.behind_asked.ensures c.judged-given.ensures Translation
 
 pub returns-in-Original : goal.returns-in-Original
 returns-in-Original c =
@@ -42,8 +42,8 @@ returns-in-Original c =
     let t = held_text a.translation.now a.translation_length in
     let told = c.in-Original.is in
     record {
-      number = number o t a.edition a.from a.asked c.behind_asked.ensures c.number_of-given.ensures;
-      part = c.part_of.ensures.0 ∙ part o t a.edition a.from a.asked c.behind_asked.ensures c.number_of-given.ensures Original told;
+      number = c.number_of.ensures ∙ number o t a.edition a.from a.asked c.behind_asked.ensures c.judged-given.ensures;
+      part = c.part_of.ensures.0 ∙ part o t a.edition a.from a.asked c.behind_asked.ensures c.judged-given.ensures Original told;
       place = rw told c.part_of.ensures.1;
     }
 
@@ -54,7 +54,7 @@ returns-in-Translation c =
     let t = held_text a.translation.now a.translation_length in
     let told = c.in-Translation.is in
     record {
-      number = number o t a.edition a.from a.asked c.behind_asked.ensures c.number_of-given.ensures;
-      part = c.part_of-in-Translation.ensures.0 ∙ part o t a.edition a.from a.asked c.behind_asked.ensures c.number_of-given.ensures Translation told;
+      number = c.number_of.ensures ∙ number o t a.edition a.from a.asked c.behind_asked.ensures c.judged-given.ensures;
+      part = c.part_of-in-Translation.ensures.0 ∙ part o t a.edition a.from a.asked c.behind_asked.ensures c.judged-given.ensures Translation told;
       place = rw told c.part_of-in-Translation.ensures.1;
     }

@@ -15,19 +15,19 @@ returns-in_default c =
 pub returns-then-cards-c : goal.returns-then-cards-c
 returns-then-cards-c c =
     let a = c.args in
-    let whole = is_formed V1 a.command.now (sym c.in-Formed.is ∙ c.parse.ensures) in let all = exits (serves_no_card a.cards a.room a.kept.now a.used a.command.now a.reply.now whole.0
+    let whole = is_formed V1 a.command.now (sym c.in-Some.is ∙ c.parse.ensures) in let all = exits (serves_no_card a.cards a.room a.kept.now a.used a.command.now a.reply.now whole.0
     (rw (← whole.1) (le-ltb _ _ c.if-cards-c.true))) c.refusal-then-cards-c.ensures refl refl refl in record { answer = all.0; used = all.1.0; kept = all.1.1.0; reply = all.1.1.1 }
 
 pub carry-requires : goal.carry-requires
 carry-requires c =
     let a = c.args in
-    let whole = is_formed V1 a.command.now (sym c.in-Formed.is ∙ c.parse.ensures) in
+    let whole = is_formed V1 a.command.now (sym c.in-Some.is ∙ c.parse.ensures) in
     (search rules, whole.0, whole.1)
 
 pub returns : goal.returns
 returns c =
     let a = c.args in
-    let whole = is_formed V1 a.command.now (sym c.in-Formed.is ∙ c.parse.ensures) in
+    let whole = is_formed V1 a.command.now (sym c.in-Some.is ∙ c.parse.ensures) in
     let done = c.carry.ensures in
     let all = exits (serves_found a.cards a.room a.kept.now a.used a.command.now a.reply.now whole.0
     (rw (← whole.1) (lt-ltb _ _ c.if-cards-c.false)) _ whole.1) done.answer done.used done.kept

@@ -1,7 +1,6 @@
 // What kept bytes say: how much they hold, the entry of a card, and its texts.
-ghost use Rattle.std.specs.Prelude.{◌≡◌, cond, reverse, ◌+◌, ◌-◌, ◌≤◌, ◌<◌, eqb, length};
+ghost use Rattle.std.specs.Prelude.{◌≡◌, cond, reverse, ◌≤◌, ◌<◌, eqb, length};
 ghost use Rattle.formats.specs.Format.{V1};
-ghost use Rattle.lists.specs.Parts.{part};
 ghost use Rattle.guard.specs.Judge.{raise, last_edition};
 ghost use Rattle.stream.specs.Stream.{commands};
 ghost use Rattle.history.specs.WorkedOut.{entry_from};
@@ -9,9 +8,9 @@ ghost use Rattle.history.specs.Lent.{history_size};
 ghost use Rattle.history.specs.inner.Steps.{written_by, Measured};
 
 use commands::Command;
-use formats::FIXED_V1 as FIXED;
+use formats::{FIXED_V1 as FIXED, Version};
 use guard::Entry;
-use stream::Next;
+use stream::Reader;
 
 // Of some bytes: how many commands they hold, how many payload bytes these have in all, and the byte where they end.
 #[derive(Clone, Copy)]
@@ -21,31 +20,20 @@ pub struct Totals {
     pub end: usize,
 }
 
-// A part of some bytes.
-#[derive(Clone, Copy)]
-pub struct Span {
-    pub start: usize,
-    pub end: usize,
-}
-
 // How much some bytes keep.
 pub fn totals_of(kept: &[u8]) -> Totals
     ensures { Measured kept.now result.end result.count result.payloads }
 {
-    let mut at = 0;
     let mut count = 0;
     let mut payloads = 0;
-    loop {
-        let Next::Whole(end) = stream::next_at(formats::V1, kept, at) else {
-            break Totals {
-                count,
-                payloads,
-                end: at,
-            };
-        };
+    for command in Reader::new(Version::V1, kept) {
         count += 1;
-        payloads += end - at - FIXED;
-        at = end;
+        payloads += command.len() - FIXED;
+    }
+    Totals {
+        count,
+        payloads,
+        end: count * FIXED + payloads,
     }
 }
 
@@ -65,45 +53,23 @@ pub fn entry_of(kept: &[u8], card: u16) -> Entry
     requires { length kept.now ≤ history_size }
     ensures { result ≡ entry_from (reverse (commands V1 kept.now)) card }
 {
-    let mut at = 0;
     let mut e = guard::NO_ENTRY;
-    loop {
-        let Next::Whole(end) = stream::next_at(formats::V1, kept, at) else {
-            break e;
-        };
-        let c = commands::inner::fields(formats::V1, &kept[at..end]);
-        e = taken(e, c, card);
-        at = end;
+    for command in Reader::new(Version::V1, kept) {
+        e = taken(e, commands::inner::fields(Version::V1, command), card);
     }
+    e
 }
 
-// The first where the test holds, else the second.
-fn chosen(test: bool, first: Span, second: Span) -> Span
-    ensures { result ≡ cond test first second }
+// The text that the last command with this act for this card wrote; empty where there is none.
+pub fn text_of(kept: &[u8], card: u16, act: u8) -> &[u8]
+    ensures { result.now ≡ written_by act (reverse (commands V1 kept.now)) card }
 {
-    if test {
-        return first;
+    let mut text = &kept[..0];
+    for command in Reader::new(Version::V1, kept) {
+        let c = commands::inner::fields(Version::V1, command);
+        if (c.card == card) & (c.act == act) {
+            text = &command[FIXED..];
+        }
     }
-    second
-}
-
-// Where the text stands that the last command with this act for this card wrote; an empty part where there is none.
-pub fn text_of(kept: &[u8], card: u16, act: u8) -> Span
-    ensures { (result.start ≤ result.end) × (result.end ≤ length kept.now)
-        × (part result.start (result.end - result.start) kept.now ≡ written_by act (reverse (commands V1 kept.now)) card) }
-{
-    let mut at = 0;
-    let mut found = Span { start: 0, end: 0 };
-    loop {
-        let Next::Whole(end) = stream::next_at(formats::V1, kept, at) else {
-            break found;
-        };
-        let c = commands::inner::fields(formats::V1, &kept[at..end]);
-        let here = Span {
-            start: at + FIXED,
-            end,
-        };
-        found = chosen((c.card == card) & (c.act == act), here, found);
-        at = end;
-    }
+    text
 }

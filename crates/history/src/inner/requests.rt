@@ -1,12 +1,12 @@
 // One well-formed command for an existing card.
-ghost use Rattle.std.specs.Prelude.{◌≡◌, true, ◌||◌, reverse, ◌+◌, ◌≤◌, min, ltb, length};
+ghost use Rattle.std.specs.Prelude.{◌≡◌, true, ◌||◌, reverse, ◌+◌, ◌≤◌, ltb, length};
 ghost use Rattle.formats.specs.Format.{V1, fixed};
 ghost use Rattle.lists.specs.Parts.{splice};
 ghost use Rattle.stream.specs.Stream.{commands, end_of};
 ghost use Rattle.history.specs.Engine.{most_kept, most_payload, read_from};
 ghost use Rattle.commands.specs.Bytes.{fields_of, formed};
 ghost use Rattle.history.specs.Lent.{history_size};
-ghost use Rattle.history.specs.inner.Steps.{written_by, weighed, history_carried};
+ghost use Rattle.history.specs.inner.Steps.{weighed, history_carried};
 
 use crate::inner::kept::{Totals, entry_of, text_of, totals_of};
 use crate::{HistoryAnswer, MOST_KEPT, MOST_PAYLOAD, SIZE};
@@ -56,39 +56,18 @@ pub fn weigh(kept: &[u8], c: Command, room: u16, lent: usize) -> Weighed
     Weighed { judged, end }
 }
 
-// Copies the text that the last command with this act wrote into the first bytes of the reply buffer.
-fn show_by(kept: &[u8], card: u16, act: u8, reply: &mut [u8])
-    requires { length (written_by act (reverse (commands V1 kept.now)) card) ≤ length reply.old }
-    ensures { reply.new ≡ splice 0 (written_by act (reverse (commands V1 kept.now)) card) reply.old }
-{
-    let p = text_of(kept, card, act);
-    let start = p.start;
-    let end = p.end;
-    slices::inner::put(reply, 0, &kept[start..end]);
-}
-
 // Copies the text that an accepted command reads, if any, into the first bytes of the reply buffer.
 pub fn show(kept: &[u8], c: Command, reply: &mut [u8])
     requires { length (read_from (reverse (commands V1 kept.now)) c) ≤ length reply.old }
     ensures { reply.new ≡ splice 0 (read_from (reverse (commands V1 kept.now)) c) reply.old }
 {
     if c.reads_original() {
-        show_by(kept, c.card, WRITE_ORIGINAL, reply);
+        slices::inner::put(reply, 0, text_of(kept, c.card, WRITE_ORIGINAL));
         return;
     }
     if c.reads_translation() {
-        show_by(kept, c.card, WRITE_TRANSLATION, reply);
+        slices::inner::put(reply, 0, text_of(kept, c.card, WRITE_TRANSLATION));
     }
-}
-
-// How many of the lent bytes count.
-fn standing(used: usize) -> usize
-    ensures { result ≡ min used history_size }
-{
-    if used <= SIZE {
-        return used;
-    }
-    SIZE
 }
 
 // A command for a card that exists: it is weighed, and an accepted one is kept.
@@ -106,7 +85,7 @@ pub fn carry(
     ensures kept { kept.new ≡ (history_carried room kept.old used c command.now reply.old).bytes }
     ensures reply { reply.new ≡ (history_carried room kept.old used c command.now reply.old).reply }
 {
-    let count = standing(used);
+    let count = used.min(SIZE);
     let w = weigh(&kept[..count], c, room, reply.len());
     let judged = w.judged;
     let end = w.end;

@@ -17,14 +17,14 @@ pub returns-then-not-header_sound : goal.returns-then-not-header_sound
 returns-then-not-header_sound c = sym (header_fails (format_of c.args.v) c.args.image.now (sym c.header_sound.ensures ∙ c.if-not-header_sound.true))
 
 pub loop-k-init : goal.loop-k-init
-loop-k-init c = (omega arith, every_none (card_sound (format_of c.args.v) c.args.image.now))
+loop-k-init c = every_none (card_sound (format_of c.args.v) c.args.image.now)
 
 pub card_sound-requires : goal.card_sound-requires
 card_sound-requires c = (
   header_size_lem (format_of c.args.v) c.args.image.now
       (sym c.header_sound.ensures ∙ c.if-not-header_sound.false),
   omega
-      (arith, c.count-n.ensures),
+      (arith, c.count-k-end.ensures),
 )
 
 pub returns-then-not-card_sound : goal.returns-then-not-card_sound
@@ -32,18 +32,16 @@ returns-then-not-card_sound c =
     sym
     (card_fails (format_of c.args.v) c.args.image.now c.loop-k.k
     (sym c.header_sound.ensures ∙ c.if-not-header_sound.false)
-    (omega (arith, c.count-n.ensures))
+    (omega (arith, c.count-k-end.ensures))
     (sym c.card_sound.ensures ∙ c.if-not-card_sound.true))
 
 pub loop-k-preserved : goal.loop-k-preserved
-loop-k-preserved c = (
-  omega arith,
-  every_more (card_sound (format_of c.args.v) c.args.image.now) c.loop-k.k c.loop-k.invariant.1 (sym c.card_sound.ensures ∙ c.if-not-card_sound.false),
-)
+loop-k-preserved c =
+    every_more (card_sound (format_of c.args.v) c.args.image.now) c.loop-k.k c.loop-k.invariant (sym c.card_sound.ensures ∙ c.if-not-card_sound.false)
 
 pub returns : goal.returns
 returns c =
-    let last : c.loop-k.k ≡ count_of c.args.image.now = omega (arith, c.count-n.ensures) in
+    let last : c.loop-k.k ≡ count_of c.args.image.now = omega (arith, c.count-k-end.ensures) in
     sym (all_hold (format_of c.args.v) c.args.image.now
     (sym c.header_sound.ensures ∙ c.if-not-header_sound.false)
-    (rw last at c.loop-k.invariant.1))
+    (rw last at c.loop-k.invariant))

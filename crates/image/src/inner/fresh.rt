@@ -14,7 +14,7 @@ fn write_header(v: Version, image: &mut [u8], n: u16, c: u16)
     requires { 16 ≤ length image.old }
     ensures { image.new ≡ splice 0 (header_numbers (format_of v) n c) image.old }
 {
-    let version = formats::inner::version(v);
+    let version = v.layout().version;
     le::write_u32(image, 0, MAGIC);
     le::write_u16(image, VERSION_AT, version);
     le::write_u16(image, CARDS_AT, n);

@@ -25,35 +25,36 @@ pub const MAGIC: u32 = 0x0031_4352;
 pub fn sides(v: Version) -> usize
     ensures { result ≡ sides (format_of v) }
 {
-    let count = formats::inner::translations(v);
+    let count = v.layout().translations;
     1 + (count as usize)
 }
 
+// Kept: two, each named for its field, as the definitions `froms_at` and `lengths_at` are; one would take the field as a parameter at each call.
 // Where an entry has the edition that translation t was made from, and that translation's length.
 pub fn from_place(v: Version, t: u8) -> usize
     ensures { result ≡ froms_at (format_of v) + 2 * t }
 {
-    formats::inner::froms_at(v) + 2 * (t as usize)
+    v.layout().froms_at + 2 * (t as usize)
 }
 
 pub fn length_place(v: Version, t: u8) -> usize
     ensures { result ≡ lengths_at (format_of v) + 2 * t }
 {
-    formats::inner::lengths_at(v) + 2 * (t as usize)
+    v.layout().lengths_at + 2 * (t as usize)
 }
 
 // Where the numbers of an entry end in it.
 pub fn entry_end(v: Version) -> usize
     ensures { result ≡ entry_end (format_of v) }
 {
-    length_place(v, formats::inner::translations(v))
+    length_place(v, v.layout().translations)
 }
 
 // The length of an image of n cards with room c.
 pub fn size_of(v: Version, n: u16, c: u16) -> usize
     ensures { result ≡ size_of (format_of v) n c }
 {
-    let entry = formats::inner::entry_size(v);
+    let entry = v.layout().entry_size;
     let sides = sides(v);
     HEADER + entry * (n as usize) + sides * (c as usize) * (n as usize)
 }
@@ -78,7 +79,7 @@ pub fn shape_ok(v: Version, n: usize, c: usize) -> bool
 pub fn entry_place(v: Version, k: u16) -> usize
     ensures { result ≡ entry_place (format_of v) k }
 {
-    let entry = formats::inner::entry_size(v);
+    let entry = v.layout().entry_size;
     HEADER + entry * (k as usize)
 }
 
@@ -86,7 +87,7 @@ pub fn entry_place(v: Version, k: u16) -> usize
 pub fn body_place(v: Version, n: u16, c: u16, k: u16, side: u8) -> usize
     ensures { result ≡ body_place (format_of v) n c k side }
 {
-    let entry = formats::inner::entry_size(v);
+    let entry = v.layout().entry_size;
     let sides = sides(v);
     HEADER + entry * (n as usize) + (sides * (k as usize) + (side as usize)) * (c as usize)
 }

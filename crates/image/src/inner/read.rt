@@ -12,6 +12,7 @@ use guard::Entry;
 use slices::inner::fixed_width as le;
 use stamps::{Mark, Pair};
 
+// Kept: two, each named for its number of the header; one would take the place as a parameter, and give a number without a name.
 // N as the header says.
 pub fn count(image: &[u8]) -> u16
     requires { 16 ≤ length image.now }
@@ -45,7 +46,7 @@ fn entry_of(v: Version, bytes: &[u8], t: u8) -> Entry
         },
         edition: le::read_u16(bytes, 24),
         from: le::read_u16(bytes, layout::from_place(v, t)),
-        original: le::read_u16(bytes, formats::inner::original_at(v)),
+        original: le::read_u16(bytes, v.layout().original_at),
         translation: le::read_u16(bytes, layout::length_place(v, t)),
     }
 }
@@ -56,11 +57,12 @@ pub fn entry_at(v: Version, image: &[u8], k: u16, t: u8) -> Entry
     ensures { result ≡ entry_at (format_of v) image.now k t }
 {
     let at = layout::entry_place(v, k);
-    let end = at + formats::inner::entry_size(v);
+    let end = at + v.layout().entry_size;
     entry_of(v, &image[at..end], t)
 }
 
 // The edition that translation t of card k was made from, and that translation's length, each read by itself.
+// Kept: two, each named for its field. One for any place in an entry would leave to its callers which field stands there, and say a number of bytes alone.
 pub fn from_at(v: Version, image: &[u8], k: u16, t: u8) -> u16
     requires { (entry_place (format_of v) k + entry_size (format_of v) ≤ length image.now) × (t < translations (format_of v)) }
     ensures { result ≡ (entry_at (format_of v) image.now k t).from }

@@ -60,7 +60,7 @@ pub fn header_sound(v: Version, image: &[u8]) -> bool
     let n = read::count(image);
     let c = read::room(image);
     (le::read_u32(image, 0) == MAGIC)
-        & (le::read_u16(image, VERSION_AT) == formats::inner::version(v))
+        & (le::read_u16(image, VERSION_AT) == v.layout().version)
         & layout::shape_ok(v, n as usize, c as usize)
         & slices::all_zero(&image[ZEROS_AT..HEADER])
         & (image.len() == layout::size_of(v, n, c))
@@ -89,7 +89,7 @@ fn mark_sound(v: Version, image: &[u8], k: u16) -> bool
         && eqb (field (entry_place (format_of v) k + 18) 2 image.now) 0 }
 {
     let at = layout::entry_place(v, k);
-    let end = at + formats::inner::entry_size(v);
+    let end = at + v.layout().entry_size;
     mark_in(&image[at..end])
 }
 
@@ -100,7 +100,7 @@ fn blank_zero(v: Version, image: &[u8], k: u16) -> bool
 {
     let at = layout::entry_place(v, k);
     let start = at + layout::entry_end(v);
-    let end = at + formats::inner::entry_size(v);
+    let end = at + v.layout().entry_size;
     slices::all_zero(&image[start..end])
 }
 
@@ -126,13 +126,10 @@ fn translations_sound(v: Version, image: &[u8], k: u16, edition: u16) -> bool
         × (edition ≡ (entry_at (format_of v) image.now k 0).edition) × T (card_tests (room_of image.now) (entry_at (format_of v) image.now k 0)) }
     ensures { result ≡ every (translation_sound (format_of v) image.now k) (translations (format_of v)) }
 {
-    let count = formats::inner::translations(v);
-    let mut t: u8 = 0;
-    while t < count {
+    for t in 0..v.layout().translations {
         if !translation_sound(v, image, k, t, edition) {
             return false;
         }
-        t += 1;
     }
     true
 }

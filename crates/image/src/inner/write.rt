@@ -48,7 +48,7 @@ pub fn store_original(v: Version, image: &mut [u8], k: u16, e: Entry)
     ensures { image.new ≡ original_with (format_of v) e (entry_place (format_of v) k) image.old }
 {
     let at = layout::entry_place(v, k);
-    let original = formats::inner::original_at(v);
+    let original = v.layout().original_at;
     le::write_u16(image, at + 24, e.edition);
     le::write_u16(image, at + original, e.original);
 }

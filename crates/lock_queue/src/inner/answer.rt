@@ -1,18 +1,17 @@
-ghost use Rattle.std.specs.Prelude.{◌≡◌, false, ◌≤◌};
-ghost use Rattle.lock_queue.specs.Queue.{state, most_places};
-ghost use Rattle.lock_queue.specs.Requests.{answered, blank_answer};
+ghost use Rattle.std.specs.Prelude.{◌≡◌};
+ghost use Rattle.lock_queue.specs.Queue.{state};
+ghost use Rattle.lock_queue.specs.Requests.{answered};
 
 use crate::inner::state::{holds, looked};
 use crate::{LockAnswer, Queue};
-use numbers::BAD_QUEUE;
+use numbers::{BAD_QUEUE, MALFORMED};
 use stamps::NO_PAIR;
 
 // The answer with this number, for the queue at entry and the queue as it now is.
-pub fn answered(number: u8, desk: u32, entry: Queue, exit: Queue) -> LockAnswer
-    requires { blank_answer number ≡ false → (entry.count ≤ most_places) × (exit.count ≤ most_places) }
-    ensures { result ≡ answered number desk (state entry) (state exit) }
+pub fn answered(number: u8, desk: u32, entry: &Queue, exit: &Queue) -> LockAnswer
+    ensures { result ≡ answered number desk (state entry.now) (state exit.now) }
 {
-    if (number == BAD_QUEUE) | (number == numbers::MALFORMED) {
+    if (number == BAD_QUEUE) | (number == MALFORMED) {
         return LockAnswer {
             number,
             holds: false,
@@ -20,13 +19,10 @@ pub fn answered(number: u8, desk: u32, entry: Queue, exit: Queue) -> LockAnswer
             looked: 0,
         };
     }
-    let before = entry.places;
-    let after = exit.places;
-    let largest = exit.largest;
     LockAnswer {
         number,
-        holds: holds(after, exit.count, desk),
-        largest,
-        looked: looked(before, entry.count, desk),
+        holds: holds(exit.standing(), desk),
+        largest: exit.largest,
+        looked: looked(entry.standing(), desk),
     }
 }

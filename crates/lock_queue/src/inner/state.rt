@@ -1,86 +1,59 @@
-ghost use Rattle.std.specs.Prelude.{◌≡◌, ◌≤◌, take};
+// What the standing entries of a queue say of a desk.
+ghost use Rattle.std.specs.Prelude.{◌≡◌};
 ghost use Rattle.lock_queue.specs.Requests.{upgrading};
-ghost use Rattle.lock_queue.specs.Queue.{most_places, desks, first_place, stands, looked, no_exclusive, holds};
+ghost use Rattle.lock_queue.specs.Queue.{desk, desks, place, stands, looked, no_exclusive, holds};
 
-use crate::Places;
+use crate::Waiting;
+use stamps::{EXCLUSIVE, SHARED};
 
-// The place, among the first `count`, where the desk first stands, or `count`.
-pub fn place(places: Places, count: usize, desk: u32) -> usize
-    requires { count ≤ most_places }
-    ensures { result ≡ first_place desk (desks (take count places.at)) }
+// The place where the desk first stands.
+pub fn place(standing: &[Waiting], desk: u32) -> Option<usize>
+    ensures { result ≡ place desk (desks standing.now) }
 {
-    let mut i = 0;
-    while i < count {
-        let w = places.at[i];
-        if stamps::desk_of(w.mode, w.pair) == desk {
-            return i;
-        }
-        i += 1;
-    }
-    i
+    standing.iter().position(|w| w.desk() == desk)
 }
 
-// Whether the desk stands among the first `count`.
-pub fn stands(places: Places, count: usize, desk: u32) -> bool
-    requires { count ≤ most_places }
-    ensures { result ≡ stands desk (desks (take count places.at)) }
+// Whether the desk stands.
+pub fn stands(standing: &[Waiting], desk: u32) -> bool
+    ensures { result ≡ stands desk (desks standing.now) }
 {
-    place(places, count, desk) < count
+    place(standing, desk).is_some()
 }
 
-// How many of the first `count` entries are looked at for the desk.
-pub fn looked(places: Places, count: usize, desk: u32) -> usize
-    requires { count ≤ most_places }
-    ensures { result ≡ looked desk (desks (take count places.at)) }
+// How many entries are looked at for the desk.
+pub fn looked(standing: &[Waiting], desk: u32) -> usize
+    ensures { result ≡ looked desk (desks standing.now) }
 {
-    let found = place(places, count, desk);
-    if found < count {
-        return found + 1;
+    match place(standing, desk) {
+        Some(i) => i + 1,
+        None => standing.len(),
     }
-    count
 }
 
-// Whether none of the first `count` entries is exclusive.
-pub fn no_exclusive(places: Places, count: usize) -> bool
-    requires { count ≤ most_places }
-    ensures { result ≡ no_exclusive (take count places.at) }
+// Whether none of the entries is exclusive.
+pub fn no_exclusive(entries: &[Waiting]) -> bool
+    ensures { result ≡ no_exclusive entries.now }
 {
-    let mut i = 0;
-    while i < count {
-        let w = places.at[i];
-        if w.mode == stamps::EXCLUSIVE {
-            return false;
-        }
-        i += 1;
-    }
-    true
+    entries.iter().all(|w| w.mode != EXCLUSIVE)
 }
 
-// Whether the desk holds the lock among the first `count`.
-pub fn holds(places: Places, count: usize, desk: u32) -> bool
-    requires { count ≤ most_places }
-    ensures { result ≡ holds desk (take count places.at) }
+// Whether the desk holds the lock.
+pub fn holds(standing: &[Waiting], desk: u32) -> bool
+    ensures { result ≡ holds desk standing.now }
 {
-    let found = place(places, count, desk);
-    if count <= found {
-        return false;
+    match place(standing, desk) {
+        None => false,
+        Some(i) if standing[i].mode == EXCLUSIVE => i == 0,
+        Some(i) => no_exclusive(&standing[..i]),
     }
-    let w = places.at[found];
-    if w.mode == stamps::EXCLUSIVE {
-        return found == 0;
-    }
-    no_exclusive(places, found)
 }
 
-// Whether this is an upgrade: the desk stands shared, and the mode is exclusive.
-pub fn upgrading(mode: u8, places: Places, count: usize, desk: u32) -> bool
-    requires { count ≤ most_places }
-    ensures { result ≡ upgrading mode desk (take count places.at) }
+// Whether the ask is an upgrade: its desk stands shared, and its mode is exclusive.
+pub fn upgrading(new: Waiting, standing: &[Waiting]) -> bool
+    ensures { result ≡ upgrading new.mode (desk new) standing.now }
 {
-    let found = place(places, count, desk);
-    if count <= found {
-        return false;
+    match place(standing, new.desk()) {
+        None => false,
+        Some(i) => (new.mode == EXCLUSIVE) & (standing[i].mode == SHARED),
     }
-    let w = places.at[found];
-    (mode == stamps::EXCLUSIVE) & (w.mode == stamps::SHARED)
 }

@@ -5,14 +5,5 @@ use Rattle.lock_queue_lent.proofs.lapse.Goals as goal
 
 pub returns : goal.returns
 returns c =
-    settled_lent
-    c.args.places.now
-    c.load-by_value.result.at
-    c.store.new.places
-    c.args.kept
-    (lapses c.args.expiry)
-    c.lapsed-outcome.result
-    c.store.result
-    c.load-by_value.ensures
-    c.lapsed-outcome.ensures
-    c.store.ensures
+    settled_lent c.args.places.now c.store.new.places c.args.kept (lapses c.args.expiry) c.lapse-outcome.result c.store.result
+    c.load.ensures c.lapse-outcome.ensures c.store.ensures

@@ -5,14 +5,5 @@ use Rattle.lock_queue_lent.proofs.leave.Goals as goal
 
 pub returns : goal.returns
 returns c =
-    settled_lent
-    c.args.places.now
-    c.load-by_value.result.at
-    c.store.new.places
-    c.args.kept
-    (leaves c.args.desk)
-    c.left-outcome.result
-    c.store.result
-    c.load-by_value.ensures
-    c.left-outcome.ensures
-    c.store.ensures
+    settled_lent c.args.places.now c.store.new.places c.args.kept (leaves c.args.desk) c.leave-outcome.result c.store.result
+    c.load.ensures c.leave-outcome.ensures c.store.ensures

@@ -1,4 +1,5 @@
 // The lock queue of one card as arrays of numbers: loaded, and an outcome stored back.
+// Kept: arrays of one length side by side, as the C functions lend them (lupaniele_ask, lupaniele_leave, lupaniele_lapse).
 ghost use Rattle.std.specs.Prelude.{◌≡◌};
 ghost use Rattle.lock_queue.specs.Queue.{state};
 ghost use Rattle.lock_queue_lent.specs.Arrays.{places_of, modes_of, shared_of, exclusive_of, queue_of, kept_of, answer_of, arrays_of};
@@ -13,42 +14,13 @@ pub fn places_of(modes: &[u8; 32], s: &[u64; 32], x: &[u64; 32]) -> Places
     let mut places = Places {
         at: [NO_WAITING; 32],
     };
-    let mut i = 0;
-    while i < 32 {
+    for i in 0..32 {
         places.at[i] = Waiting {
             mode: modes[i],
             pair: Pair { s: s[i], x: x[i] },
         };
-        i += 1;
     }
     places
-}
-
-// The places as three arrays.
-#[derive(Clone, Copy)]
-pub struct Columns {
-    pub modes: [u8; 32],
-    pub s: [u64; 32],
-    pub x: [u64; 32],
-}
-
-pub fn columns_of(places: Places) -> Columns
-    ensures { (result.modes ≡ modes_of places.at) × (result.s ≡ shared_of places.at) × (result.x ≡ exclusive_of places.at) }
-{
-    let mut c = Columns {
-        modes: [0; 32],
-        s: [0; 32],
-        x: [0; 32],
-    };
-    let mut i = 0;
-    while i < 32 {
-        let w = places.at[i];
-        c.modes[i] = w.mode;
-        c.s[i] = w.pair.s;
-        c.x[i] = w.pair.x;
-        i += 1;
-    }
-    c
 }
 
 // The queue that the arrays hold.
@@ -79,13 +51,12 @@ pub fn store(
     ensures kept { kept.new ≡ kept_of (state queue) }
 {
     let places = queue.places;
-    let c = columns_of(places);
-    let new_modes = c.modes;
-    *modes = new_modes;
-    let new_s = c.s;
-    *s = new_s;
-    let new_x = c.x;
-    *x = new_x;
+    for i in 0..32 {
+        let w = places.at[i];
+        modes[i] = w.mode;
+        s[i] = w.pair.s;
+        x[i] = w.pair.x;
+    }
     let largest = queue.largest;
     *kept = [queue.count as u64, largest.s, largest.x];
 }
@@ -98,6 +69,7 @@ pub fn write_answer(answer: &mut [u64; 4], a: LockAnswer)
     *answer = [a.holds as u64, largest.s, largest.x, a.looked as u64];
 }
 
+// Kept: the number is that of the answer, as C reads it (`arrays_of`).
 // Writes an outcome: the queue to the arrays, and the answer's fields as numbers. It gives the answer's number.
 pub fn write_outcome(
     modes: &mut [u8; 32],

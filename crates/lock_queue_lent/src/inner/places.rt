@@ -1,74 +1,42 @@
-ghost use Rattle.std.specs.Prelude.{◌≡◌, ◌&&◌, ◌<◌, ltb, replicate, get_or};
-ghost use Rattle.lock_queue.specs.Queue.{most_places, no_waiting};
-ghost use Rattle.lock_queue_lent.specs.Slice.{written, loaded, reply_of};
+// Between lent places and a queue by value.
+ghost use Rattle.std.specs.Prelude.{◌≡◌, length};
+ghost use Rattle.lock_queue.specs.Queue.{state, most_places};
+ghost use Rattle.lock_queue_lent.specs.Slice.{lent_state, written, loaded, reply_of};
 
 use crate::{Kept, LentOutcome};
-use lock_queue::inner::effects::put;
-use lock_queue::{LockOutcome, MOST_PLACES, NO_WAITING, Places, Waiting};
+use lock_queue::{LockOutcome, MOST_PLACES, NO_WAITING, Places, Queue, Waiting};
 
-// Whether place i is lent, and one of the 32.
-pub fn within(i: usize, lent: usize) -> bool
-    ensures { result ≡ ltb i lent && ltb i most_places }
+// Writes entries over others, as far as both go.
+fn write_over(onto: &mut [Waiting], from: &[Waiting])
+    ensures { onto.new ≡ written (length onto.old) from.now onto.old }
 {
-    (i < lent) & (i < MOST_PLACES)
+    let n = onto.len().min(from.len());
+    onto[..n].copy_from_slice(&from[..n]);
 }
 
-// Places that hold nothing.
-fn empty() -> Places
-    ensures { result.at ≡ replicate most_places no_waiting }
+// The queue by value: of the lent places as many as there is room for.
+pub fn load(places: &[Waiting], kept: Kept) -> Queue
+    ensures { state result ≡ lent_state (loaded places.now) kept }
 {
-    Places {
-        at: [NO_WAITING; 32],
+    let mut at = [NO_WAITING; MOST_PLACES];
+    write_over(&mut at, places);
+    Queue {
+        places: Places { at },
+        count: kept.count,
+        largest: kept.largest,
     }
 }
 
-// The lent places by value, as many as there is room for.
-pub fn load(places: &[Waiting]) -> Places
-    ensures { result.at ≡ loaded places.now }
-{
-    let mut by_value = empty();
-    let mut i = 0;
-    while within(i, places.len()) {
-        by_value = put(by_value, i, places[i]);
-        i += 1;
-    }
-    by_value
-}
-
-// The entry at place i of the queue as it now is.
-fn entry(outcome: LockOutcome, i: usize) -> Waiting
-    requires { i < most_places }
-    ensures { result ≡ get_or outcome.queue.places.at i no_waiting }
-{
-    let queue = outcome.queue;
-    let places = queue.places;
-    places.at[i]
-}
-
-// The answer, and what the queue now keeps.
-fn replied(outcome: LockOutcome) -> LentOutcome
-    ensures { result ≡ reply_of outcome }
-{
-    let queue = outcome.queue;
-    let answer = outcome.answer;
-    let largest = queue.largest;
-    LentOutcome {
-        answer,
-        kept: Kept {
-            count: queue.count,
-            largest,
-        },
-    }
-}
-
-// The places of the queue as it now is, written over the lent ones.
+// The places of the queue as it now is, written over the lent ones; the answer, and what the queue now keeps.
 pub fn store(places: &mut [Waiting], outcome: LockOutcome) -> LentOutcome
     ensures { (places.new ≡ written most_places outcome.queue.places.at places.old) × (result ≡ reply_of outcome) }
 {
-    let mut i = 0;
-    while within(i, places.len()) {
-        places[i] = entry(outcome, i);
-        i += 1;
+    write_over(places, &outcome.queue.places.at);
+    LentOutcome {
+        answer: outcome.answer,
+        kept: Kept {
+            count: outcome.queue.count,
+            largest: outcome.queue.largest,
+        },
     }
-    replied(outcome)
 }

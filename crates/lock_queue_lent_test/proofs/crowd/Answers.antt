@@ -40,10 +40,10 @@ ended i all l m e = e ∙ ap (λ (j : ℕ). written j guests base) (full i l m) 
     full i l m = omega arith
 
 pub loop-i-init : goal.loop-i-init
-loop-i-init c = (omega arith, ap (replicate most_places) c.guest-all.ensures ∙ sym (written_none guests base))
+loop-i-init c = ap (replicate most_places) c.guest-all.ensures ∙ sym (written_none guests base)
 
 pub loop-i-preserved : goal.loop-i-preserved
-loop-i-preserved c = (omega arith, stepped _ _ _ (omega arith) c.loop-i.invariant.1 c.guest.ensures)
+loop-i-preserved c = stepped _ _ _ (omega arith) c.loop-i.invariant c.guest.ensures
 
 pub returns : goal.returns
-returns c = ended _ _ c.loop-i.invariant.0 (omega arith) c.loop-i.invariant.1
+returns c = ended _ _ (omega arith) (omega arith) c.loop-i.invariant

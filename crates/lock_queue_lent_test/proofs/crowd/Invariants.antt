@@ -2,13 +2,9 @@
 use mathlib.Core.Path.{◌≡◌}
 use lib.ListN.{replicate}
 use Rattle.lock_queue_claims.specs.Trials.{guest, crowded}
-use Prim.Native.Nat.{◌-◌, ◌≤◌}
 use Rattle.lock_queue.specs.Queue.{most_places}
 use Rattle.lock_queue_lent.specs.Slice.{written}
 use Rattle.lock_queue_lent_test.proofs.crowd.Given as goal
 
 abbrev pub invariant-loop-i : goal.invariant-loop-i
-invariant-loop-i l = (l.i ≤ most_places) × (l.all ≡ written l.i crowded.places (replicate most_places (guest 1)))
-
-abbrev pub decreases-loop-i : goal.decreases-loop-i
-decreases-loop-i l = most_places - l.i
+invariant-loop-i l = l.all ≡ written l.i crowded.places (replicate most_places (guest 1))

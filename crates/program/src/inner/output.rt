@@ -36,11 +36,9 @@ pub fn write(input: &[u8], out: &mut [u8]) -> usize
     if MOST_INPUT < input.len() {
         return put_text(out, 0, b"too long\n");
     }
-    let front = image::front(input);
-    let size = front.size;
-    if size == 0 {
+    let Some(front) = image::front(input) else {
         return put_text(out, 0, b"bad store\n");
-    }
+    };
     let lines = lines::put_first(out, 0, front.cards as u64);
-    answers(input, size, front.room as usize, out, lines)
+    answers(input, front.size, front.room as usize, out, lines)
 }

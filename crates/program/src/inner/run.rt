@@ -6,6 +6,7 @@ ghost use Rattle.program.specs.inner.Put.{Put};
 ghost use Rattle.program.specs.Program.{printed, most_printed};
 
 use crate::inner::lines;
+use formats::Version;
 use store::inner::run::{PER_LINE, many};
 
 // Runs the stream on a sound image with room for one line at a time, and writes each line and the last one into `out` from `at` on. Hands back the place
@@ -24,8 +25,9 @@ pub fn put_printed(
     let mut from = 0;
     let mut place = 1;
     let mut to = at;
+    // Kept: (d) a run finds each command itself; with a reader in front of it each would be looked for twice.
     let cut = loop {
-        let ran = many(formats::V1, image, &stream[from..], reply, true, &mut line);
+        let ran = many(Version::V1, image, &stream[from..], reply, true, &mut line);
         if ran.count == 0 {
             break from;
         }

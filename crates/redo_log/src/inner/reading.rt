@@ -1,11 +1,13 @@
-ghost use Rattle.std.specs.Prelude.{◌≡◌, true, false, ◌+◌, ◌≤◌, ◌<◌, length, get_or};
-ghost use Rattle.redo_log.specs.Log.{shaped, joins, checksum, start_at, record_at, last_begun, opened, record_ok};
-ghost use Rattle.redo_log.specs.inner.Scanned.{scanned};
+// Reading a log record by record, before it is known to be good.
+ghost use Rattle.std.specs.Prelude.{◌≡◌, true, false, cond, ◌+◌, ◌≤◌, ◌<◌, length, eqb, MatchOption};
+ghost use Rattle.lists.specs.Le.{field};
+ghost use Rattle.redo_log.specs.Log.{shaped, joins, checksum, start_at, record_at, record_ok, last_begun, opened, begin_kind, bodies_from, most_log, most_records};
+ghost use Rattle.lists.specs.Parts.{every};
 
 use crate::inner::records::{LENGTH, LINE, PLACE, SUM, TABLE};
-use crate::{BODIES, MOST_LOG, MOST_RECORDS};
 use slices::inner::fixed_width as le;
 
+// Kept: kinds are bytes of a log, and `redo_log::append` takes any number for one: its clauses speak of `record { kind = kind; body = body.now }` (rule 11.4).
 pub const BEGIN: u8 = 1;
 
 pub const UPDATE: u8 = 2;
@@ -14,156 +16,100 @@ pub const COMMIT: u8 = 3;
 
 pub const SYNCED: u8 = 4;
 
-// What a scan of a log finds.
-#[derive(Clone, Copy)]
-pub struct Scan {
-    pub good: bool,
-    pub stop: usize,
-    pub last: u32,
-    pub running: bool,
-}
-
 // The sum of a body's bytes.
 pub fn sum_of(body: &[u8]) -> u32
     requires { length body.now ≤ 65536 }
     ensures { result ≡ checksum body.now }
 {
-    let mut sum: u32 = 0;
-    let mut i = 0;
-    while i < body.len() {
-        sum += body[i] as u32;
-        i += 1;
-    }
-    sum
-}
-
-// The side of an update's body; 0 where the body is shorter.
-fn side(body: &[u8]) -> u8
-    ensures { result ≡ get_or body.now 2 0 }
-{
-    if body.len() < 3 {
-        return 0;
-    }
-    body[2]
+    body.iter().map(|b| *b as u32).sum()
 }
 
 // Whether a body is laid out as its kind says.
+#[tactic(auto, unfolding(crate::specs::Log::shaped))]
 fn is_shaped(kind: u8, body: &[u8]) -> bool
     ensures { result ≡ shaped (record { kind = kind; body = body.now }) }
 {
     let n = body.len();
-    let s = side(body);
-    (n < 65536)
-        & (((kind == BEGIN) | (kind == COMMIT)) & (n == 4)
-            | (kind == UPDATE) & (3 <= n) & ((s == 1) | (s == 2))
-            | (kind == SYNCED) & (n == 6))
+    match kind {
+        BEGIN | COMMIT => n == 4,
+        UPDATE => n < 65536 && matches!(body.get(2), Some(1 | 2)),
+        SYNCED => n == 6,
+        _ => false,
+    }
 }
 
 // Whether a record may follow.
+#[tactic(auto, unfolding(crate::specs::Log::follows))]
 pub fn may_join(kind: u8, body: &[u8], last: u32, running: bool) -> bool
     ensures { result ≡ joins last running (record { kind = kind; body = body.now }) }
 {
     if !is_shaped(kind, body) {
         return false;
     }
-    if kind == UPDATE {
-        return running;
+    match kind {
+        UPDATE => running,
+        SYNCED => true,
+        BEGIN => last < le::read_u32(body, 0),
+        _ => running && le::read_u32(body, 0) == last,
     }
-    if kind == SYNCED {
-        return true;
-    }
-    let t = le::read_u32(body, 0);
-    if kind == BEGIN {
-        return last < t;
-    }
-    running & (t == last)
 }
 
-// Whether record i keeps the rules.
-fn record_ok(log: &[u8], i: usize, stop: usize, last: u32, running: bool) -> bool
-    requires { (i < 200) × (2201 ≤ length log.now) × (length log.now ≤ 65536) × (stop ≡ start_at log.now i)
-        × (stop ≤ length log.now) × (last ≡ last_begun (record_at log.now) i) × (running ≡ opened (record_at log.now) i) }
-    ensures { result ≡ record_ok log.now i }
+// The last transaction begun after a record, where `last` is the last begun before it.
+pub fn last_after(kind: u8, body: &[u8], last: u32) -> u32
+    requires { shaped (record { kind = kind; body = body.now }) ≡ true }
+    ensures { result ≡ cond (eqb kind begin_kind) (field 0 4 body.now) last }
 {
-    let at = TABLE + LINE * i;
-    let size = le::read_u16(log, at + LENGTH) as usize;
-    if log.len() - stop < size {
-        return false;
-    }
-    let end = stop + size;
-    (le::read_u32(log, at + PLACE) as usize == stop)
-        & (le::read_u32(log, at + SUM) == sum_of(&log[stop..end]))
-        & may_join(log[at], &log[stop..end], last, running)
-}
-
-// Where the body behind record i begins.
-fn stop_after(log: &[u8], i: usize, stop: usize) -> usize
-    requires { (i < 200) × (2201 ≤ length log.now) × (length log.now ≤ 65536) × (stop ≡ start_at log.now i) × (record_ok log.now i ≡ true) }
-    ensures { (result ≡ start_at log.now (i + 1)) × (result ≤ length log.now) }
-{
-    stop + (le::read_u16(log, TABLE + LINE * i + LENGTH) as usize)
-}
-
-// The last transaction begun after record i.
-pub fn last_after(log: &[u8], i: usize, stop: usize, last: u32) -> u32
-    requires { (i < 200) × (2201 ≤ length log.now) × (length log.now ≤ 65536) × (stop ≡ start_at log.now i) × (last ≡ last_begun (record_at log.now) i) × (record_ok log.now i ≡ true) }
-    ensures { result ≡ last_begun (record_at log.now) (i + 1) }
-{
-    if log[TABLE + LINE * i] != BEGIN {
+    if kind != BEGIN {
         return last;
     }
-    le::read_u32(log, stop)
+    le::read_u32(body, 0)
 }
 
-// Whether it is open.
-fn running_after(log: &[u8], i: usize, running: bool) -> bool
-    requires { (i < 200) × (2201 ≤ length log.now) × (running ≡ opened (record_at log.now) i) }
-    ensures { result ≡ opened (record_at log.now) (i + 1) }
-{
-    let kind = log[TABLE + LINE * i];
-    (kind == BEGIN) | running & !(kind == COMMIT)
+// The first `count` records of a log, each of which keeps the rules: where the next body begins, the last transaction begun, and whether it is open.
+#[derive(Clone, Copy)]
+pub struct Front<'a> {
+    pub log: &'a [u8],
+    pub count: usize,
+    pub stop: usize,
+    pub last: u32,
+    pub running: bool,
+    pub ghost from: { bodies_from ≤ length log.now },
+    pub ghost most: { length log.now ≤ most_log },
+    pub ghost few: { count ≤ most_records },
+    pub ghost kept: { every (record_ok log.now) count ≡ true },
+    pub ghost stops: { stop ≡ start_at log.now count },
+    pub ghost lasts: { last ≡ last_begun (record_at log.now) count },
+    pub ghost runs: { running ≡ opened (record_at log.now) count },
 }
 
-// What a scan finds of a log that is not good.
-fn no_scan() -> Scan
-    ensures { result ≡ record { good = false; stop = 0; last = 0; running = false } }
-{
-    Scan {
-        good: false,
-        stop: 0,
-        last: 0,
-        running: false,
-    }
-}
-
-// A scan of a log, record by record.
-pub fn scan_of(log: &[u8]) -> Scan
-    ensures { result ≡ scanned log.now }
-{
-    if (log.len() < BODIES) | (MOST_LOG < log.len()) {
-        return no_scan();
-    }
-    let count = log[0] as usize;
-    if MOST_RECORDS < count {
-        return no_scan();
-    }
-    let mut stop: usize = BODIES;
-    let mut last: u32 = 0;
-    let mut running = false;
-    let mut i: usize = 0;
-    while i < count {
-        if !record_ok(log, i, stop, last, running) {
-            return no_scan();
+impl<'a> Front<'a> {
+    // With the next record, if that keeps the rules too.
+    pub fn with_next(self) -> Option<Front<'a>>
+        requires { self.count < most_records }
+        ensures { MatchOption result (record_ok self.entry.log.now self.entry.count ≡ false)
+            (λ f. (f.log.now ≡ self.entry.log.now) × (f.count ≡ self.entry.count + 1)) }
+    {
+        let log = self.log;
+        let line = TABLE + LINE * self.count;
+        let kind = log[line];
+        let size = le::read_u16(log, line + LENGTH) as usize;
+        if log.len() - self.stop < size {
+            return None;
         }
-        last = last_after(log, i, stop, last);
-        running = running_after(log, i, running);
-        stop = stop_after(log, i, stop);
-        i += 1;
-    }
-    Scan {
-        good: true,
-        stop: stop,
-        last: last,
-        running: running,
+        let end = self.stop + size;
+        let body = &log[self.stop..end];
+        let is_ok = (le::read_u32(log, line + PLACE) as usize == self.stop)
+            & (le::read_u32(log, line + SUM) == sum_of(body))
+            & may_join(kind, body, self.last, self.running);
+        if !is_ok {
+            return None;
+        }
+        Some(Front {
+            log,
+            count: self.count + 1,
+            stop: end,
+            last: last_after(kind, body, self.last),
+            running: (kind == BEGIN) | self.running & !(kind == COMMIT),
+        })
     }
 }

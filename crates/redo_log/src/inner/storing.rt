@@ -1,4 +1,4 @@
-ghost use Rattle.std.specs.Prelude.{◌≡◌, ◌+◌, ◌-◌, ◌≤◌, min, length, take};
+ghost use Rattle.std.specs.Prelude.{◌≡◌, ◌+◌, ◌≤◌, length, take};
 ghost use Rattle.lists.specs.Parts.{splice};
 ghost use Rattle.lists.specs.Le.{to_le};
 ghost use Rattle.redo_log.specs.Log.{start_at, record_count};
@@ -8,32 +8,12 @@ ghost use Rattle.redo_log.specs.inner.Admitted.{Admitted};
 use crate::inner::reading;
 use crate::inner::records::{LENGTH, LINE, PLACE, SUM, TABLE};
 
-// What is left of a budget.
-fn left(budget: usize, used: usize) -> usize
-    ensures { result ≡ budget - used }
-{
-    if budget < used {
-        return 0;
-    }
-    budget - used
-}
-
-fn least(a: usize, b: usize) -> usize
-    ensures { result ≡ min a b }
-{
-    if a < b {
-        return a;
-    }
-    b
-}
-
 // Stores the first bytes of `v` from `at` on, as many as the budget allows.
 fn put_bytes(log: &mut [u8], at: usize, v: &[u8], budget: usize)
     requires { at + length v.now ≤ length log.old }
     ensures { log.new ≡ splice at (take budget v.now) log.old }
 {
-    let n = least(budget, v.len());
-    slices::inner::put(log, at, &v[..n]);
+    slices::inner::put(log, at, &v[..budget.min(v.len())]);
 }
 
 // Stores the first of the `count` bytes of a number, as many as the budget allows.
@@ -41,7 +21,7 @@ fn put_number(log: &mut [u8], at: usize, count: usize, value: u64, budget: usize
     requires { at + count ≤ length log.old }
     ensures { log.new ≡ splice at (take budget (to_le count value)) log.old }
 {
-    slices::inner::write(log, at, least(budget, count), value);
+    slices::inner::write(log, at, budget.min(count), value);
 }
 
 // Stores a record's line.
@@ -50,14 +30,26 @@ fn put_line(log: &mut [u8], at: usize, kind: u8, place: usize, body: &[u8], budg
     ensures { log.new ≡ splice at (take budget (line_bytes place (record { kind = kind; body = body.now }))) log.old }
 {
     put_number(log, at, 1, kind as u64, budget);
-    put_number(log, at + PLACE, 4, place as u64, left(budget, PLACE));
-    put_number(log, at + LENGTH, 2, body.len() as u64, left(budget, LENGTH));
+    put_number(
+        log,
+        at + PLACE,
+        4,
+        place as u64,
+        budget.saturating_sub(PLACE),
+    );
+    put_number(
+        log,
+        at + LENGTH,
+        2,
+        body.len() as u64,
+        budget.saturating_sub(LENGTH),
+    );
     put_number(
         log,
         at + SUM,
         4,
         reading::sum_of(body) as u64,
-        left(budget, SUM),
+        budget.saturating_sub(SUM),
     );
 }
 
@@ -74,13 +66,13 @@ pub fn store(log: &mut [u8], kind: u8, body: &[u8], stop: usize, budget: usize)
         kind,
         stop,
         body,
-        left(budget, body.len()),
+        budget.saturating_sub(body.len()),
     );
     put_number(
         log,
         0,
         1,
         (count + 1) as u64,
-        left(budget, body.len() + LINE),
+        budget.saturating_sub(body.len() + LINE),
     );
 }

@@ -1,73 +1,119 @@
 -- The loop carries what is left of the recovery from record i on (`Going`, proofs/Running). Assumes nothing.
 use native.Mathlib.Omega.{arith}
-use Rattle.redo_recovery.proofs.Running.{going_none, going_more, going_stops, going_done, answers_bad}
-use Rattle.redo_recovery.specs.Recover.{pairs_of}
+use Prim.Native.Nat.{ℕ}
+use mathlib.Core.Path.{refl, sym, ap, ◌∙◌}
+use mathlib.Core.List.{List}
+use lib.ListN.{length, length-append}
 use Rattle.redo_log.specs.Log.{records}
-use Rattle.redo_log.proofs.Records.{good_out, checked_good, checked_bad}
+use Rattle.redo_log.specs.inner.Placed.{Placed}
+use Rattle.redo_log.specs.inner.Shown.{as_record}
+use Rattle.redo_log.proofs.Placed.{turned, ended}
 use Rattle.redo_recovery_model.proofs.Steps.{told}
-use Prim.Native.Nat.{ℕ, ◌≤◌, ◌<◌}
-use mathlib.Core.Path.{◌≡◌, subst}
+use Rattle.redo_recovery.specs.Recover.{pairs_in, recovery_answer}
+use Rattle.redo_recovery.specs.inner.Step.{due_by}
+use Rattle.redo_recovery.proofs.Laws.{due_at, due_kind}
+use Rattle.redo_recovery.proofs.Writing.{wrote, wrote_unsound, step_idle}
+use Rattle.redo_recovery_model.specs.Recovery.{recovered}
+use Rattle.redo_recovery.proofs.Running.{pick, going_none, going_more, going_stops, going_done, answers_bad}
 use Rattle.redo_recovery.proofs.recover.Goals as goal
 
-below : (i : ℕ) {n m : ℕ} → n ≡ m → i < n → i < m
-below i e h = subst (λ (k : ℕ). i < k) e h
+pub returns-in_default-clause-answer : goal.returns-in_default-clause-answer
+returns-in_default-clause-answer c = (answers_bad (pairs_in c.args.pairs) c.args.log.now c.args.image.now c.in_default.ensures).0
 
-pub returns-then-check-ne0 : goal.returns-then-check-ne0
-returns-then-check-ne0 c = let all = answers_bad (pairs_of c.args.s.now c.args.x.now) c.args.log.now c.args.image.now
-    (checked_bad c.args.log.now c.check.ensures c.if-check-ne0.true) in record { answer = all.0; image = all.1 }
+pub returns-in_default-clause-image : goal.returns-in_default-clause-image
+returns-in_default-clause-image c = (answers_bad (pairs_in c.args.pairs) c.args.log.now c.args.image.now c.in_default.ensures).1
 
-pub count-count-requires : goal.count-count-requires
-count-count-requires c = checked_good c.args.log.now c.check.ensures c.if-check-ne0.false
+pub loop-record-init : goal.loop-record-init
+loop-record-init c =
+    record {
+      left_is = rw c.into_iter-record-iterator.ensures.into_iter_gives c.records-records.ensures;
+      going = going_none (pairs_in c.args.pairs) c.in-Some.log.bytes.now c.args.image.now c.sound-is_sound.result c.sound-is_sound.ensures;
+    }
 
-pub loop-i-init : goal.loop-i-init
-loop-i-init c = going_none (pairs_of c.args.s.now c.args.x.now) c.args.log.now c.args.image.now c.sound-ok.result c.sound-ok.ensures
+pub loop-record-preserved-then-not-is_due : goal.loop-record-preserved-then-not-is_due
+loop-record-preserved-then-not-is_due c =
+    let turn = turned c.in-Some.log.bytes.now (length c.loop-record.yielded) _ _ _ c.loop-record.invariant.left_is c.in-Some-record.ensures.steps in
+    let idle = step_idle c.in-Some.log.bytes.now (length c.loop-record.yielded) turn.0 (pairs_in c.args.pairs) c.loop-record.image (sym (due_at _ _ turn.0) ∙ sym (ap (due_by
+    (records c.in-Some.log.bytes.now)) turn.1) ∙ sym c.is_due.ensures ∙ c.if-not-is_due.true) in
+    simp length-append
+    (record {
+      left_is = turn.2;
+      going = going_more (pairs_in c.args.pairs) c.in-Some.log.bytes.now c.args.image.now c.loop-record.image c.sound-is_sound.result
+          (length c.loop-record.yielded) c.loop-record.invariant.going turn.0 idle.0 idle.1 refl c.loop-record.invariant.going.sounds refl;
+    })
 
-pub step-number-requires : goal.step-number-requires
-step-number-requires c = (
-  c.loop-i.invariant.sounds,
-  (checked_good c.args.log.now c.check.ensures c.if-check-ne0.false),
-  below
-      c.loop-i.i c.count-count.ensures c.loop-i-test.true,
-  c.loop-i.invariant.lasts,
+pub returns-then-not-is_sound-clause-answer : goal.returns-then-not-is_sound-clause-answer
+returns-then-not-is_sound-clause-answer c =
+    let turn = turned c.in-Some.log.bytes.now (length c.loop-record.yielded) _ _ _ c.loop-record.invariant.left_is c.in-Some-record.ensures.steps in
+    let unsound = wrote_unsound c.in-Some.log.bytes.now (length c.loop-record.yielded) turn.0 (pairs_in c.args.pairs) c.loop-record.image (sym (due_at _ _ turn.0) ∙ sym (ap
+    (due_by (records c.in-Some.log.bytes.now)) turn.1) ∙ sym c.is_due.ensures ∙ c.if-not-is_due.false) (sym c.loop-record.invariant.going.sounds ∙ c.if-not-is_sound.true) in
+    ap (λ (p : Placed). pick 9 p.line) turn.1
+    ∙ (going_stops (pairs_in c.args.pairs) c.in-Some.log.bytes.now c.args.image.now c.loop-record.image c.sound-is_sound.result
+    (length c.loop-record.yielded) c.loop-record.invariant.going turn.0 unsound.0 unsound.1 c.in-Some.log.good (λ z. absurd (omega arith))).0
+    ∙ ap (λ (l : List ℕ). recovery_answer (pairs_in c.args.pairs) l c.args.image.now) c.in-Some.ensures
+
+pub returns-then-not-is_sound-clause-image : goal.returns-then-not-is_sound-clause-image
+returns-then-not-is_sound-clause-image c =
+    let turn = turned c.in-Some.log.bytes.now (length c.loop-record.yielded) _ _ _ c.loop-record.invariant.left_is c.in-Some-record.ensures.steps in
+    let unsound = wrote_unsound c.in-Some.log.bytes.now (length c.loop-record.yielded) turn.0 (pairs_in c.args.pairs) c.loop-record.image (sym (due_at _ _ turn.0) ∙ sym (ap
+    (due_by (records c.in-Some.log.bytes.now)) turn.1) ∙ sym c.is_due.ensures ∙ c.if-not-is_due.false) (sym c.loop-record.invariant.going.sounds ∙ c.if-not-is_sound.true) in
+    (going_stops (pairs_in c.args.pairs) c.in-Some.log.bytes.now c.args.image.now c.loop-record.image c.sound-is_sound.result
+    (length c.loop-record.yielded) c.loop-record.invariant.going turn.0 unsound.0 unsound.1 c.in-Some.log.good (λ z. absurd (omega arith))).1
+    ∙ ap (λ (l : List ℕ). (recovered (pairs_in c.args.pairs) l c.args.image.now).image) c.in-Some.ensures
+
+pub apply-number-requires : goal.apply-number-requires
+apply-number-requires c = (
+  sym c.loop-record.invariant.going.sounds ∙ c.if-not-is_sound.false,
+  due_kind (records c.in-Some.log.bytes.now) (as_record c.in-Some-record.record) (sym c.is_due.ensures ∙ c.if-not-is_due.false),
 )
 
-pub overflow_cast-result : goal.overflow_cast-result
-overflow_cast-result c = omega (arith, (good_out c.args.log.now (checked_good c.args.log.now c.check.ensures c.if-check-ne0.false)).few)
+pub returns-then-number-ne-ACCEPTED-clause-answer : goal.returns-then-number-ne-ACCEPTED-clause-answer
+returns-then-number-ne-ACCEPTED-clause-answer c =
+    let turn = turned c.in-Some.log.bytes.now (length c.loop-record.yielded) _ _ _ c.loop-record.invariant.left_is c.in-Some-record.ensures.steps in
+    let done = wrote c.in-Some.log.bytes.now (length c.loop-record.yielded) turn.0 (pairs_in c.args.pairs) c.loop-record.image _ (ap (λ (p : Placed). p.entry) turn.1) (sym
+    (due_at _ _ turn.0) ∙ sym (ap (due_by (records c.in-Some.log.bytes.now)) turn.1) ∙ sym c.is_due.ensures ∙ c.if-not-is_due.false) in
+    ap (λ (p : Placed). pick c.apply-number.result p.line) turn.1
+    ∙ (going_stops (pairs_in c.args.pairs) c.in-Some.log.bytes.now c.args.image.now c.loop-record.image c.sound-is_sound.result
+    (length c.loop-record.yielded) c.loop-record.invariant.going turn.0 (c.apply-number.ensures.number ∙ done.0)
+    (c.apply-number.ensures.image ∙ done.1) c.in-Some.log.good c.if-number-ne-ACCEPTED.true).0
+    ∙ ap (λ (l : List ℕ). recovery_answer (pairs_in c.args.pairs) l c.args.image.now) c.in-Some.ensures
 
-pub shape_of-image-then-number-ne0 : goal.shape_of-image-then-number-ne0
-shape_of-image-then-number-ne0 c = omega (arith, c.image-1.given, c.loop-i.invariant.long)
+pub returns-then-number-ne-ACCEPTED-clause-image : goal.returns-then-number-ne-ACCEPTED-clause-image
+returns-then-number-ne-ACCEPTED-clause-image c =
+    let turn = turned c.in-Some.log.bytes.now (length c.loop-record.yielded) _ _ _ c.loop-record.invariant.left_is c.in-Some-record.ensures.steps in
+    let done = wrote c.in-Some.log.bytes.now (length c.loop-record.yielded) turn.0 (pairs_in c.args.pairs) c.loop-record.image _ (ap (λ (p : Placed). p.entry) turn.1) (sym
+    (due_at _ _ turn.0) ∙ sym (ap (due_by (records c.in-Some.log.bytes.now)) turn.1) ∙ sym c.is_due.ensures ∙ c.if-not-is_due.false) in
+    (going_stops (pairs_in c.args.pairs) c.in-Some.log.bytes.now c.args.image.now c.loop-record.image c.sound-is_sound.result
+    (length c.loop-record.yielded) c.loop-record.invariant.going turn.0 (c.apply-number.ensures.number ∙ done.0)
+    (c.apply-number.ensures.image ∙ done.1) c.in-Some.log.good c.if-number-ne-ACCEPTED.true).1
+    ∙ ap (λ (l : List ℕ). (recovered (pairs_in c.args.pairs) l c.args.image.now).image) c.in-Some.ensures
 
-pub returns-then-number-ne0 : goal.returns-then-number-ne0
-returns-then-number-ne0 c =
-    let all = going_stops (pairs_of c.args.s.now c.args.x.now) c.args.log.now c.args.image.now c.loop-i.image
-    c.sound-ok.result c.loop-i.last c.loop-i.i c.loop-i.invariant (below c.loop-i.i c.count-count.ensures c.loop-i-test.true)
-    c.step-number.ensures.number c.step-number.ensures.image (checked_good c.args.log.now c.check.ensures c.if-check-ne0.false) c.if-number-ne0.true in record { answer = all.0; image = all.1 }
+pub loop-record-preserved : goal.loop-record-preserved
+loop-record-preserved c =
+    let turn = turned c.in-Some.log.bytes.now (length c.loop-record.yielded) _ _ _ c.loop-record.invariant.left_is c.in-Some-record.ensures.steps in
+    let done = wrote c.in-Some.log.bytes.now (length c.loop-record.yielded) turn.0 (pairs_in c.args.pairs) c.loop-record.image _ (ap (λ (p : Placed). p.entry) turn.1) (sym
+    (due_at _ _ turn.0) ∙ sym (ap (due_by (records c.in-Some.log.bytes.now)) turn.1) ∙ sym c.is_due.ensures ∙ c.if-not-is_due.false) in
+    simp length-append
+    (record {
+      left_is = turn.2;
+      going = going_more (pairs_in c.args.pairs) c.in-Some.log.bytes.now c.args.image.now c.loop-record.image c.sound-is_sound.result
+          (length c.loop-record.yielded) c.loop-record.invariant.going turn.0 (c.apply-number.ensures.number ∙ done.0)
+          (c.apply-number.ensures.image ∙ done.1) c.if-number-ne-ACCEPTED.false
+          (c.if-not-is_sound.false ∙ sym c.apply-number.ensures.kept) c.apply-number.auto.image;
+    })
 
-pub last_at-last-requires : goal.last_at-last-requires
-last_at-last-requires c = (
-  (checked_good c.args.log.now c.check.ensures c.if-check-ne0.false),
-  below c.loop-i.i c.count-count.ensures
-      c.loop-i-test.true,
-  c.loop-i.invariant.lasts,
-)
+pub returns-clause-answer : goal.returns-clause-answer
+returns-clause-answer c =
+    (going_done (pairs_in c.args.pairs) c.in-Some.log.bytes.now c.args.image.now c.loop-record.image c.sound-is_sound.result
+    (length c.loop-record.yielded) c.loop-record.invariant.going (ended c.in-Some.log.bytes.now
+    (length c.loop-record.yielded) _ c.loop-record.invariant.left_is c.in-None.ensures.steps.0) c.in-Some.log.good ((told (pairs_in c.args.pairs)
+    (records c.in-Some.log.bytes.now) c.args.image.now (length c.loop-record.yielded)).line c.loop-record.invariant.going.none)).0
+    ∙ ap (λ (l : List ℕ). recovery_answer (pairs_in c.args.pairs) l c.args.image.now) c.in-Some.ensures
 
-pub overflow_add-i : goal.overflow_add-i
-overflow_add-i c = omega (arith, (good_out c.args.log.now (checked_good c.args.log.now c.check.ensures c.if-check-ne0.false)).few)
-
-pub loop-i-preserved : goal.loop-i-preserved
-loop-i-preserved c =
-    going_more (pairs_of c.args.s.now c.args.x.now) c.args.log.now c.args.image.now c.loop-i.image
-    c.sound-ok.result c.loop-i.last c.loop-i.i c.loop-i.invariant (below c.loop-i.i c.count-count.ensures c.loop-i-test.true) c.step-number.ensures.number
-    c.step-number.ensures.image c.if-number-ne0.false c.last_at-last.ensures c.step-number.ensures.kept c.image-1.given
-
-pub shape_of-image : goal.shape_of-image
-shape_of-image c = c.loop-i.invariant.long
-
-pub returns : goal.returns
-returns c =
-    let all = going_done (pairs_of c.args.s.now c.args.x.now) c.args.log.now c.args.image.now c.loop-i.image
-    c.sound-ok.result c.loop-i.last c.loop-i.i c.loop-i.invariant
-    (subst (λ (n : ℕ). n ≤ c.loop-i.i) c.count-count.ensures c.loop-i-test.false)
-    (checked_good c.args.log.now c.check.ensures c.if-check-ne0.false)
-    ((told (pairs_of c.args.s.now c.args.x.now) (records c.args.log.now) c.args.image.now c.loop-i.i).line
-    c.loop-i.invariant.none) in record { answer = all.0; image = all.1 }
+pub returns-clause-image : goal.returns-clause-image
+returns-clause-image c =
+    (going_done (pairs_in c.args.pairs) c.in-Some.log.bytes.now c.args.image.now c.loop-record.image c.sound-is_sound.result
+    (length c.loop-record.yielded) c.loop-record.invariant.going (ended c.in-Some.log.bytes.now
+    (length c.loop-record.yielded) _ c.loop-record.invariant.left_is c.in-None.ensures.steps.0) c.in-Some.log.good ((told (pairs_in c.args.pairs)
+    (records c.in-Some.log.bytes.now) c.args.image.now (length c.loop-record.yielded)).line c.loop-record.invariant.going.none)).1
+    ∙ ap (λ (l : List ℕ). (recovered (pairs_in c.args.pairs) l c.args.image.now).image) c.in-Some.ensures

@@ -15,4 +15,4 @@ overflow_cast-result c =
     omega (arith, number, small (format_of c.args.v) c.args.image.now c.args.command.now c.args.reply.now)
 
 pub returns : goal.returns
-returns c = let e = c.one.ensures.served in (line_numbers _ e.0, e.1)
+returns c = let e = c.one.ensures.served in (line_numbers _ e.0 c.copy_from_slice.ensures.after, e.1)

@@ -1,7 +1,6 @@
 // What an accepted command makes of a sound image and of the reply buffer.
 ghost use Rattle.std.specs.Prelude.{◌≡◌, true, false, ◌<◌, ◌≤◌, length};
 ghost use Rattle.lists.specs.Parts.{splice};
-ghost use Rattle.commands.specs.Command.{update, well_formed};
 ghost use Rattle.guard.specs.Judge.{editions_spent, raise};
 ghost use Rattle.guard.specs.Replies.{read_length};
 ghost use Rattle.formats.specs.Format.{format_of, translations};
@@ -11,10 +10,10 @@ ghost use Rattle.image.specs.Image.{card_at, sound};
 ghost use Rattle.store.specs.inner.Carried.{act_written};
 ghost use Rattle.store_model.specs.Serve.{text_read};
 
-use commands::{Command, VERIFY};
+use commands::VERIFY;
+use commands::formed::Formed;
 use formats::Version;
 use guard::Entry;
-use stamps::Pair;
 
 // Where a body of card k stands in a sound image.
 fn body_at(v: Version, image: &[u8], k: u16, side: u8) -> usize
@@ -38,55 +37,55 @@ pub struct Effect {
 }
 
 // The raised entry, with a length.
-fn done(e: Entry, c: Command, new: Pair, length: u16) -> Effect
-    requires { (editions_spent e c ≡ false) × (new ≡ update c) }
-    ensures { result ≡ record { entry = raise e c; length = length } }
+fn done(e: Entry, formed: Formed, length: u16) -> Effect
+    requires { editions_spent e formed.command ≡ false }
+    ensures { result ≡ record { entry = raise e formed.command; length = length } }
 {
-    let entry = e.raised(c, new);
+    let entry = e.raised(formed.command, formed.pair);
     Effect { entry, length }
 }
 
 // Carries out an accepted command, by its act: the text that it reads is copied into the first bytes of the reply buffer, and its payload is written over
-// the text that it writes, with what the entry says of that text. `new` is its update pair, `e` the entry before; of the raised one the pair and the mark are not yet written.
+// the text that it writes, with what the entry says of that text. `e` is the entry before; of the raised one the pair and the mark are not yet written.
 pub fn act(
     v: Version,
     image: &mut [u8],
-    c: Command,
-    new: Pair,
+    formed: Formed,
     e: Entry,
     text: &[u8],
     reply: &mut [u8],
 ) -> Effect
-    requires { (sound (format_of v) image.old ≡ true) × (c.card < count_of image.old) × (c.language < translations (format_of v))
+    requires { let c = formed.command in (sound (format_of v) image.old ≡ true) × (c.card < count_of image.old) × (c.language < translations (format_of v))
         × (e ≡ entry_at (format_of v) image.old c.card c.language) × (read_length e c ≤ length reply.old) × (length text.now ≤ room_of image.old)
-        × (editions_spent e c ≡ false) × (well_formed c ≡ true) × (new ≡ update c) }
-    ensures told { result ≡ record { entry = raise e c; length = read_length e c } }
-    ensures image { image.new ≡ act_written (format_of v) image.old c (raise e c) text.now }
-    ensures reply { reply.new ≡ splice 0 (text_read (card_at (format_of v) image.old c.card) c) reply.old }
+        × (editions_spent e c ≡ false) }
+    ensures told { let c = formed.command in result ≡ record { entry = raise e c; length = read_length e c } }
+    ensures image { let c = formed.command in image.new ≡ act_written (format_of v) image.old c (raise e c) text.now }
+    ensures reply { let c = formed.command in reply.new ≡ splice 0 (text_read (card_at (format_of v) image.old c.card) c) reply.old }
 {
+    let c = formed.command;
     if c.act == VERIFY {
-        return done(e, c, new, 0);
+        return done(e, formed, 0);
     }
     if c.reads_original() {
         let from = body_at(v, image, c.card, 0);
         image::inner::read::copy_text(image, from, e.original, reply);
-        return done(e, c, new, e.original);
+        return done(e, formed, e.original);
     }
     if c.reads_translation() {
         let from = body_at(v, image, c.card, c.language + 1);
         image::inner::read::copy_text(image, from, e.translation, reply);
-        return done(e, c, new, e.translation);
+        return done(e, formed, e.translation);
     }
     if c.writes_original() {
         let at = body_at(v, image, c.card, 0);
         image::inner::write::store_text(image, at, e.original, text);
-        let effect = done(e, c, new, 0);
+        let effect = done(e, formed, 0);
         image::inner::write::store_original(v, image, c.card, effect.entry);
         return effect;
     }
     let at = body_at(v, image, c.card, c.language + 1);
     image::inner::write::store_text(image, at, e.translation, text);
-    let effect = done(e, c, new, 0);
+    let effect = done(e, formed, 0);
     image::inner::write::store_translation(v, image, c.card, c.language, effect.entry);
     effect
 }

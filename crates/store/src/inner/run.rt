@@ -12,7 +12,6 @@ use crate::inner::step;
 use formats::Version;
 use guard::Answer;
 use numbers::{MALFORMED, UNSOUND};
-use stream::Next;
 
 // How many numbers an answer has: its number and seven fields.
 pub const PER_LINE: usize = 8;
@@ -35,33 +34,22 @@ pub fn fields_of(a: Answer) -> [u64; 7]
 }
 
 // The numbers of an answer: its number, then its seven fields.
+#[tactic(auto, unfolding(crate::specs::Runs::numbers_of))]
 fn numbers_of(a: Answer) -> [u64; PER_LINE]
     ensures { result ≡ numbers_of a }
 {
-    let fields = fields_of(a);
-    [
-        a.number as u64,
-        fields[0],
-        fields[1],
-        fields[2],
-        fields[3],
-        fields[4],
-        fields[5],
-        fields[6],
-    ]
+    let mut numbers = [a.number as u64; PER_LINE];
+    numbers[1..].copy_from_slice(&fields_of(a));
+    numbers
 }
 
 // Writes the numbers of an answer into `lines` from `at` on.
+#[tactic(auto, using(crate::proofs::Line::written_line))]
 fn put_line(lines: &mut [u64], at: usize, a: Answer)
     requires { at + per_line ≤ length lines.old }
     ensures { lines.new ≡ splice at (numbers_of a) lines.old }
 {
-    let numbers = numbers_of(a);
-    let mut i = 0;
-    while i < PER_LINE {
-        lines[at + i] = numbers[i];
-        i += 1;
-    }
+    lines[at..at + PER_LINE].copy_from_slice(&numbers_of(a));
 }
 
 // Judges the whole commands of a stream in their order, on an image that has been checked, as long as there is room for the numbers of their answers.
@@ -77,6 +65,7 @@ pub fn many(
     ensures ran { RunsTo (format_of v) image.old stream.now reply.old lines.old result image.new reply.new lines.new }
     ensures kept { checked ≡ sound (format_of v) image.new }
 {
+    // Kept: a loop with two ends, of which either may come first: a reader would give a command for which there is no room left, and `Ran` tells the place in front of it.
     let room = lines.len() / PER_LINE;
     let mut at = 0;
     let mut count = 0;
@@ -84,7 +73,7 @@ pub fn many(
         if room <= count {
             break Ran { count, end: at };
         }
-        let Next::Whole(size) = stream::next_at(v, &stream[at..], 0) else {
+        let Some(size) = stream::next_at(v, &stream[at..], 0) else {
             break Ran { count, end: at };
         };
         let end = at + size;

@@ -1,22 +1,17 @@
 -- By the tests, with the size of the fixed part as it was found. Assumes nothing.
-use Rattle.formats.specs.Format.{format_of}
 use native.Mathlib.Omega.{arith}
-use mathlib.Core.Path.{refl}
-use Rattle.formats.proofs.Numbers.{numbers}
+use mathlib.Core.Path.{refl, ◌∙◌}
 use Rattle.stream.proofs.Place.{shows_short, shows_cut, shows_whole}
 use Rattle.stream.proofs.next_at.Goals as goal
 
-pub returns-then-stream-at : goal.returns-then-stream-at
-returns-then-stream-at c = shows_short _ _ _ refl (omega arith)
+pub returns-in_err-left : goal.returns-in_err-left
+returns-in_err-left c = c.from_residual.ensures ∙ shows_short _ _ _ refl (omega (arith, c.in_err-left.ensures))
 
-pub returns-then-left-fixed : goal.returns-then-left-fixed
-returns-then-left-fixed c = shows_short _ _ _ c.fixed-fixed.ensures (omega arith)
+pub returns-in_err-room : goal.returns-in_err-room
+returns-in_err-room c = c.from_residual-in_err-room.ensures ∙ shows_short _ _ _ c.layout-fixed.ensures.fixed (omega (arith, c.in_err-room.ensures, c.in_ok-left.ensures))
 
-pub read_u16-payload-requires : goal.read_u16-payload-requires
-read_u16-payload-requires c = omega (arith, numbers (format_of c.args.v), c.fixed-fixed.ensures, c.if-left-fixed.false, c.if-stream-at.false)
-
-pub returns-then-left-fixed-2 : goal.returns-then-left-fixed-2
-returns-then-left-fixed-2 c = shows_cut _ _ _ c.fixed-fixed.ensures _ c.read_u16-payload.ensures (omega arith)
+pub returns-then-room-payload : goal.returns-then-room-payload
+returns-then-room-payload c = shows_cut _ _ _ c.layout-fixed.ensures.fixed _ c.read_u16-payload.ensures (omega (arith, c.in_ok-room.ensures, c.in_ok-left.ensures))
 
 pub returns : goal.returns
-returns c = shows_whole _ _ _ c.fixed-fixed.ensures _ c.read_u16-payload.ensures (omega arith)
+returns c = shows_whole _ _ _ c.layout-fixed.ensures.fixed _ c.read_u16-payload.ensures (omega (arith, c.in_ok-room.ensures, c.in_ok-left.ensures))

@@ -1,7 +1,7 @@
 -- Two texts walked together: what stands at a place of each, and what the walk answers. A step of the code on the way to `Agree`: nobody needs it to know
 -- what is promised.
 -- Assumes nothing.
-use Rattle.std.specs.Prelude.{ℕ, ◌+◌, ◌≡◌, List, length, get_or}
+use Rattle.std.specs.Prelude.{ℕ, ◌+◌, ◌≡◌, List, length, get_or, Result, Ok, Err}
 use Rattle.std.proofs.Math.Option.{Option, none, some}
 use Rattle.lists.specs.Le.{field}
 use Rattle.text_drops.specs.Drop.{scale_of, drop_of}
@@ -9,8 +9,7 @@ use Rattle.text_drops.specs.declared.Drop.{Drop}
 use Rattle.texts.specs.Text.{TextStep, Section, step_count, step_bytes, steps_bytes, section_bytes, StepWithin, StepsWithin, SectionWithin}
 use Rattle.texts.specs.Agree.{unmatched_step, unmatched}
 use Rattle.texts.specs.inner.Read.{StandsThere}
-use Rattle.texts.specs.declared.inner.walk.Walk.{Walk}
-use Rattle.texts.specs.declared.inner.walk.Walk.TheVariants.{Same, Differ}
+use Rattle.texts.specs.declared.inner.walk.UnmatchedAt.{UnmatchedAt}
 
 -- A section, a step, or so many steps stand at a place.
 abbrev pub SectionThere : List ℕ → ℕ → ℕ → Section → Type 0
@@ -27,9 +26,18 @@ abbrev pub drop_there : List ℕ → ℕ → Drop
 drop_there l at = drop_of (scale_of (get_or l (at + 1) 0)) (field (at + 2) 2 l)
 
 -- The walk's answer: the unmatched place, or the two places behind what was walked.
+abbrev pub Walk : Type 0
+Walk = Result (ℕ × ℕ) UnmatchedAt
+
+abbrev pub same : ℕ → ℕ → Walk
+same i j = Ok (i, j)
+
+abbrev pub differ : ℕ → Walk
+differ at = Err (record { at = at })
+
 abbrev pub walked : Option ℕ → ℕ → ℕ → Walk
-walked none i j = Same i j
-walked (some at) i j = Differ at
+walked none i j = same i j
+walked (some at) i j = differ at
 
 -- What each part of the walk needs, and what it answers, for a place i of a and a place j of b.
 module _ (a : List ℕ) (i : ℕ) (b : List ℕ) (j : ℕ) (n : ℕ) where

@@ -1,99 +1,93 @@
 ghost use Rattle.std.specs.Prelude.{◌≡◌, ℕ, ◌+◌, ◌≤◌, length, get_or};
 ghost use Rattle.texts.specs.inner.Read.{ReadsSection, ReadsStep, ReadsSteps};
 
-// What reading at a place finds: the place behind what stands there, or that nothing well formed does.
-#[derive(Clone, Copy)]
-pub enum Extent {
-    Past(usize),
-    Ill,
-}
+use crate::{DROP, SECTION, SECTION_BEGINS, WORDS};
+use text_drops::{CELSIUS, FAHRENHEIT};
 
-// A step of words, which begins with 2: a length and as many bytes.
-fn words(text: &[u8], at: usize) -> Extent
+// Each reader of this file hands back the place behind what stands at a place, or none where nothing well formed does.
+
+// A step of words: a length and as many bytes.
+fn words(text: &[u8], at: usize) -> Option<usize>
     requires { (at + 2 ≤ length text.now) × (get_or text.now at 0 ≡ 2) }
     ensures { (n : ℕ) → ReadsStep text.now at n result }
 {
     let long = text[at + 1] as usize;
     if text.len() - (at + 2) < long {
-        return Extent::Ill;
+        return None;
     }
-    Extent::Past(at + 2 + long)
+    Some(at + 2 + long)
 }
 
-// A drop, which begins with 3: a unit and tenths.
-fn degrees(text: &[u8], at: usize) -> Extent
+// A drop: a unit and tenths.
+fn degrees(text: &[u8], at: usize) -> Option<usize>
     requires { (at + 2 ≤ length text.now) × (get_or text.now at 0 ≡ 3) }
     ensures { (n : ℕ) → ReadsStep text.now at n result }
 {
     if text.len() - at < 4 {
-        return Extent::Ill;
+        return None;
     }
     let unit = text[at + 1];
-    if unit != 67 {
-        if unit != 70 {
-            return Extent::Ill;
-        }
+    if unit == CELSIUS {
+        return Some(at + 4);
     }
-    Extent::Past(at + 4)
+    if unit == FAHRENHEIT {
+        return Some(at + 4);
+    }
+    None
 }
 
 // A section at a place, with at most `nesting` sections within one another.
 #[cycle(section_step_steps)]
-pub fn section(text: &[u8], at: usize, nesting: usize) -> Extent
+pub fn section(text: &[u8], at: usize, nesting: usize) -> Option<usize>
     ensures { ReadsSection text.now at nesting result }
 {
     if nesting == 0 {
-        return Extent::Ill;
+        return None;
     }
     if text.len() <= at {
-        return Extent::Ill;
+        return None;
     }
     if text.len() - at < 2 {
-        return Extent::Ill;
+        return None;
     }
-    if text[at] != 1 {
-        return Extent::Ill;
+    if text[at] != SECTION_BEGINS {
+        return None;
     }
     steps(text, at + 2, nesting - 1, text[at + 1] as usize)
 }
 
 // A step at a place.
 #[cycle(section_step_steps)]
-fn step(text: &[u8], at: usize, nesting: usize) -> Extent
+fn step(text: &[u8], at: usize, nesting: usize) -> Option<usize>
     ensures { ReadsStep text.now at nesting result }
 {
     if text.len() <= at {
-        return Extent::Ill;
+        return None;
     }
     if text.len() - at < 2 {
-        return Extent::Ill;
+        return None;
     }
     let kind = text[at];
-    if kind == 2 {
+    if kind == WORDS {
         return words(text, at);
     }
-    if kind == 3 {
+    if kind == DROP {
         return degrees(text, at);
     }
-    if kind == 4 {
+    if kind == SECTION {
         return section(text, at + 1, nesting);
     }
-    Extent::Ill
+    None
 }
 
 // So many steps at a place.
 #[cycle(section_step_steps)]
-fn steps(text: &[u8], at: usize, nesting: usize, count: usize) -> Extent
+fn steps(text: &[u8], at: usize, nesting: usize, count: usize) -> Option<usize>
     ensures { ReadsSteps text.now at nesting count result }
 {
     let mut next = at;
-    let mut left = count;
-    while 0 < left {
-        let Extent::Past(end) = step(text, next, nesting) else {
-            return Extent::Ill;
-        };
-        next = end;
-        left -= 1;
+    for _ in 0..count {
+        next = step(text, next, nesting)?;
     }
-    Extent::Past(next)
+    Some(next)
 }

@@ -1,15 +1,17 @@
 ghost use Rattle.std.specs.Prelude.{◌≡◌, cond, ◌+◌, ◌≤◌, length, get_or};
 ghost use Rattle.texts.specs.Text.{TextStep, Section};
 ghost use Rattle.text_drops.specs.Drop.{near};
-ghost use Rattle.texts.specs.inner.Walk.{drop_there, TwoSections, TwoRuns, TwoSteps, SectionsWalked, RunsWalked, StepsWalked};
+ghost use Rattle.texts.specs.inner.Walk.{drop_there, same, differ, TwoSections, TwoRuns, TwoSteps, SectionsWalked, RunsWalked, StepsWalked};
 
+use crate::{DROP, WORDS};
 use text_drops::Drop;
 
-// What a walk over two texts finds: the places behind what was walked, or the unmatched place of the first.
+// Each walk of this file hands back the two places behind what was walked, or the unmatched place of the first text.
+
+// The place in the first text at which it has a step without a match, or lacks one.
 #[derive(Clone, Copy)]
-pub enum Walk {
-    Same(usize, usize),
-    Differ(usize),
+pub struct UnmatchedAt {
+    pub at: usize,
 }
 
 // The place behind the words that begin at a place.
@@ -32,19 +34,25 @@ fn drop_at(text: &[u8], at: usize) -> Drop
 }
 
 // Two drops.
-fn degrees<'a>(a: &'a [u8], i: usize, b: &'a [u8], j: usize) -> Walk
+fn degrees<'a>(a: &'a [u8], i: usize, b: &'a [u8], j: usize) -> Result<(usize, usize), UnmatchedAt>
     requires { (i + 4 ≤ length a.now) × (j + 4 ≤ length b.now) }
-    ensures { result ≡ cond (near (drop_there a.now i) (drop_there b.now j)) (Walk.Same (i + 4) (j + 4)) (Walk.Differ i) }
+    ensures { result ≡ cond (near (drop_there a.now i) (drop_there b.now j)) (same (i + 4) (j + 4)) (differ i) }
 {
     if text_drops::near(drop_at(a, i), drop_at(b, j)) {
-        return Walk::Same(i + 4, j + 4);
+        return Ok((i + 4, j + 4));
     }
-    Walk::Differ(i)
+    Err(UnmatchedAt { at: i })
 }
 
 // Two sections, with at most `nesting` sections within one another.
 #[cycle(sections_step_steps)]
-pub fn sections<'a>(a: &'a [u8], i: usize, b: &'a [u8], j: usize, nesting: usize) -> Walk
+pub fn sections<'a>(
+    a: &'a [u8],
+    i: usize,
+    b: &'a [u8],
+    j: usize,
+    nesting: usize,
+) -> Result<(usize, usize), UnmatchedAt>
     requires { (s t : Section) × TwoSections a.now i b.now j nesting s t }
     ensures { SectionsWalked a.now i b.now j nesting result }
 {
@@ -61,18 +69,24 @@ pub fn sections<'a>(a: &'a [u8], i: usize, b: &'a [u8], j: usize, nesting: usize
 
 // Two steps.
 #[cycle(sections_step_steps)]
-fn step<'a>(a: &'a [u8], i: usize, b: &'a [u8], j: usize, nesting: usize) -> Walk
+fn step<'a>(
+    a: &'a [u8],
+    i: usize,
+    b: &'a [u8],
+    j: usize,
+    nesting: usize,
+) -> Result<(usize, usize), UnmatchedAt>
     requires { (s t : TextStep) × TwoSteps a.now i b.now j nesting s t }
     ensures { StepsWalked a.now i b.now j nesting result }
 {
     let kind = a[i];
     if kind != b[j] {
-        return Walk::Differ(i);
+        return Err(UnmatchedAt { at: i });
     }
-    if kind == 2 {
-        return Walk::Same(behind_words(a, i), behind_words(b, j));
+    if kind == WORDS {
+        return Ok((behind_words(a, i), behind_words(b, j)));
     }
-    if kind == 3 {
+    if kind == DROP {
         return degrees(a, i, b, j);
     }
     sections(a, i + 1, b, j + 1, nesting)
@@ -88,30 +102,17 @@ fn steps<'a>(
     j: usize,
     more: usize,
     nesting: usize,
-) -> Walk
+) -> Result<(usize, usize), UnmatchedAt>
     requires { (s t : Section) × TwoRuns a.now i b.now j nesting many more s t }
     ensures { RunsWalked a.now i b.now j nesting many more result }
 {
     let mut x = i;
     let mut y = j;
-    let mut left = many;
-    let mut other = more;
-    while 0 < left {
-        if other == 0 {
-            return Walk::Differ(x);
-        }
-        match step(a, x, b, y, nesting) {
-            Walk::Same(p, q) => {
-                x = p;
-                y = q;
-            }
-            Walk::Differ(at) => return Walk::Differ(at),
-        }
-        left -= 1;
-        other -= 1;
+    for _ in 0..many.min(more) {
+        (x, y) = step(a, x, b, y, nesting)?;
     }
-    if 0 < other {
-        return Walk::Differ(x);
+    if many != more {
+        return Err(UnmatchedAt { at: x });
     }
-    Walk::Same(x, y)
+    Ok((x, y))
 }

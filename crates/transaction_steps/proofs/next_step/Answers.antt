@@ -1,63 +1,56 @@
 -- Row by row: each return is a row of the table. Assumes nothing.
-use mathlib.Core.Path.{◌∙◌}
+use mathlib.Core.Path.{ap, ◌∙◌}
+use mathlib.Core.List.{List}
+use Prim.Native.Nat.{ℕ}
 use borrow.Author.Tests.{eq-eqb, ne_eqb, not-true, not-false}
-use Rattle.lists.proofs.Tests.{and_left}
-use Rattle.redo_log.specs.Log.{good_log}
-use Rattle.transaction_steps.proofs.Stepping.{surveys, good_now, step_bad, step_look, step_finish, step_ready, step_release, step_nothing}
+use Rattle.transaction_steps.specs.Steps.{next_of}
+use Rattle.transaction_steps.proofs.Stepping.{surveys, good_desk, bad_desk, bad_bytes, step_bad, step_look, step_finish, step_ready, step_release, step_nothing}
 use Rattle.transaction_steps.proofs.next_step.Goals as goal
 
-pub returns-then-not-scan-desk : goal.returns-then-not-scan-desk
-returns-then-not-scan-desk c =
-    c.plain.ensures
-    ∙ step_bad c.args.log.now c.args.desk c.args.card c.args.going c.args.seen
-    (good_now c.scan_of-scan.result c.args.log.now c.args.desk c.scan_of-scan.ensures c.if-not-scan-desk.true)
+pub returns-in_default : goal.returns-in_default
+returns-in_default c =
+    step_bad c.args.log.now c.args.desk c.args.card c.args.going c.args.seen (bad_bytes c.args.log.now c.args.desk c.in_default.ensures)
+
+pub returns-then-desk-eq0 : goal.returns-then-desk-eq0
+returns-then-desk-eq0 c =
+    step_bad c.args.log.now c.args.desk c.args.card c.args.going c.args.seen (bad_desk c.args.log.now c.args.desk c.if-desk-eq0.true)
 
 pub returns-then-not-seen : goal.returns-then-not-seen
 returns-then-not-seen c =
-    c.plain-then-not-seen.ensures
-    ∙ step_look c.args.log.now c.args.desk c.args.card c.args.going c.args.seen
-    (good_now c.scan_of-scan.result c.args.log.now c.args.desk c.scan_of-scan.ensures c.if-not-scan-desk.false)
-    (not-true _ c.if-not-seen.true)
-
-pub survey_of-found-requires : goal.survey_of-found-requires
-survey_of-found-requires c =
-    and_left (good_log c.args.log.now) _
-    (good_now c.scan_of-scan.result c.args.log.now c.args.desk c.scan_of-scan.ensures c.if-not-scan-desk.false)
+    step_look c.in-Some.log.bytes.now c.args.desk c.args.card c.args.going c.args.seen
+    (good_desk c.in-Some.log.bytes.now c.args.desk c.in-Some.log.good c.if-desk-eq0.false) (not-true _ c.if-not-seen.true)
+    ∙ ap (λ (l : List ℕ). next_of l c.args.desk c.args.card c.args.going c.args.seen) c.in-Some.ensures
 
 pub returns-then-found : goal.returns-then-found
 returns-then-found c =
-    let good = good_now c.scan_of-scan.result c.args.log.now c.args.desk c.scan_of-scan.ensures c.if-not-scan-desk.false in
-    let found = surveys c.args.log.now c.args.card c.args.seen.reach c.scan_of-scan.result c.survey_of-found.result c.scan_of-scan.ensures
-    (and_left (good_log c.args.log.now) _ good) c.survey_of-found.ensures in
     c.finish.ensures
-    ∙ step_finish c.args.log.now c.args.desk c.args.card c.args.going c.args.seen good c.scan_of-scan.result
-    c.survey_of-found.result found (not-false _ c.if-not-seen.false) c.if-found.true
+    ∙ step_finish c.in-Some.log.bytes.now c.args.desk c.args.card c.args.going c.args.seen
+    (good_desk c.in-Some.log.bytes.now c.args.desk c.in-Some.log.good c.if-desk-eq0.false) c.in-Some.log.last c.in-Some.log.running c.survey_of-found.result
+    (surveys c.in-Some.log.bytes.now c.args.card c.args.seen.reach c.in-Some.log.last c.in-Some.log.running c.survey_of-found.result c.in-Some.log.lasts
+    c.in-Some.log.runs c.survey_of-found.ensures) (not-false _ c.if-not-seen.false) c.if-found.true
+    ∙ ap (λ (l : List ℕ). next_of l c.args.desk c.args.card c.args.going c.args.seen) c.in-Some.ensures
 
-pub returns-then-going-scan : goal.returns-then-going-scan
-returns-then-going-scan c =
-    let good = good_now c.scan_of-scan.result c.args.log.now c.args.desk c.scan_of-scan.ensures c.if-not-scan-desk.false in
-    let found = surveys c.args.log.now c.args.card c.args.seen.reach c.scan_of-scan.result c.survey_of-found.result c.scan_of-scan.ensures
-    (and_left (good_log c.args.log.now) _ good) c.survey_of-found.ensures in
+pub returns-then-going-log : goal.returns-then-going-log
+returns-then-going-log c =
     c.make_ready.ensures
-    ∙ step_ready c.args.log.now c.args.desk c.args.card c.args.going c.args.seen good c.scan_of-scan.result
-    c.survey_of-found.result found (not-false _ c.if-not-seen.false) c.if-found.false c.if-going-scan.true
+    ∙ step_ready c.in-Some.log.bytes.now c.args.desk c.args.card c.args.going c.args.seen
+    (good_desk c.in-Some.log.bytes.now c.args.desk c.in-Some.log.good c.if-desk-eq0.false) c.in-Some.log.last c.in-Some.log.running c.survey_of-found.result
+    (surveys c.in-Some.log.bytes.now c.args.card c.args.seen.reach c.in-Some.log.last c.in-Some.log.running c.survey_of-found.result c.in-Some.log.lasts
+    c.in-Some.log.runs c.survey_of-found.ensures) (not-false _ c.if-not-seen.false) c.if-found.false c.if-going-log.true
+    ∙ ap (λ (l : List ℕ). next_of l c.args.desk c.args.card c.args.going c.args.seen) c.in-Some.ensures
 
 pub returns-then-seen-desk : goal.returns-then-seen-desk
 returns-then-seen-desk c =
-    let good = good_now c.scan_of-scan.result c.args.log.now c.args.desk c.scan_of-scan.ensures c.if-not-scan-desk.false in
-    let found = surveys c.args.log.now c.args.card c.args.seen.reach c.scan_of-scan.result c.survey_of-found.result c.scan_of-scan.ensures
-    (and_left (good_log c.args.log.now) _ good) c.survey_of-found.ensures in
-    c.plain-then-seen-desk.ensures
-    ∙ step_release c.args.log.now c.args.desk c.args.card c.args.going c.args.seen good c.scan_of-scan.result
-    c.survey_of-found.result found (not-false _ c.if-not-seen.false) c.if-found.false
-    c.if-going-scan.false (eq-eqb _ _ c.if-seen-desk.true)
+    step_release c.in-Some.log.bytes.now c.args.desk c.args.card c.args.going c.args.seen
+    (good_desk c.in-Some.log.bytes.now c.args.desk c.in-Some.log.good c.if-desk-eq0.false) c.in-Some.log.last c.in-Some.log.running c.survey_of-found.result
+    (surveys c.in-Some.log.bytes.now c.args.card c.args.seen.reach c.in-Some.log.last c.in-Some.log.running c.survey_of-found.result c.in-Some.log.lasts
+    c.in-Some.log.runs c.survey_of-found.ensures) (not-false _ c.if-not-seen.false) c.if-found.false c.if-going-log.false (eq-eqb _ _ c.if-seen-desk.true)
+    ∙ ap (λ (l : List ℕ). next_of l c.args.desk c.args.card c.args.going c.args.seen) c.in-Some.ensures
 
 pub returns : goal.returns
 returns c =
-    let good = good_now c.scan_of-scan.result c.args.log.now c.args.desk c.scan_of-scan.ensures c.if-not-scan-desk.false in
-    let found = surveys c.args.log.now c.args.card c.args.seen.reach c.scan_of-scan.result c.survey_of-found.result c.scan_of-scan.ensures
-    (and_left (good_log c.args.log.now) _ good) c.survey_of-found.ensures in
-    c.plain-2.ensures
-    ∙ step_nothing c.args.log.now c.args.desk c.args.card c.args.going c.args.seen good c.scan_of-scan.result
-    c.survey_of-found.result found (not-false _ c.if-not-seen.false)
-    c.if-found.false c.if-going-scan.false (ne_eqb _ _ c.if-seen-desk.false)
+    step_nothing c.in-Some.log.bytes.now c.args.desk c.args.card c.args.going c.args.seen
+    (good_desk c.in-Some.log.bytes.now c.args.desk c.in-Some.log.good c.if-desk-eq0.false) c.in-Some.log.last c.in-Some.log.running c.survey_of-found.result
+    (surveys c.in-Some.log.bytes.now c.args.card c.args.seen.reach c.in-Some.log.last c.in-Some.log.running c.survey_of-found.result c.in-Some.log.lasts
+    c.in-Some.log.runs c.survey_of-found.ensures) (not-false _ c.if-not-seen.false) c.if-found.false c.if-going-log.false (ne_eqb _ _ c.if-seen-desk.false)
+    ∙ ap (λ (l : List ℕ). next_of l c.args.desk c.args.card c.args.going c.args.seen) c.in-Some.ensures

@@ -3,4 +3,4 @@ use lib.ListN.{length-drop}
 use Rattle.redo_recovery.proofs.inner.write_of.Goals as goal
 
 pub returns : goal.returns
-returns c = rw (c.edition_of.ensures, c.read_u16.ensures, c.act_of.ensures, length-drop)
+returns c = rw (c.act_of-act.ensures, c.read_u16.ensures, length-drop)

@@ -1,29 +1,33 @@
--- The loop: what is read so far is the number of the bytes from place `left` of the part on. Assumes nothing.
-use Prim.Native.Nat.{◌+◌, ◌-◌}
+-- The loop: the bytes that are left, and above them what is read so far, make the number. Assumes nothing.
+use Prim.Native.Nat.{ℕ, ◌+◌, ◌-◌}
 use native.Mathlib.Omega.{arith}
-use mathlib.Core.Path.{◌≡◌}
-use Rattle.lists.proofs.Le.{fewer}
-use Rattle.slices.proofs.Loops.{reading_none, reading_more, reading_done}
+use mathlib.Core.Path.{◌≡◌, ap, ◌∙◌}
+use Rattle.std.specs.Slice.Iter.{iter_rest}
+use Rattle.std.specs.declared.iter.Rev.{Rev}
+use Rattle.std.proofs.Common.{Iter}
+use Rattle.lists.specs.Parts.{part}
+use Rattle.lists.proofs.Parts.{length_part}
+use Rattle.slices.proofs.Loops.{reading_none, reading_more, reading_done, reading_room}
 use Rattle.slices.proofs.inner.read.Goals as goal
 
-pub loop-left-init : goal.loop-left-init
-loop-left-init c = reading_none _ _ _
+pub loop-b-init : goal.loop-b-init
+unfolding part
+loop-b-init c =
+    let count : c.args.at + c.args.count - c.args.at ≡ c.args.count = omega arith in
+    let bytes : iter_rest c.into_iter-b-iterator.result.iter ≡ part c.args.at c.args.count c.args.s.now =
+    ap (λ (i : Rev (Iter ℕ)). iter_rest i.iter) c.into_iter-b-iterator.ensures.into_iter_gives
+    ∙ ap iter_rest c.rev-b-items.ensures.source
+    ∙ rw count at c.iter.ensures.rest in
+    record { can = tt; ends = tt; read = rw bytes (reading_none _ (length_part c.args.at c.args.count c.args.s.now c.requires.1)) }
 
 pub overflow_mul-sum : goal.overflow_mul-sum
-overflow_mul-sum c = let small = fewer _ 7 c.loop-left.invariant.small (omega arith) in omega arith
+overflow_mul-sum c = let room = reading_room _ _ c.loop-b.invariant.read c.in-Some.ensures.steps (omega arith) in omega arith
 
-pub overflow_cast-sum : goal.overflow_cast-sum
-overflow_cast-sum c = omega (arith, c.type_inv.s (c.args.at + (c.loop-left.left - 1)))
+pub overflow_add-sum : goal.overflow_add-sum
+overflow_add-sum c = let room = reading_room _ _ c.loop-b.invariant.read c.in-Some.ensures.steps (omega arith) in omega arith
 
-pub overflow_add-sum-in-loop-left : goal.overflow_add-sum-in-loop-left
-overflow_add-sum-in-loop-left c =
-    let small = fewer _ 7 c.loop-left.invariant.small (omega arith) in omega
-    (arith, c.type_inv.s (c.args.at + (c.loop-left.left - 1)))
-
-pub loop-left-preserved : goal.loop-left-preserved
-loop-left-preserved c =
-    reading_more _ (omega arith) (omega arith)
-    (omega (arith, c.type_inv.s (c.args.at + (c.loop-left.left - 1)))) c.loop-left.invariant
+pub loop-b-preserved : goal.loop-b-preserved
+loop-b-preserved c = record { can = tt; ends = tt; read = reading_more _ c.loop-b.invariant.read c.in-Some.ensures.steps (omega arith) }
 
 pub returns : goal.returns
-returns c = let none : c.loop-left.left ≡ 0 = omega arith in reading_done _ (rw none at c.loop-left.invariant)
+returns c = reading_done c.loop-b.invariant.read c.in-None.ensures.steps.0

@@ -9,4 +9,4 @@ pub returns-then-line-lt200 : goal.returns-then-line-lt200
 returns-then-line-lt200 c = rw (eq-eqb _ _ c.if-mark-desk.false, lt-ltb _ _ c.if-line-lt200.true)
 
 pub returns : goal.returns
-returns c = rw (c.plain.ensures, eq-eqb _ _ c.if-mark-desk.false, le-ltb _ _ c.if-line-lt200.false)
+returns c = rw (eq-eqb _ _ c.if-mark-desk.false, le-ltb _ _ c.if-line-lt200.false)

@@ -1,12 +1,16 @@
--- The loop: what the first lines say. The measure is how many are left. Assumes nothing.
-use Prim.Native.Nat.{◌-◌, ◌≤◌}
+-- The loop: what the first lines say. Assumes nothing.
 use mathlib.Core.Path.{◌≡◌}
-use Rattle.redo_log.specs.Log.{record_at, last_begun, records}
+use lib.ListN.{length, drop}
+use Prim.Native.Nat.{◌≤◌}
+use Rattle.redo_log.specs.Log.{record_count, records}
+use Rattle.redo_log.specs.inner.Placed.{places}
+use Rattle.redo_log.specs.inner.Shown.{records_left}
 use Rattle.transaction_steps.specs.inner.Surveyed.{surveyed}
 use Rattle.transaction_steps.proofs.inner.survey_of.Given as goal
 
-abbrev pub invariant-loop-i : goal.invariant-loop-i
-invariant-loop-i l = (l.i ≤ l.count) × (l.last ≡ last_begun (record_at l.log) l.i) × (l.found ≡ surveyed (records l.log) l.card l.reach l.begun l.i)
-
-abbrev pub decreases-loop-i : goal.decreases-loop-i
-decreases-loop-i l = l.count - l.i
+abbrev pub invariant-loop-record : goal.invariant-loop-record
+invariant-loop-record l = record {
+  left_is : records_left l.record-iterator ≡ drop (length l.yielded) (places l.log.bytes.now);
+  within : length l.yielded ≤ record_count l.log.bytes.now;
+  so_far : l.found ≡ surveyed (records l.log.bytes.now) l.card l.reach l.log.last (length l.yielded);
+}

@@ -1,34 +1,21 @@
--- The loop: what is left to take. The measure is what is left of the bytes. Assumes nothing.
-use mathlib.Core.Path.{refl, sym, ◌∙◌}
+-- The loop: what is left to take. Assumes nothing.
+use mathlib.Core.Path.{refl}
 use native.Mathlib.Omega.{arith}
-use Rattle.lists.specs.Parts.{part}
-use Rattle.history.proofs.Walk.{within, less, working_done, entering_none, entering_low, entering_more}
+use Rattle.history.proofs.Walk.{long, working_done, takes, entering_none, entering_low, entering_more}
 use Rattle.history.proofs.inner.kept.entry_of.Goals as goal
 
-pub loop-end-init : goal.loop-end-init
-loop-end-init c = entering_none _ _ _ c.requires refl
+pub loop-command-init : goal.loop-command-init
+loop-command-init c = rw (c.into_iter-command-iterator.ensures.into_iter_gives, c.new-command-items.ensures) (entering_none _ _ _ c.requires refl)
 
-pub slice_bounds-fields-count : goal.slice_bounds-fields-count
-slice_bounds-fields-count c = let w = within _ _ _ (sym c.next_at.ensures ∙ c.in-Whole.is) in omega (arith, w.0, w.1)
-
-pub slice_bounds-fields-start : goal.slice_bounds-fields-start
-slice_bounds-fields-start c = let w = within _ _ _ (sym c.next_at.ensures ∙ c.in-Whole.is) in omega (arith, w.0, w.1)
-
-pub slice_bounds-fields-end : goal.slice_bounds-fields-end
-slice_bounds-fields-end c = let w = within _ _ _ (sym c.next_at.ensures ∙ c.in-Whole.is) in omega (arith, w.0, w.1)
-
-pub fields-c-requires : goal.fields-c-requires
-fields-c-requires c = let w = within _ _ _ (sym c.next_at.ensures ∙ c.in-Whole.is) in omega (arith, w.0, w.1)
+pub fields-requires : goal.fields-requires
+fields-requires c = let h = long c.loop-command.command-iterator c.in-Some.ensures.steps.first in omega (arith, h)
 
 pub taken-e-requires : goal.taken-e-requires
-taken-e-requires c = entering_low _ _ _ _ c.loop-end.invariant
+taken-e-requires c = entering_low c.loop-command.invariant
 
-pub loop-end-smaller : goal.loop-end-smaller
-loop-end-smaller c = less _ _ _ (sym c.next_at.ensures ∙ c.in-Whole.is)
-
-pub loop-end-preserved : goal.loop-end-preserved
-unfolding part
-loop-end-preserved c = entering_more _ _ _ _ c.loop-end.invariant _ _ (sym c.next_at.ensures ∙ c.in-Whole.is) (rw (c.taken-e.ensures, c.fields-c.ensures))
+pub loop-command-preserved : goal.loop-command-preserved
+loop-command-preserved c = entering_more c.loop-command.invariant _ c.in-Some.ensures.steps.first (long c.loop-command.command-iterator c.in-Some.ensures.steps.first) (rw
+    (c.taken-e.ensures, c.fields.ensures))
 
 pub returns : goal.returns
-returns c = working_done _ _ _ _ _ c.loop-end.invariant.working (sym c.next_at.ensures ∙ c.in_default.is)
+returns c = working_done (takes c.args.card) c.loop-command.invariant.working c.in-None.ensures.steps.first.0

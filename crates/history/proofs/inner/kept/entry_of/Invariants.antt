@@ -1,11 +1,7 @@
--- The loop: what is left to take. The measure is what is left of the bytes. Assumes nothing.
-use Prim.Native.Nat.{◌-◌}
-use lib.ListN.{length}
+-- The loop: what is left to take. Assumes nothing.
+use Rattle.stream.specs.Stream.{unread}
 use Rattle.history.proofs.Walk.{Entering}
 use Rattle.history.proofs.inner.kept.entry_of.Given as goal
 
-abbrev pub invariant-loop-end : goal.invariant-loop-end
-invariant-loop-end l = Entering l.kept l.card l.at l.e
-
-abbrev pub decreases-loop-end : goal.decreases-loop-end
-decreases-loop-end l = length l.kept - l.at
+abbrev pub invariant-loop-command : goal.invariant-loop-command
+invariant-loop-command l = Entering l.kept l.card (unread l.command-iterator) l.e

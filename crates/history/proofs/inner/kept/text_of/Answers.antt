@@ -1,34 +1,28 @@
--- The loop: what is left to look at. The measure is what is left of the bytes. Assumes nothing.
-use mathlib.Core.Path.{sym, ◌∙◌}
+-- The loop: what is left to look at. Assumes nothing.
 use native.Mathlib.Omega.{arith}
-use Rattle.lists.specs.Parts.{part}
-use Rattle.history.proofs.Walk.{within, less, working_done, finding_none, finding_more}
+use Rattle.history.proofs.Walk.{long, working_more, working_done, puts, text_none, put_here, put_other}
 use Rattle.history.proofs.inner.kept.text_of.Goals as goal
 
-pub loop-end-init : goal.loop-end-init
-loop-end-init c = finding_none _ _ _
-
-pub slice_bounds-fields-count : goal.slice_bounds-fields-count
-slice_bounds-fields-count c = let w = within _ _ _ (sym c.next_at.ensures ∙ c.in-Whole.is) in omega (arith, w.0, w.1)
-
-pub slice_bounds-fields-start : goal.slice_bounds-fields-start
-slice_bounds-fields-start c = let w = within _ _ _ (sym c.next_at.ensures ∙ c.in-Whole.is) in omega (arith, w.0, w.1)
-
-pub slice_bounds-fields-end : goal.slice_bounds-fields-end
-slice_bounds-fields-end c = let w = within _ _ _ (sym c.next_at.ensures ∙ c.in-Whole.is) in omega (arith, w.0, w.1)
+pub loop-command-init : goal.loop-command-init
+loop-command-init c = rw (c.into_iter-command-iterator.ensures.into_iter_gives, c.new-command-items.ensures) (text_none _ _ _)
 
 pub fields-c-requires : goal.fields-c-requires
-fields-c-requires c = let w = within _ _ _ (sym c.next_at.ensures ∙ c.in-Whole.is) in omega (arith, w.0, w.1)
+fields-c-requires c = let h = long c.loop-command.command-iterator c.in-Some.ensures.steps.first in omega (arith, h)
 
-pub overflow_add-here : goal.overflow_add-here
-overflow_add-here c = let w = within _ _ _ (sym c.next_at.ensures ∙ c.in-Whole.is) in omega (arith, w.0, w.1)
+pub slice_bounds-text-count : goal.slice_bounds-text-count
+slice_bounds-text-count c = long c.loop-command.command-iterator c.in-Some.ensures.steps.first
 
-pub loop-end-smaller : goal.loop-end-smaller
-loop-end-smaller c = less _ _ _ (sym c.next_at.ensures ∙ c.in-Whole.is)
+pub slice_bounds-text-start : goal.slice_bounds-text-start
+slice_bounds-text-start c = long c.loop-command.command-iterator c.in-Some.ensures.steps.first
 
-pub loop-end-preserved : goal.loop-end-preserved
-unfolding part
-loop-end-preserved c = finding_more _ _ _ _ _ c.loop-end.invariant _ _ (sym c.next_at.ensures ∙ c.in-Whole.is) (rw (c.chosen-found.ensures, c.fields-c.ensures))
+pub slice_bounds-text-end-then-c-card : goal.slice_bounds-text-end-then-c-card
+slice_bounds-text-end-then-c-card c = let h = long c.loop-command.command-iterator c.in-Some.ensures.steps.first in omega (arith, h)
+
+pub loop-command-preserved-then-c-card : goal.loop-command-preserved-then-c-card
+loop-command-preserved-then-c-card c = working_more (puts c.args.act c.args.card) c.loop-command.invariant c.in-Some.ensures.steps.first (put_here _ _ _ _ (rw (← c.fields-c.ensures) c.if-c-card.true))
+
+pub loop-command-preserved : goal.loop-command-preserved
+loop-command-preserved c = working_more (puts c.args.act c.args.card) c.loop-command.invariant c.in-Some.ensures.steps.first (put_other _ _ _ _ (rw (← c.fields-c.ensures) c.if-c-card.false))
 
 pub returns : goal.returns
-returns c = let f = c.loop-end.invariant in (f.orderly, f.inside, working_done _ _ _ _ _ f.working (sym c.next_at.ensures ∙ c.in_default.is))
+returns c = working_done (puts c.args.act c.args.card) c.loop-command.invariant c.in-None.ensures.steps.first.0

@@ -1,37 +1,28 @@
--- The loop: what is left to count. The measure is what is left of the bytes. Assumes nothing.
-use mathlib.Core.Path.{sym, ◌∙◌}
+-- The loop: what is left to count. Assumes nothing.
 use native.Mathlib.Omega.{arith}
-use Rattle.history.proofs.Walk.{less, extending_none, extending_within, extending_more, extending_done}
+use Rattle.history.proofs.Walk.{long, extending_none, extending_within, extending_more, extending_done}
 use Rattle.history.proofs.inner.kept.totals_of.Goals as goal
 
-pub loop-end-init : goal.loop-end-init
-loop-end-init c = extending_none _
+pub loop-command-init : goal.loop-command-init
+loop-command-init c = rw (c.into_iter-command-iterator.ensures.into_iter_gives, c.new-command-items.ensures) (extending_none _)
 
 pub overflow_add-count : goal.overflow_add-count
-overflow_add-count c =
-    let w = extending_within _ _ _ _ c.loop-end.invariant _
-    (sym c.next_at.ensures ∙ c.in-Whole.is) in omega (arith, w.0, w.1, w.2)
+overflow_add-count c = let w = extending_within c.loop-command.invariant c.in-Some.ensures.steps.first in omega (arith, w, c.well_formed)
 
 pub overflow_sub-payloads : goal.overflow_sub-payloads
-overflow_sub-payloads c =
-    let w = extending_within _ _ _ _ c.loop-end.invariant _
-    (sym c.next_at.ensures ∙ c.in-Whole.is) in omega (arith, w.0, w.1, w.2)
-
-pub overflow_sub-payloads-in-loop-end : goal.overflow_sub-payloads-in-loop-end
-overflow_sub-payloads-in-loop-end c =
-    let w = extending_within _ _ _ _ c.loop-end.invariant _
-    (sym c.next_at.ensures ∙ c.in-Whole.is) in omega (arith, w.0, w.1, w.2)
+overflow_sub-payloads c = long c.loop-command.command-iterator c.in-Some.ensures.steps.first
 
 pub overflow_add-payloads : goal.overflow_add-payloads
-overflow_add-payloads c =
-    let w = extending_within _ _ _ _ c.loop-end.invariant _
-    (sym c.next_at.ensures ∙ c.in-Whole.is) in omega (arith, w.0, w.1, w.2)
+overflow_add-payloads c = let w = extending_within c.loop-command.invariant c.in-Some.ensures.steps.first in omega (arith, w, c.well_formed)
 
-pub loop-end-smaller : goal.loop-end-smaller
-loop-end-smaller c = less _ _ _ (sym c.next_at.ensures ∙ c.in-Whole.is)
+pub loop-command-preserved : goal.loop-command-preserved
+loop-command-preserved c = extending_more c.loop-command.invariant c.in-Some.ensures.steps.first (long c.loop-command.command-iterator c.in-Some.ensures.steps.first)
 
-pub loop-end-preserved : goal.loop-end-preserved
-loop-end-preserved c = extending_more _ _ _ _ c.loop-end.invariant _ (sym c.next_at.ensures ∙ c.in-Whole.is)
+pub overflow_mul-result : goal.overflow_mul-result
+overflow_mul-result c = let w = (extending_done c.loop-command.invariant c.in-None.ensures.steps.first.0).within in omega (arith, w, c.well_formed)
+
+pub overflow_add-result : goal.overflow_add-result
+overflow_add-result c = let w = (extending_done c.loop-command.invariant c.in-None.ensures.steps.first.0).within in omega (arith, w, c.well_formed)
 
 pub returns : goal.returns
-returns c = extending_done _ _ _ _ c.loop-end.invariant (sym c.next_at.ensures ∙ c.in_default.is)
+returns c = extending_done c.loop-command.invariant c.in-None.ensures.steps.first.0

@@ -1,11 +1,7 @@
--- The loop: what is left to count. The measure is what is left of the bytes. Assumes nothing.
-use Prim.Native.Nat.{◌-◌}
-use lib.ListN.{length}
+-- The loop: what is left to count. Assumes nothing.
+use Rattle.stream.specs.Stream.{unread}
 use Rattle.history.proofs.Walk.{Extending}
 use Rattle.history.proofs.inner.kept.totals_of.Given as goal
 
-abbrev pub invariant-loop-end : goal.invariant-loop-end
-invariant-loop-end l = Extending l.kept l.at l.count l.payloads
-
-abbrev pub decreases-loop-end : goal.decreases-loop-end
-decreases-loop-end l = length l.kept - l.at
+abbrev pub invariant-loop-command : goal.invariant-loop-command
+invariant-loop-command l = Extending l.kept (unread l.command-iterator) l.count l.payloads

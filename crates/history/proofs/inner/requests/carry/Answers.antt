@@ -8,27 +8,27 @@ use Rattle.history.proofs.Requests.{exits, low, read_fits, carry_refused, carry_
 use Rattle.history.proofs.inner.requests.carry.Goals as goal
 
 pub slice_bounds-weigh-end-2 : goal.slice_bounds-weigh-end-2
-slice_bounds-weigh-end-2 c = sym (length-take-le _ c.args.kept.now (low c.args.used _ c.args.kept.now c.requires.0 c.standing-count.ensures))
+slice_bounds-weigh-end-2 c = sym (length-take-le _ c.args.kept.now (low c.args.used _ c.args.kept.now c.requires.0 c.min-count.ensures))
 
 pub weigh-w-requires : goal.weigh-w-requires
 weigh-w-requires c =
-    let long = length-take-le _ c.args.kept.now (low c.args.used _ c.args.kept.now c.requires.0 c.standing-count.ensures) in
-    let short = low c.args.used _ c.args.kept.now c.requires.0 c.standing-count.ensures in
+    let long = length-take-le _ c.args.kept.now (low c.args.used _ c.args.kept.now c.requires.0 c.min-count.ensures) in
+    let short = low c.args.used _ c.args.kept.now c.requires.0 c.min-count.ensures in
     omega (arith, long, short, c.requires.0)
 
 pub returns-then-judged-ne-ACCEPTED : goal.returns-then-judged-ne-ACCEPTED
 returns-then-judged-ne-ACCEPTED c =
     let all = exits (carry_refused c.args.room c.args.kept.now c.args.used c.args.c c.args.command.now
-    c.args.reply.now c.requires.0 _ c.standing-count.ensures _ c.weigh-w.ensures.judged
+    c.args.reply.now c.requires.0 _ c.min-count.ensures _ c.weigh-w.ensures.judged
     c.if-judged-ne-ACCEPTED.true) c.reply.ensures refl refl refl in record { answer = all.0; used = all.1.0; kept = all.1.1.0; reply = all.1.1.1 }
 
 pub slice_bounds-show-end-2 : goal.slice_bounds-show-end-2
-slice_bounds-show-end-2 c = sym (length-take-le _ c.args.kept.now (low c.args.used _ c.args.kept.now c.requires.0 c.standing-count.ensures))
+slice_bounds-show-end-2 c = sym (length-take-le _ c.args.kept.now (low c.args.used _ c.args.kept.now c.requires.0 c.min-count.ensures))
 
 pub show-requires : goal.show-requires
 show-requires c =
     read_fits _ _ _ _ (number_zero c.args.room c.args.kept.now c.args.used c.args.c c.args.command.now
-    c.args.reply.now c.requires.0 _ c.standing-count.ensures _ c.weigh-w.ensures.judged
+    c.args.reply.now c.requires.0 _ c.min-count.ensures _ c.weigh-w.ensures.judged
     c.if-judged-ne-ACCEPTED.false)
 
 pub put-requires : goal.put-requires
@@ -48,5 +48,5 @@ overflow_add-result c =
 pub returns : goal.returns
 returns c =
     let all = exits (carry_accepted c.args.room c.args.kept.now c.args.used c.args.c c.args.command.now
-    c.args.reply.now c.requires.0 _ c.standing-count.ensures _ c.weigh-w.ensures.judged c.if-judged-ne-ACCEPTED.false _
+    c.args.reply.now c.requires.0 _ c.min-count.ensures _ c.weigh-w.ensures.judged c.if-judged-ne-ACCEPTED.false _
     c.weigh-w.ensures.end) c.reply-2.ensures refl c.put.ensures c.show.ensures in record { answer = all.0; used = all.1.0; kept = all.1.1.0; reply = all.1.1.1 }

@@ -14,6 +14,6 @@ returns c =
       c.write_u16-2.ensures,
       c.write_u16.ensures,
       c.write_u32.ensures,
-      c.version-version.ensures,
+      c.layout-version.ensures.version,
     )
     (splice_four 0 magic (to_le 2 (version (format_of c.args.v))) (to_le 2 c.args.n) (to_le 2 c.args.c) _ (omega arith))

@@ -4,4 +4,4 @@ use Rattle.formats.proofs.Numbers.{numbers}
 use Rattle.image.proofs.inner.layout.length_place.Goals as goal
 
 pub overflow_add-result : goal.overflow_add-result
-overflow_add-result c = let n = numbers (format_of c.args.v) in omega (arith, n, c.lengths_at.ensures)
+overflow_add-result c = let n = numbers (format_of c.args.v) in omega (arith, n, c.layout.ensures.lengths_at)

@@ -12,14 +12,14 @@ use Rattle.image.proofs.inner.read.entry_at.Goals as goal
 pub entry_of-requires : goal.entry_of-requires
 entry_of-requires c =
     let n = numbers (format_of c.args.v) in
-    let long = length_part c.entry_place-at.result c.entry_size.result c.args.image.now
-    (omega (arith, c.entry_size.ensures, c.entry_place-at.ensures)) in
-    let same = cut c.entry_place-at.result c.entry_size.result (c.entry_place-at.result + c.entry_size.result) c.args.image.now refl in
-    rw same (omega (arith, n, long, c.entry_size.ensures))
+    let long = length_part c.entry_place-at.result c.layout.result.entry_size c.args.image.now
+    (omega (arith, c.layout.ensures.entry_size, c.entry_place-at.ensures)) in
+    let same = cut c.entry_place-at.result c.layout.result.entry_size (c.entry_place-at.result + c.layout.result.entry_size) c.args.image.now refl in
+    rw same (omega (arith, n, long, c.layout.ensures.entry_size))
 
 pub returns : goal.returns
 unfolding entry_at
 returns c =
     let at = c.entry_place-at.result in
-    let size = c.entry_size.result in
-    rw (c.entry_of.ensures, cut at size (at + size) c.args.image.now refl, c.entry_size.ensures, c.entry_place-at.ensures)
+    let size = c.layout.result.entry_size in
+    rw (c.entry_of.ensures, cut at size (at + size) c.args.image.now refl, c.layout.ensures.entry_size, c.entry_place-at.ensures)

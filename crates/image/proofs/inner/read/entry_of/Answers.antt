@@ -9,7 +9,7 @@ returns c =
       c.read_u16-5.ensures,
       c.length_place.ensures,
       c.read_u16-4.ensures,
-      c.original_at.ensures,
+      c.layout.ensures.original_at,
       c.read_u16-3.ensures,
       c.from_place.ensures,
       c.read_u16-2.ensures,

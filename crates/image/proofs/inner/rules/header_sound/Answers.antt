@@ -12,7 +12,7 @@ returns c =
       c.size_of.ensures,
       c.all_zero.ensures,
       c.shape_ok.ensures,
-      c.version.ensures,
+      c.layout.ensures.version,
       c.read_u16.ensures,
       c.read_u32.ensures,
       c.room-c.ensures,

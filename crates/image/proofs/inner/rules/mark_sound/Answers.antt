@@ -13,15 +13,15 @@ pub mark_in-requires : goal.mark_in-requires
 mark_in-requires c =
     let n = numbers (format_of c.args.v) in
     let at = c.entry_place-at.result in
-    let size = c.entry_size.result in
+    let size = c.layout.result.entry_size in
     let image = c.args.image.now in
-    let long = length_part at size image (omega (arith, c.entry_size.ensures, c.entry_place-at.ensures)) in
-    rw (cut at size (at + size) image refl) (omega (arith, n, long, c.entry_size.ensures))
+    let long = length_part at size image (omega (arith, c.layout.ensures.entry_size, c.entry_place-at.ensures)) in
+    rw (cut at size (at + size) image refl) (omega (arith, n, long, c.layout.ensures.entry_size))
 
 pub returns : goal.returns
 returns c =
     let at = c.entry_place-at.result in
-    let size = c.entry_size.result in
+    let size = c.layout.result.entry_size in
     let image = c.args.image.now in
     mark_there (format_of c.args.v) image c.args.k c.entry_place-at.ensures
-    (rw (cut at size (at + size) image refl, c.entry_size.ensures) at c.mark_in.ensures)
+    (rw (cut at size (at + size) image refl, c.layout.ensures.entry_size) at c.mark_in.ensures)

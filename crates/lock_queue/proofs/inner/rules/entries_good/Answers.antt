@@ -1,32 +1,16 @@
--- The loop: `kept` says whether the first i entries keep the rules. Assumes nothing.
-use native.Mathlib.Omega.{arith}
-use mathlib.Core.Path.{◌≡◌, refl}
-use Rattle.lock_queue.specs.Good.{distinct}
-use Rattle.lock_queue.specs.inner.Entries.{entries_good}
-use Rattle.lists.specs.Table.{all, all_from}
-use Rattle.lock_queue.proofs.Array.{places_long}
-use Rattle.lock_queue.proofs.Standing.{one_more}
-use Rattle.lock_queue.proofs.Behind.{entries_more}
+-- Each entry's test, behind those before it. Assumes nothing.
+use Rattle.std.proofs.Common.{◌∙◌, ℕ, rules, tests, take}
+use Rattle.std.proofs.lemmas.Iterator.{YieldsList-from_slice}
+use Rattle.std.proofs.lemmas.Iterator.Consumers.{YieldsList-from_enumerate}
+use Rattle.std.proofs.lemmas.Iterator.Search.{all_from_yields_List}
+use Rattle.lock_queue.specs.declared.Waiting.{Waiting}
+use Rattle.lock_queue.specs.inner.Entries.{fits_behind}
+use Rattle.lock_queue.proofs.Behind.{entries_all}
 use Rattle.lock_queue.proofs.inner.rules.entries_good.Goals as goal
-
-pub loop-i-init : goal.loop-i-init
-unfolding entries_good all all_from distinct
-loop-i-init c = (places_long c.args.places _ c.well_formed.0, omega arith, refl)
-
-pub loop-i-preserved : goal.loop-i-preserved
-loop-i-preserved c =
-    let turn = c.loop-i in (
-      turn.invariant.0,
-      omega arith,
-      rw (
-        one_more c.args.places.at {i = turn.i} (omega arith),
-        entries_more c.args.largest _ _,
-        turn.invariant.2,
-        c.entry_good-kept.ensures,
-      ),
-    )
 
 pub returns : goal.returns
 returns c =
-    let count : c.loop-i.i ≡ c.args.count = omega arith in
-    rw (c.loop-i.invariant.2, count)
+    let ws = c.args.standing.now in
+    all_from_yields_List (λ (e : ℕ × Waiting). fits_behind c.args.largest (take e.0 ws) e.1) _ _ c.all.result c.all.ensures.ran
+    (YieldsList-from_enumerate (YieldsList-from_slice _ (cc)) c.enumerate.ensures.count) (λ x b q k. search (rules, tests))
+    ∙ entries_all c.args.largest ws

@@ -1,24 +1,14 @@
 -- What is looked at, by the desk's first place. Assumes nothing.
-use Rattle.lock_queue.proofs.Array.{places_fit}
-use Rattle.lock_queue.proofs.Standing.{looked_found, looked_none}
+use native.Mathlib.Omega.{arith}
+use mathlib.Core.Path.{sym}
+use Rattle.lock_queue.proofs.Standing.{place_inside, looked_found, looked_none}
 use Rattle.lock_queue.proofs.inner.state.looked.Goals as goal
 
-pub returns-then-found-count : goal.returns-then-found-count
-returns-then-found-count c =
-    looked_found
-    c.args.desk
-    c.args.count
-    c.args.places.at
-    (places_fit c.args.places _ c.well_formed.0 c.requires)
-    c.place-found.ensures
-    c.if-found-count.true
+pub overflow_add-result : goal.overflow_add-result
+overflow_add-result c = let inside = place_inside c.args.desk c.args.standing.now (sym c.in-Some.ensures) in omega arith
 
-pub returns : goal.returns
-returns c =
-    looked_none
-    c.args.desk
-    c.args.count
-    c.args.places.at
-    (places_fit c.args.places _ c.well_formed.0 c.requires)
-    c.place-found.ensures
-    c.if-found-count.false
+pub returns-in-Some : goal.returns-in-Some
+returns-in-Some c = looked_found c.args.desk c.args.standing.now (sym c.in-Some.ensures)
+
+pub returns-in-None : goal.returns-in-None
+returns-in-None c = looked_none c.args.desk c.args.standing.now (sym c.in-None.ensures)

@@ -1,27 +1,16 @@
--- The loop: the desk does not stand before place i. Assumes nothing.
-use native.Mathlib.Omega.{arith}
-use mathlib.Core.Path.{sym, ◌∙◌}
-use Rattle.lock_queue.proofs.Array.{places_long}
-use Rattle.lock_queue.proofs.Standing.{from, ended, passed_none, passed_found, passed_more, passed_end}
+-- The search of the entries, and the place that it finds. Assumes nothing.
+use Rattle.std.proofs.Common.{◌≡◌, ◌∙◌, rules, tests, eqb}
+use Rattle.std.proofs.lemmas.Iterator.{YieldsList-from_slice}
+use Rattle.std.proofs.lemmas.Iterator.Search.{position_from_yields_List}
+use Rattle.std.specs.List.{position}
+use Rattle.lock_queue.specs.Queue.{desk}
+use Rattle.lock_queue.specs.declared.Waiting.{Waiting}
+use Rattle.lock_queue.proofs.Standing.{place_position}
 use Rattle.lock_queue.proofs.inner.state.place.Goals as goal
 
-pub loop-i-init : goal.loop-i-init
-loop-i-init c = (places_long c.args.places _ c.well_formed.0, omega arith, passed_none _ _)
-
-pub returns-then-desk_of-desk : goal.returns-then-desk_of-desk
-returns-then-desk_of-desk c =
-    let i = c.loop-i in
-    passed_found _ _ _ _ _ i.invariant.2 (from c.args.count c.args.places.at (omega arith) c.loop-i-test.true) (sym c.desk_of.ensures ∙ c.if-desk_of-desk.true)
-
-pub loop-i-preserved : goal.loop-i-preserved
-loop-i-preserved c =
-    let i = c.loop-i in (
-      i.invariant.0,
-      omega arith,
-      passed_more _ _ _ _ i.invariant.2
-          (from c.args.count c.args.places.at (omega arith) c.loop-i-test.true)
-          (λ e. c.if-desk_of-desk.false (c.desk_of.ensures ∙ e)),
-    )
-
 pub returns : goal.returns
-returns c = passed_end _ _ _ c.loop-i.invariant.2 (ended _ _ c.loop-i-test.false)
+returns c =
+    let found : c.position.result ≡ position (λ (w : Waiting). eqb (desk w) c.args.desk) c.args.standing.now =
+    position_from_yields_List (λ (w : Waiting). eqb (desk w) c.args.desk) _ _ c.position.result c.position.ensures.ran
+    (YieldsList-from_slice _ c.iter.ensures.rest) (λ x b q k. search (rules, tests)) in
+    found ∙ place_position c.args.desk c.args.standing.now

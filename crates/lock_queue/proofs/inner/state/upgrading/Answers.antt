@@ -1,14 +1,17 @@
 -- By the place where the desk first stands. Assumes nothing.
-use Rattle.lock_queue.proofs.Array.{places_fit}
+use Rattle.std.proofs.Common.{◌∙◌, sym, rules}
+use Rattle.lock_queue.proofs.Standing.{place_inside}
 use Rattle.lock_queue.proofs.Upgrades.{up_none, up_found}
 use Rattle.lock_queue.proofs.inner.state.upgrading.Goals as goal
 
-pub returns-then-count-found : goal.returns-then-count-found
-returns-then-count-found c =
-    up_none c.args.mode c.args.desk c.args.count c.args.places.at
-    (places_fit c.args.places _ c.well_formed.1.0 c.requires) c.place-found.ensures c.if-count-found.true
+pub offset_bounds-standing-i : goal.offset_bounds-standing-i
+offset_bounds-standing-i c = let inside = place_inside c.desk.result c.args.standing.now (sym c.in-Some.ensures) in search rules
 
-pub returns : goal.returns
-returns c =
-    up_found c.args.mode c.args.desk c.args.count c.args.places.at
-    (places_fit c.args.places _ c.well_formed.1.0 c.requires) c.place-found.ensures c.if-count-found.false
+pub bounds-standing-i : goal.bounds-standing-i
+bounds-standing-i c = place_inside c.desk.result c.args.standing.now (sym c.in-Some.ensures)
+
+pub returns-in-None : goal.returns-in-None
+returns-in-None c = rw (← c.desk.ensures, ← up_none c.args.new.mode c.desk.result c.args.standing.now (sym c.in-None.ensures))
+
+pub returns-in-Some : goal.returns-in-Some
+returns-in-Some c = up_found c.args.new.mode c.desk.result c.args.standing.now (sym c.in-Some.ensures) ∙ rw c.desk.ensures

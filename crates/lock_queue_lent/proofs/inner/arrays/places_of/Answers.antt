@@ -8,16 +8,13 @@ use Rattle.lock_queue_lent.proofs.inner.arrays.places_of.Goals as goal
 
 pub loop-i-init : goal.loop-i-init
 unfolding places_of
-loop-i-init c = (omega arith, filling_none _ _ (length_tabulate _ 32))
+loop-i-init c = filling_none _ _ (length_tabulate _ 32)
 
 pub loop-i-preserved : goal.loop-i-preserved
 unfolding places_of
-loop-i-preserved c = (
-  omega arith,
-  filling_more no_waiting _ c.loop-i.invariant.1 (rw length_tabulate c.loop-i-test.true)
-      (get_d_tabulate _ 32 _ no_waiting c.loop-i-test.true),
-)
+loop-i-preserved c =
+    filling_more no_waiting _ c.loop-i.invariant (rw length_tabulate (omega arith)) (get_d_tabulate _ 32 _ no_waiting (omega arith))
 
 pub returns : goal.returns
 unfolding places_of
-returns c = filling_done c.loop-i.invariant.1 (rw length_tabulate c.loop-i-test.false)
+returns c = filling_done c.loop-i.invariant (rw length_tabulate (omega arith))

@@ -27,7 +27,7 @@ pub put_line-to-requires : goal.put_line-to-requires
 put_line-to-requires c =
     let one = running_judged c.loop-line.invariant.0 c.loop-line.line c.loop-line.invariant.2 c.many-ran.ensures.ran c.if-ran-eq0.false in
     let w = running_within c.loop-line.invariant.0 _ one.0 in
-    (omega (arith, w.0, w.1, w.2, w.3), ap length one.1.0 ∙ per_line_lem _)
+    omega (arith, w.0, w.1, w.2, w.3)
 
 pub overflow_add-place : goal.overflow_add-place
 overflow_add-place c =

@@ -1,19 +1,14 @@
--- The loop: the sum of the bytes so far, far below the limit of its type. The measure is what is left of them. Assumes nothing.
+-- The library's sum, which does not wrap. Assumes nothing.
 use native.Mathlib.Omega.{arith}
-use Rattle.redo_log.proofs.Reading.{summing_none, summing_more, summing_done}
+use native.Mathlib.Nat.{mod-eq_of_lt}
+use mathlib.Core.Path.{sym, ◌∙◌, ◌≡◌}
+use Rattle.std.specs.List.{sum_by}
+use Rattle.std.proofs.lemmas.Grind.{common_steps}
+use Rattle.redo_log.proofs.Reading.{total_sum}
 use Rattle.redo_log.proofs.inner.reading.sum_of.Goals as goal
 
-pub loop-i-init : goal.loop-i-init
-loop-i-init c = summing_none _
-
-pub overflow_cast-sum : goal.overflow_cast-sum
-overflow_cast-sum c = omega (arith, c.type_inv.body c.loop-i.i)
-
-pub overflow_add-sum : goal.overflow_add-sum
-overflow_add-sum c = omega (arith, c.type_inv.body c.loop-i.i)
-
-pub loop-i-preserved : goal.loop-i-preserved
-loop-i-preserved c = summing_more _ _ _ c.loop-i-test.true (c.type_inv.body c.loop-i.i).fits c.loop-i.invariant
-
 pub returns : goal.returns
-returns c = summing_done _ _ _ c.requires c.loop-i-test.false c.loop-i.invariant
+returns c =
+    let whole : c.sum.result ≡ sum_by (λ (x : _). x) c.args.body.now = grind (arith, common_steps) in
+    let all = whole ∙ total_sum c.args.body.now in
+    all ∙ sym (mod-eq_of_lt (omega (arith, c.sum.type_inv, all)))

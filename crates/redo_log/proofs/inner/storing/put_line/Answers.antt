@@ -7,11 +7,11 @@ pub returns : goal.returns
 returns c =
     rw (
       c.put_number-4.ensures,
-      c.left-3.ensures,
+      c.saturating_sub-3.ensures,
       c.put_number-3.ensures,
-      c.left-2.ensures,
+      c.saturating_sub-2.ensures,
       c.put_number-2.ensures,
-      c.left.ensures,
+      c.saturating_sub.ensures,
       c.put_number.ensures,
     )
     (line_put c.args.budget c.args.at c.args.kind c.args.place _ c.args.body.now c.args.log.now

@@ -7,9 +7,9 @@ pub returns : goal.returns
 returns c =
     rw (
       c.put_number.ensures,
-      c.left-2.ensures,
+      c.saturating_sub-2.ensures,
       c.put_line.ensures,
-      c.left.ensures,
+      c.saturating_sub.ensures,
       c.put_bytes.ensures,
     )
     (store_put c.args.budget c.args.stop _ c.args.kind c.args.body.now c.args.log.now c.requires.0 refl

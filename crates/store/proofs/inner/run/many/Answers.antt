@@ -22,28 +22,28 @@ slice_bounds-next_at-end c = omega (arith, c.loop-count.invariant.0.walked.withi
 pub overflow_add-end : goal.overflow_add-end
 overflow_add-end c =
     let w = running_within c.loop-count.invariant.0 _
-    (rest_whole _ _ _ _ (sym c.next_at.ensures ∙ c.in-Whole.is))
+    (rest_whole _ _ _ _ (sym c.next_at.ensures ∙ c.in-Some.is))
     c.if-room-count.false in
     omega (arith, w.0, w.1, w.2, w.3, c.well_formed)
 
 pub slice_bounds-judge-count : goal.slice_bounds-judge-count
 slice_bounds-judge-count c =
     let w = running_within c.loop-count.invariant.0 _
-    (rest_whole _ _ _ _ (sym c.next_at.ensures ∙ c.in-Whole.is))
+    (rest_whole _ _ _ _ (sym c.next_at.ensures ∙ c.in-Some.is))
     c.if-room-count.false in
     omega (arith, w.0, w.1, w.2, w.3)
 
 pub slice_bounds-judge-start : goal.slice_bounds-judge-start
 slice_bounds-judge-start c =
     let w = running_within c.loop-count.invariant.0 _
-    (rest_whole _ _ _ _ (sym c.next_at.ensures ∙ c.in-Whole.is))
+    (rest_whole _ _ _ _ (sym c.next_at.ensures ∙ c.in-Some.is))
     c.if-room-count.false in
     omega (arith, w.0, w.1, w.2, w.3)
 
 pub slice_bounds-judge-end : goal.slice_bounds-judge-end
 slice_bounds-judge-end c =
     let w = running_within c.loop-count.invariant.0 _
-    (rest_whole _ _ _ _ (sym c.next_at.ensures ∙ c.in-Whole.is))
+    (rest_whole _ _ _ _ (sym c.next_at.ensures ∙ c.in-Some.is))
     c.if-room-count.false in
     omega (arith, w.0, w.1, w.2, w.3)
 
@@ -55,7 +55,7 @@ overflow_mul-count c =
     let w = running_within
     c.loop-count.invariant.0 _
     (rest_whole _ _ _ _ (sym c.next_at.ensures
-    ∙ c.in-Whole.is))
+    ∙ c.in-Some.is))
     c.if-room-count.false in
     let long : length c.loop-count.lines
     ≡ length c.args.lines.now =
@@ -75,7 +75,7 @@ put_line-requires c =
     let w = running_within
     c.loop-count.invariant.0 _
     (rest_whole _ _ _ _ (sym c.next_at.ensures
-    ∙ c.in-Whole.is))
+    ∙ c.in-Some.is))
     c.if-room-count.false in
     omega (arith, w.0, w.1, w.2, w.3)
 
@@ -85,7 +85,7 @@ overflow_add-count c =
     c.loop-count.invariant.0 _
     (rest_whole _ _ _ _ (sym
     c.next_at.ensures
-    ∙ c.in-Whole.is))
+    ∙ c.in-Some.is))
     c.if-room-count.false in
     omega (
       arith,
@@ -97,7 +97,7 @@ overflow_add-count c =
     )
 
 pub loop-count-smaller : goal.loop-count-smaller
-loop-count-smaller c = running_less c.loop-count.invariant.0 _ (rest_whole _ _ _ _ (sym c.next_at.ensures ∙ c.in-Whole.is))
+loop-count-smaller c = running_less c.loop-count.invariant.0 _ (rest_whole _ _ _ _ (sym c.next_at.ensures ∙ c.in-Some.is))
 
 pub loop-count-preserved : goal.loop-count-preserved
 loop-count-preserved c =
@@ -106,7 +106,7 @@ loop-count-preserved c =
           c.loop-count.invariant.0 _ _ _ _ _
           (rest_whole _ _ _ _ (sym
           c.next_at.ensures
-          ∙ c.in-Whole.is))
+          ∙ c.in-Some.is))
           c.if-room-count.false
           e.served.0 e.served.1.0 e.served.1.1 c.put_line.ensures (search rules) (search rules),
       e.kept,

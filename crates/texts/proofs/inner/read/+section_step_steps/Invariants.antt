@@ -1,7 +1,7 @@
 -- The cycle of calls of a section, its steps and a step: the nesting falls from a section to its steps, and the steps' loop counts them down. Assumes nothing.
-use Prim.Native.Nat.{◌+◌, ◌*◌}
+use Prim.Native.Nat.{ℕ, ◌+◌, ◌-◌, ◌*◌}
 use Rattle.texts.specs.inner.Read.{ReadsSteps}
-use Rattle.texts.specs.declared.inner.read.Extent.{Extent}
+use Rattle.std.specs.Prelude.{Option}
 use Rattle.texts.proofs.inner.read.+section_step_steps.Given as goal
 
 abbrev pub decreases-section : goal.decreases-section
@@ -14,8 +14,5 @@ abbrev pub decreases-steps : goal.decreases-steps
 decreases-steps l = 3 * l.nesting + 2
 
 -- Whatever the steps from here on are read as, the whole is.
-abbrev pub invariant-steps-loop-left : goal.invariant-steps-loop-left
-invariant-steps-loop-left l = (r : Extent) → ReadsSteps l.text l.next l.nesting l.left r → ReadsSteps l.text l.at l.nesting l.count r
-
-abbrev pub decreases-steps-loop-left : goal.decreases-steps-loop-left
-decreases-steps-loop-left l = l.left
+abbrev pub invariant-steps-loop : goal.invariant-steps-loop
+invariant-steps-loop l = (r : Option ℕ) → ReadsSteps l.text l.next l.nesting (l.count - l.counter) r → ReadsSteps l.text l.at l.nesting l.count r

@@ -1,9 +1,9 @@
 -- The cycle of calls of the walk over two texts: the nesting falls from two sections to their steps, and the steps' loop counts them down. Assumes nothing.
-use mathlib.Core.Path.{sym, subst}
-use Prim.Native.Nat.{◌+◌}
+use mathlib.Core.Path.{◌≡◌, sym, subst}
+use Rattle.std.proofs.lemmas.Result.{err_from_is_err_and}
+use Prim.Native.Nat.{◌+◌, ◌-◌}
 use native.Mathlib.Omega.{arith}
-use Rattle.texts.specs.inner.Walk.{StepsWalked}
-use Rattle.texts.specs.declared.inner.walk.Walk.TheVariants.{Same, Differ}
+use Rattle.texts.specs.inner.Walk.{same, differ, StepsWalked}
 use Rattle.texts.proofs.Walking.{
   places as same-places,
   opened_both,
@@ -18,8 +18,7 @@ use Rattle.texts.proofs.Walking.{
   sections_here,
   pair_sections,
   steps_done,
-  steps_fewer,
-  steps_more,
+  steps_unlike,
   pair_first,
   steps_differ,
   steps_behind,
@@ -104,31 +103,31 @@ step-returns-then-kind-b t c =
 pub step-behind_words-requires : goal.step-behind_words-requires
 step-behind_words-requires t c =
     let start = c.args in
-    (words_fit start.a.now start.i start.b.now start.j start.nesting c.if-kind-b.false c.if-kind-eq2.true c.requires).0
+    (words_fit start.a.now start.i start.b.now start.j start.nesting c.if-kind-b.false c.if-kind-eq-WORDS.true c.requires).0
 
-pub step-behind_words-requires-then-kind-eq2 : goal.step-behind_words-requires-then-kind-eq2
-step-behind_words-requires-then-kind-eq2 t c =
+pub step-behind_words-requires-then-kind-eq-WORDS : goal.step-behind_words-requires-then-kind-eq-WORDS
+step-behind_words-requires-then-kind-eq-WORDS t c =
     let start = c.args in
-    (words_fit start.a.now start.i start.b.now start.j start.nesting c.if-kind-b.false c.if-kind-eq2.true
+    (words_fit start.a.now start.i start.b.now start.j start.nesting c.if-kind-b.false c.if-kind-eq-WORDS.true
     c.requires).1
 
-pub step-returns-then-kind-eq2 : goal.step-returns-then-kind-eq2
-step-returns-then-kind-eq2 t c =
+pub step-returns-then-kind-eq-WORDS : goal.step-returns-then-kind-eq-WORDS
+step-returns-then-kind-eq-WORDS t c =
     let start = c.args in
     subst (StepsWalked start.a.now start.i start.b.now start.j start.nesting)
-    (same-places (sym c.behind_words.ensures) (sym c.behind_words-then-kind-eq2.ensures))
+    (same-places (sym c.behind_words.ensures) (sym c.behind_words-then-kind-eq-WORDS.ensures))
     (pair_words start.a.now start.i start.b.now start.j start.nesting c.if-kind-b.false
-    c.if-kind-eq2.true)
+    c.if-kind-eq-WORDS.true)
 
 pub step-degrees-requires : goal.step-degrees-requires
 step-degrees-requires t c =
     let start = c.args in
-    drops_fit start.a.now start.i start.b.now start.j start.nesting c.if-kind-b.false c.if-kind-eq3.true c.requires
+    drops_fit start.a.now start.i start.b.now start.j start.nesting c.if-kind-b.false c.if-kind-eq-DROP.true c.requires
 
-pub step-returns-then-kind-eq3 : goal.step-returns-then-kind-eq3
-step-returns-then-kind-eq3 t c =
+pub step-returns-then-kind-eq-DROP : goal.step-returns-then-kind-eq-DROP
+step-returns-then-kind-eq-DROP t c =
     let start = c.args in
-    pair_drops start.a.now start.i start.b.now start.j start.nesting c.if-kind-b.false _ c.if-kind-eq3.true c.degrees.ensures
+    pair_drops start.a.now start.i start.b.now start.j start.nesting c.if-kind-b.false _ c.if-kind-eq-DROP.true c.degrees.ensures
 
 pub step-overflow_add-i : goal.step-overflow_add-i
 step-overflow_add-i t c =
@@ -145,7 +144,7 @@ step-sections-requires t c =
     let start = c.args in (
       omega arith,
       sections_here start.a.now start.i start.b.now
-          start.j start.nesting c.if-kind-b.false c.if-kind-eq2.false c.if-kind-eq3.false
+          start.j start.nesting c.if-kind-b.false c.if-kind-eq-WORDS.false c.if-kind-eq-DROP.false
           c.requires,
     )
 
@@ -153,61 +152,53 @@ pub step-returns : goal.step-returns
 step-returns t c =
     let start = c.args in
     pair_sections start.a.now start.i start.b.now start.j start.nesting c.if-kind-b.false
-    c.if-kind-eq2.false c.if-kind-eq3.false _ c.sections.ensures
-
-pub steps-loop-left-init : goal.steps-loop-left-init
-steps-loop-left-init t c = (c.requires, (λ r walked. walked))
-
-pub steps-returns-then-other-eq0 : goal.steps-returns-then-other-eq0
-steps-returns-then-other-eq0 t c =
-    let start = c.args in
-    let here = c.loop-left in
-    here.invariant.1 (Differ here.x) (steps_more start.a.now here.x start.b.now here.y start.nesting (λ none. omega (arith, none, c.loop-left-test.true)) c.if-other-eq0.true)
+    c.if-kind-eq-WORDS.false c.if-kind-eq-DROP.false _ c.sections.ensures
 
 pub steps-step-requires : goal.steps-step-requires
 steps-step-requires t c =
     let start = c.args in
-    let here = c.loop-left in (
+    let here = c.loop in (
       omega arith,
       pair_first start.a.now here.x start.b.now here.y start.nesting
-          (λ none. omega (arith, none, c.loop-left-test.true)) c.if-other-eq0.false here.invariant.0,
+          (λ none. omega (arith, none, c.loop-test.true, c.min-end.ensures))
+          (λ none. omega (arith, none, c.loop-test.true, c.min-end.ensures)) here.invariant.2,
     )
 
-pub steps-returns-in-Differ : goal.steps-returns-in-Differ
-steps-returns-in-Differ t c =
+pub steps-returns-in_err-x : goal.steps-returns-in_err-x
+steps-returns-in_err-x t c =
     let start = c.args in
-    let here = c.loop-left in
-    let step = subst (StepsWalked start.a.now here.x start.b.now here.y start.nesting) c.in-Differ.is c.step.ensures in
-    here.invariant.1 _ (steps_differ start.a.now here.x start.b.now here.y start.nesting
-    (λ none. omega (arith, none, c.loop-left-test.true)) c.if-other-eq0.false _ step)
+    let here = c.loop in
+    let step = subst (StepsWalked start.a.now here.x start.b.now here.y start.nesting) c.in_err-x.was c.step.ensures in
+    let p = err_from_is_err_and c.from_residual.result c.from_residual.ensures.1 in
+    rw (p.1, p.2) (here.invariant.3 _ (steps_differ start.a.now here.x start.b.now here.y start.nesting
+    (λ none. omega (arith, none, c.loop-test.true, c.min-end.ensures))
+    (λ none. omega (arith, none, c.loop-test.true, c.min-end.ensures)) _ step))
 
-pub steps-loop-left-smaller : goal.steps-loop-left-smaller
-steps-loop-left-smaller t c = omega (arith, c.loop-left-test.true)
-
-pub steps-loop-left-preserved : goal.steps-loop-left-preserved
-steps-loop-left-preserved t c =
+pub steps-loop-preserved : goal.steps-loop-preserved
+steps-loop-preserved t c =
     let start = c.args in
-    let here = c.loop-left in
-    let step = subst (StepsWalked start.a.now here.x start.b.now here.y start.nesting) c.in-Same.is c.step.ensures in (
-      steps_behind start.a.now here.x start.b.now here.y start.nesting
-          (λ none. omega (arith, none, c.loop-left-test.true))
-          c.if-other-eq0.false _ _ step here.invariant.0,
-      (λ r walked. here.invariant.1 r
-          (steps_on start.a.now here.x start.b.now here.y start.nesting
-          (λ none. omega (arith, none, c.loop-left-test.true))
-          c.if-other-eq0.false _ _ step r walked)),
+    let here = c.loop in
+    let step = subst (StepsWalked start.a.now here.x start.b.now here.y start.nesting) c.in_ok-x.was c.step.ensures in
+    let some : start.many - here.counter ≡ 0 → ⊥ = λ none. omega (arith, none, c.loop-test.true, c.min-end.ensures) in
+    let more : start.more - here.counter ≡ 0 → ⊥ = λ none. omega (arith, none, c.loop-test.true, c.min-end.ensures) in
+    let one : start.many - (here.counter + 1) ≡ start.many - here.counter - 1 = omega arith in
+    let other : start.more - (here.counter + 1) ≡ start.more - here.counter - 1 = omega arith in (
+      omega (arith, c.loop-test.true, c.min-end.ensures),
+      omega (arith, c.loop-test.true, c.min-end.ensures),
+      rw (one, other) (steps_behind start.a.now here.x start.b.now here.y start.nesting some more _ _ step here.invariant.2),
+      rw (one, other) (λ r walked. here.invariant.3 r (steps_on start.a.now here.x start.b.now here.y start.nesting some more _ _ step r walked)),
     )
 
-pub steps-returns-then-other-gt0 : goal.steps-returns-then-other-gt0
-steps-returns-then-other-gt0 t c =
+pub steps-returns-then-many-more : goal.steps-returns-then-many-more
+steps-returns-then-many-more t c =
     let start = c.args in
-    let here = c.loop-left in
-    here.invariant.1 (Differ here.x)
-    (steps_fewer start.a.now here.x start.b.now here.y start.nesting (omega (arith, c.loop-left-test.false))
-    (λ none. omega (arith, none, c.if-other-gt0.true)))
+    let here = c.loop in
+    here.invariant.3 (differ here.x) (steps_unlike start.a.now here.x start.b.now here.y start.nesting start.many start.more here.counter
+    c.if-many-more.true here.invariant.0 here.invariant.1 (omega (arith, c.loop-test.false, c.min-end.ensures)))
 
 pub steps-returns : goal.steps-returns
 steps-returns t c =
     let start = c.args in
-    let here = c.loop-left in
-    here.invariant.1 (Same here.x here.y) (steps_done start.a.now here.x start.b.now here.y start.nesting (omega (arith, c.loop-left-test.false)) (omega (arith, c.if-other-gt0.false)))
+    let here = c.loop in
+    here.invariant.3 (same here.x here.y) (steps_done start.a.now here.x start.b.now here.y start.nesting
+    (omega (arith, c.loop-test.false, c.min-end.ensures, c.if-many-more.false)) (omega (arith, c.loop-test.false, c.min-end.ensures, c.if-many-more.false)))
