@@ -1,15 +1,13 @@
 -- What a desk knows of one card, what it learns and the pairs that it proposes (docs/RULES.md, section 10; Minuet, section 3.2: a client's MaxTs and MaxTx
 -- for a resource, and ProposedTs, ProposedTx).
 -- Assumes nothing.
-use Rattle.std.specs.Prelude.{ℕ, ◌+◌, List, [], ◌∷◌, cond, not, ◌&&◌, ◌||◌, ltb, eqb, Result, Ok, Err}
+use Rattle.std.specs.Prelude.{ℕ, ◌+◌, List, [], ◌∷◌, cond, not, ◌&&◌, ◌||◌, ltb, eqb}
 use Rattle.lists.specs.Table.{Row, row, first, settled}
 use Rattle.stamps.specs.Stamp.{stamp, stamp_t, shared, exclusive, own, larger_of_each, no_pair}
 use Rattle.stamps.specs.declared.Pair.{Pair}
 use Rattle.desk_proposals.specs.declared.Known.{Known}
 use Rattle.desk_proposals.specs.declared.Proposed.{Proposed}
 use Rattle.numbers.specs.Numbers.{MALFORMED, NO_STAMP_LEFT}
-use Rattle.numbers.specs.declared.Refusal.{Refusal}
-use Rattle.numbers.specs.declared.Refusal.TheVariants.{NoStampLeft}
 
 -- Rule 10.2: a desk learns a pair, both stamps at once, and then knows the larger of each.
 unfoldable pub learnt : Known → Pair → Known
@@ -26,10 +24,6 @@ own_above desk start n = stamp (next_t desk start n) desk start
 -- The largest T that a stamp has room for: 32 bits.
 abbrev pub last_t : ℕ
 last_t = 4294967295
-
--- The same stamp, or that none is left (rule 10.6).
-abbrev pub stamp_left : ℕ → ℕ → ℕ → Result ℕ Refusal
-stamp_left desk start n = cond (ltb last_t (next_t desk start n)) (Err NoStampLeft) (Ok (own_above desk start n))
 
 -- Rules 10.4 and 10.5: a shared proposal keeps the known x and passes the known s, an exclusive one keeps the known s and passes the known x.
 unfoldable pub pair_for : Known → ℕ → Pair

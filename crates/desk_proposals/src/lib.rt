@@ -6,7 +6,7 @@ pub mod inner;
 ghost use Rattle.std.specs.Prelude.{◌≡◌};
 ghost use Rattle.desk_proposals.specs.Propose.{learnt, proposed};
 
-use numbers::ACCEPTED;
+use numbers::{ACCEPTED, number_of};
 use stamps::{NO_PAIR, Pair, larger_of_each};
 
 // What a desk knows of one card: its own desk and start, and the largest s and x that it has heard of there.
@@ -41,17 +41,19 @@ impl Known {
     pub fn propose(self, mode: u8) -> Proposed
         ensures { result ≡ proposed self mode }
     {
-        match inner::pair_for(self, mode) {
-            Ok(pair) => Proposed {
-                number: ACCEPTED,
-                pair,
-                known: self.learn(pair),
-            },
-            Err(refusal) => Proposed {
-                number: refusal as u8,
+        let number = number_of(inner::may_propose(self, mode));
+        if number != ACCEPTED {
+            return Proposed {
+                number,
                 pair: NO_PAIR,
                 known: self,
-            },
+            };
+        }
+        let pair = inner::pair_for(self, mode);
+        Proposed {
+            number,
+            pair,
+            known: self.learn(pair),
         }
     }
 }

@@ -147,7 +147,7 @@ fn write(image: &mut [u8], pair: Pair, body: &[u8]) -> u8
 }
 
 // The write of a record, which is an update, under the pair of its card.
-pub fn apply<'a>(image: &mut [u8], pairs: &LentPairs<'a>, record: &Record) -> u8
+pub(crate) fn apply<'a>(image: &mut [u8], pairs: &LentPairs<'a>, record: &Record) -> u8
     requires { (sound V1 image.old ≡ true) × (record.now.kind ≡ 2) }
     ensures number { result ≡ (write_outcome (pairs_in pairs.now) image.old (as_record record.now).entry).answer.number }
     ensures image { image.new ≡ (write_outcome (pairs_in pairs.now) image.old (as_record record.now).entry).image }

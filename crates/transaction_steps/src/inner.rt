@@ -70,10 +70,17 @@ fn transaction_after(is: bool, last: u32, before: u32) -> u32
 }
 
 // What the log says of a card, with one record more.
-fn with_record(log: &CheckedLog, record: &Record, card: u16, reach: u16, found: Survey) -> Survey
+fn with_record(
+    log: &CheckedLog,
+    record: &Record,
+    card: u16,
+    reach: u16,
+    begun: u32,
+    found: Survey,
+) -> Survey
     requires { (as_record record.now ≡ placed_at log.now.bytes.now record.now.line) × (record.now.line < record_count log.now.bytes.now)
-        × (found ≡ surveyed (records log.now.bytes.now) card reach log.now.last record.now.line) }
-    ensures { result ≡ surveyed (records log.now.bytes.now) card reach log.now.last (record.now.line + 1) }
+        × (found ≡ surveyed (records log.now.bytes.now) card reach begun record.now.line) }
+    ensures { result ≡ surveyed (records log.now.bytes.now) card reach begun (record.now.line + 1) }
 {
     if !is_update_of(record, card) {
         return found;
@@ -83,13 +90,13 @@ fn with_record(log: &CheckedLog, record: &Record, card: u16, reach: u16, found: 
         due: found.due | is,
         line: line_after(found.line, reach, record.line as u16, is),
         transaction: transaction_after(is, record.transaction, found.transaction),
-        changed: found.changed | (record.transaction == log.last),
+        changed: found.changed | (record.transaction == begun),
     }
 }
 
 // What the log says of a card, record by record.
-pub fn survey_of(log: &CheckedLog, card: u16, reach: u16) -> Survey
-    ensures { result ≡ surveyed (records log.now.bytes.now) card reach log.now.last (record_count log.now.bytes.now) }
+pub fn survey_of(log: &CheckedLog, card: u16, reach: u16, begun: u32) -> Survey
+    ensures { result ≡ surveyed (records log.now.bytes.now) card reach begun (record_count log.now.bytes.now) }
 {
     let mut found = Survey {
         due: false,
@@ -98,7 +105,7 @@ pub fn survey_of(log: &CheckedLog, card: u16, reach: u16) -> Survey
         changed: false,
     };
     for record in log.records() {
-        found = with_record(log, &record, card, reach, found);
+        found = with_record(log, &record, card, reach, begun, found);
     }
     found
 }

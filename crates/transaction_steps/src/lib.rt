@@ -82,7 +82,7 @@ pub fn next_step(log: &[u8], desk: u16, card: u16, going: bool, seen: LastSeen) 
     if !seen.known {
         return NextStep::Look;
     }
-    let found = inner::survey_of(&log, card, seen.reach);
+    let found = inner::survey_of(&log, card, seen.reach, log.last);
     if found.due {
         return inner::finish(desk, seen.mark, found.line, found.transaction);
     }

@@ -1,17 +1,21 @@
--- The stamp that is left above the known one. Assumes nothing.
 use borrow.Author.Tests.{eq-eqb, ne_eqb}
 use Rattle.desk_proposals.specs.Propose.{pair_for}
-use Rattle.desk_proposals.proofs.Propose.{left_is}
 use Rattle.desk_proposals.proofs.inner.pair_for.Goals as goal
 
-pub returns-then-mode-eq-EXCLUSIVE-clause-made : goal.returns-then-mode-eq-EXCLUSIVE-clause-made
-unfolding pair_for
-returns-then-mode-eq-EXCLUSIVE-clause-made c =
-    let known = c.args.known in
-    rw (eq-eqb _ _ c.if-mode-eq-EXCLUSIVE.true, left_is known.desk known.start known.pair.x c.in_ok-x.ensures)
+-- src/lib.rt:98:20
+pub own_above-requires : goal.own_above-requires
+own_above-requires c = rw (eq-eqb _ _ c.if-mode-eq-EXCLUSIVE.true) at c.requires
 
-pub returns-clause-made : goal.returns-clause-made
+-- src/lib.rt:96:13
+pub returns-then-mode-eq-EXCLUSIVE : goal.returns-then-mode-eq-EXCLUSIVE
 unfolding pair_for
-returns-clause-made c =
-    let known = c.args.known in
-    rw (ne_eqb _ _ c.if-mode-eq-EXCLUSIVE.false, left_is known.desk known.start known.pair.s c.in_ok-s.ensures)
+returns-then-mode-eq-EXCLUSIVE c = rw (eq-eqb _ _ c.if-mode-eq-EXCLUSIVE.true, c.own_above.ensures)
+
+-- src/lib.rt:102:16
+pub own_above-requires-2 : goal.own_above-requires-2
+own_above-requires-2 c = rw (ne_eqb _ _ c.if-mode-eq-EXCLUSIVE.false) at c.requires
+
+-- src/lib.rt:90:5
+pub returns : goal.returns
+unfolding pair_for
+returns c = rw (ne_eqb _ _ c.if-mode-eq-EXCLUSIVE.false, c.own_above-2.ensures)

@@ -15,7 +15,7 @@ loop-record-init c =
     record {
       left_is = rw c.into_iter-record-iterator.ensures.into_iter_gives c.records-record-items.ensures;
       within = omega arith;
-      so_far = surveyed_none (records c.args.log.now.bytes.now) c.args.card c.args.reach c.args.log.now.last;
+      so_far = surveyed_none (records c.args.log.now.bytes.now) c.args.card c.args.reach c.args.begun;
     }
 
 pub with_record-found-requires : goal.with_record-found-requires
@@ -24,7 +24,7 @@ with_record-found-requires c =
     let line : c.in-Some.record.line ≡ length c.loop-record.yielded = ap (λ (p : Placed). p.line) turn.1 in (
       turn.1 ∙ ap (placed_at c.args.log.now.bytes.now) (sym line),
       subst (λ (n : ℕ). n < record_count c.args.log.now.bytes.now) (sym line) turn.0,
-      c.loop-record.invariant.so_far ∙ ap (surveyed (records c.args.log.now.bytes.now) c.args.card c.args.reach c.args.log.now.last) (sym line),
+      c.loop-record.invariant.so_far ∙ ap (surveyed (records c.args.log.now.bytes.now) c.args.card c.args.reach c.args.begun) (sym line),
     )
 
 pub loop-record-preserved : goal.loop-record-preserved
@@ -35,11 +35,11 @@ loop-record-preserved c =
     (record {
       left_is = turn.2;
       within = omega (arith, turn.0);
-      so_far = c.with_record-found.ensures ∙ ap (λ (n : ℕ). surveyed (records c.args.log.now.bytes.now) c.args.card c.args.reach c.args.log.now.last (n + 1)) line;
+      so_far = c.with_record-found.ensures ∙ ap (λ (n : ℕ). surveyed (records c.args.log.now.bytes.now) c.args.card c.args.reach c.args.begun (n + 1)) line;
     })
 
 pub returns : goal.returns
 returns c =
     let past = ended c.args.log.now.bytes.now (length c.loop-record.yielded) _ c.loop-record.invariant.left_is c.in-None.ensures.steps.0 in
     let all : length c.loop-record.yielded ≡ record_count c.args.log.now.bytes.now = omega (arith, past, c.loop-record.invariant.within) in
-    c.loop-record.invariant.so_far ∙ ap (surveyed (records c.args.log.now.bytes.now) c.args.card c.args.reach c.args.log.now.last) all
+    c.loop-record.invariant.so_far ∙ ap (surveyed (records c.args.log.now.bytes.now) c.args.card c.args.reach c.args.begun) all

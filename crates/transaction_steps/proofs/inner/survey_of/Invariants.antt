@@ -12,5 +12,5 @@ abbrev pub invariant-loop-record : goal.invariant-loop-record
 invariant-loop-record l = record {
   left_is : records_left l.record-iterator ≡ drop (length l.yielded) (places l.log.bytes.now);
   within : length l.yielded ≤ record_count l.log.bytes.now;
-  so_far : l.found ≡ surveyed (records l.log.bytes.now) l.card l.reach l.log.last (length l.yielded);
+  so_far : l.found ≡ surveyed (records l.log.bytes.now) l.card l.reach l.begun (length l.yielded);
 }

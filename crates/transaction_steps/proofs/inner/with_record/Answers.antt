@@ -10,12 +10,12 @@ use Rattle.transaction_steps.proofs.inner.with_record.Goals as goal
 pub returns-then-not-is_update_of : goal.returns-then-not-is_update_of
 returns-then-not-is_update_of c =
     c.requires.2
-    ∙ surveyed_same (records c.args.log.now.bytes.now) c.args.card c.args.reach c.args.log.now.last c.args.record.now.line
+    ∙ surveyed_same (records c.args.log.now.bytes.now) c.args.card c.args.reach c.args.begun c.args.record.now.line
     (sym (update_there c.args.log.now.bytes.now c.args.record.now.line c.args.card c.requires.1 c.requires.0) ∙ sym c.is_update_of.ensures ∙ c.if-not-is_update_of.true)
 
 pub returns : goal.returns
 returns c =
-    surveyed_with (records c.args.log.now.bytes.now) c.args.card c.args.reach c.args.log.now.last c.args.record.now.line c.args.found
+    surveyed_with (records c.args.log.now.bytes.now) c.args.card c.args.reach c.args.begun c.args.record.now.line c.args.found
     c.requires.2
     (sym (update_there c.args.log.now.bytes.now c.args.record.now.line c.args.card c.requires.1 c.requires.0) ∙ sym c.is_update_of.ensures ∙ c.if-not-is_update_of.false)
     (c.is_due-is.ensures ∙ ap (due_by (records c.args.log.now.bytes.now)) c.requires.0 ∙ due_at c.args.log.now.bytes.now c.args.record.now.line c.requires.1)
