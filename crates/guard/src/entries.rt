@@ -3,7 +3,6 @@ ghost use Rattle.guard.specs.Judge.{judged};
 
 use crate::{Entry, Judged};
 use commands::Command;
-use commands::formed::Formed;
 use numbers::MALFORMED;
 
 impl Entry {
@@ -18,10 +17,6 @@ impl Entry {
                 entry: self,
             };
         }
-        let formed = Formed {
-            command: c,
-            pair: c.update(),
-        };
-        self.judge_formed(formed, room, lent)
+        self.judge_formed(c, room, lent)
     }
 }

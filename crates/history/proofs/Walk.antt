@@ -3,17 +3,18 @@
 use Prim.Native.Nat.{ℕ, ◌+◌, ◌-◌, ◌*◌, ◌≤◌, ◌<◌}
 use native.Mathlib.Omega.{arith}
 use native.Mathlib.Nat.{zero-add}
-use mathlib.Core.Path.{◌≡◌, refl, sym, ap, ◌∙◌}
+use mathlib.Core.Path.{◌≡◌, refl, sym, ap, subst, ◌∙◌}
 use mathlib.Core.Logic.{◌⊎◌, inl, inr}
-use mathlib.Core.List.{List, [], ◌∷◌, reverse, reverse_aux}
+use mathlib.Core.List.{List, [], ◌∷◌, ◌++◌, append_assoc, reverse, reverse_aux}
 use mathlib.Core.Bool.{Bool, true, false, cond, ◌&&◌}
 use lib.Dec.{eqb}
 use borrow.Author.Tests.{ne_eqb}
-use lib.ListN.{length, take, drop, length-append, length-drop}
+use lib.ListN.{length, take, drop, length-append, length-drop, take-append-drop}
 use lib.Seq.{take_all}
 use Rattle.formats.specs.Format.{V1, fixed, format_of}
 use Rattle.formats.proofs.Numbers.{numbers}
 use Rattle.lists.specs.Parts.{concat_map}
+use Rattle.lists.proofs.Parts.{part_middle}
 use Rattle.lists.proofs.Tests.{cases}
 use Rattle.commands.specs.Command.{original, writes}
 use Rattle.commands.specs.declared.Command.{Command}
@@ -28,7 +29,7 @@ use Rattle.stream.proofs.Walks as walk
 use Rattle.history.specs.WorkedOut.{concerns, entry_from, highest, times_written}
 use Rattle.history.proofs.Raised.{entry_here, entry_other}
 use Rattle.history.specs.Lent.{history_size}
-use Rattle.history.specs.inner.Steps.{written_by, Measured}
+use Rattle.history.specs.inner.Steps.{written_by, LiesIn, Measured}
 
 module _ {B : Type 0} (step : B → List ℕ → B) where
   -- One command after another.
@@ -206,6 +207,55 @@ put_here act k t command e = rw e (take_all _ (drop (fixed V1) command) (simp le
 pub put_other : (act k : ℕ) (t command : List ℕ) → (eqb (fields_of V1 command).card k && eqb (fields_of V1 command).act act) ≡ false → t ≡ puts act k t command
 unfolding puts
 put_other act k t command e = rw e
+
+-- ---- where a text lies
+
+-- Bytes that stand between others lie in the whole.
+lies_middle : (before text after : List ℕ) → LiesIn (before ++ (text ++ after)) text
+lies_middle before text after =
+    record {
+      place = length before;
+      inside = simp length-append (omega arith);
+      is = part_middle (length before) (length text) before text after refl refl;
+    }
+
+-- The payload of a command lies where the command does.
+lies_payload : (before c after : List ℕ) → LiesIn (before ++ (c ++ after)) (payload V1 c)
+unfolding payload
+lies_payload before c after =
+    subst (λ (bytes : List ℕ). LiesIn bytes (drop (fixed V1) c)) whole (lies_middle (before ++ take (fixed V1) c) (drop (fixed V1) c) after)
+  where
+    whole : (before ++ take (fixed V1) c) ++ (drop (fixed V1) c ++ after) ≡ before ++ (c ++ after)
+    whole =
+        append_assoc before (take (fixed V1) c) (drop (fixed V1) c ++ after)
+        ∙ ap (λ (l : List ℕ). before ++ l) (sym (append_assoc (take (fixed V1) c) (drop (fixed V1) c) after)
+        ∙ ap (λ (l : List ℕ). l ++ after) (take-append-drop (fixed V1) c))
+
+-- The text that a walk works out lies in the bytes that the walk goes over, if the one that it begins with does.
+lies_over : (act k : ℕ) (cs : List (List ℕ)) (before after t : List ℕ) → LiesIn (before ++ (end_to_end cs ++ after)) t
+    → LiesIn (before ++ (end_to_end cs ++ after)) (over (puts act k) t cs)
+unfolding over puts concat_map
+lies_over act k [] before after t h = h
+lies_over act k (c ∷ cs) before after t h =
+    subst (λ (bytes : List ℕ). LiesIn bytes (over (puts act k) (puts act k t c) cs)) (sym whole)
+    (lies_over act k cs (before ++ c) after (puts act k t c) (subst (λ (bytes : List ℕ). LiesIn bytes (puts act k t c)) whole (put (concerns k c && eqb (fields_of V1 c).act act))))
+  where
+    inside : before ++ (c ++ end_to_end cs ++ after) ≡ before ++ (c ++ (end_to_end cs ++ after))
+    inside = ap (λ (l : List ℕ). before ++ l) (append_assoc c (end_to_end cs) after)
+
+    whole : before ++ (c ++ end_to_end cs ++ after) ≡ before ++ c ++ (end_to_end cs ++ after)
+    whole = inside ∙ sym (append_assoc before c (end_to_end cs ++ after))
+
+    put : (b : Bool) → LiesIn (before ++ (c ++ end_to_end cs ++ after)) (cond b (payload V1 c) t)
+    put true = subst (λ (bytes : List ℕ). LiesIn bytes (payload V1 c)) (sym inside) (lies_payload before c (end_to_end cs ++ after))
+    put false = h
+
+-- The text of a card, of either act, lies in the kept bytes.
+pub written_lies : (act k : ℕ) (s : List ℕ) → LiesIn s (written_by act (reverse (commands V1 s)) k)
+written_lies act k s =
+    subst (λ (text : List ℕ). LiesIn s text) (text_none act k s)
+    (subst (λ (bytes : List ℕ). LiesIn bytes (over (puts act k) [] (commands V1 s))) (walk.joined V1 s)
+    (lies_over act k (commands V1 s) [] (drop (end_of V1 s) s) [] (lies_middle [] [] (end_to_end (commands V1 s) ++ drop (end_of V1 s) s))))
 
 pub never_spent : (e : Entry) (c : Command) → e.edition < last_edition → editions_spent e c ≡ false
 never_spent e c h = rw (ne_eqb e.edition last_edition (λ z. omega arith)) (go (writes original c))

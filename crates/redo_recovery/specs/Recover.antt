@@ -3,7 +3,7 @@
 use Rattle.std.specs.Prelude.{ℕ, List, Result, Ok, Err}
 use Rattle.redo_recovery_model.specs.Recovery.{Pairs, recovered}
 use Rattle.redo_recovery.specs.declared.LentPairs.{LentPairs}
-use Rattle.redo_recovery.specs.declared.Stopped.{Stopped}
+use Rattle.redo_recovery.specs.declared.stops.Stopped.{Stopped}
 
 -- The pairs in two lent slices, by card.
 abbrev pub pairs_of : List ℕ → List ℕ → Pairs

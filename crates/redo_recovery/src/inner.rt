@@ -13,7 +13,6 @@ ghost use Rattle.redo_recovery.specs.Recover.{pairs_in};
 
 use crate::LentPairs;
 use commands::Command;
-use commands::formed::Formed;
 use formats::Version;
 use guard::Entry;
 use redo_log::inner::reading::{COMMIT, SYNCED, UPDATE};
@@ -127,11 +126,7 @@ fn carry_out(image: &mut [u8], c: Command, text: &[u8]) -> u8
         return numbers::NO_CARD;
     }
     let mut none = [0u8; 0];
-    let formed = Formed {
-        command: c,
-        pair: c.update(),
-    };
-    let a = store::inner::step::carry(Version::V1, image, formed, text, &mut none);
+    let a = store::inner::step::carry(Version::V1, image, c, c.update(), text, &mut none);
     a.number
 }
 

@@ -2,6 +2,7 @@
 #![tactic(auto)]
 
 pub mod inner;
+pub mod stops;
 
 ghost use Rattle.std.specs.Prelude.{◌≡◌};
 ghost use Rattle.redo_recovery_model.specs.Recovery.{recovered};
@@ -10,20 +11,13 @@ ghost use Rattle.redo_recovery.specs.Recover.{pairs_in, recovery_told, recovery_
 use formats::Version;
 use numbers::{ACCEPTED, BAD_LOG, UNSOUND};
 use redo_log::inner::records::CheckedLog;
+pub use stops::Stopped;
 
 // Lent pairs: the s and the x of each card, by number. A card beyond the end of a list has a zero there.
 #[derive(Clone, Copy)]
 pub struct LentPairs<'a> {
     pub s: &'a [u64],
     pub x: &'a [u64],
-}
-
-// Where recovery stopped: the number of the write that was refused and the line of its record, or 23 and line 0 for a log that is not good.
-// Kept: `number` is the one in the guard's answer to the write (`guard::Answer`): a `Refusal` would be made of it here, and a number again for `recovery_answer`.
-#[derive(Clone, Copy)]
-pub struct Stopped {
-    pub number: u8,
-    pub line: u8,
 }
 
 // Brings an image up to date from a log, under the exclusive pairs given by card. What was written before a refusal stays.

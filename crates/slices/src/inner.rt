@@ -28,13 +28,15 @@ pub fn write(s: &mut [u8], at: usize, count: usize, value: u64)
     }
 }
 
-// Copies the whole of `v` into `s` from `at` on.
-#[tactic(auto, using(crate::proofs::Written::written_part))]
+// Copies the whole of `v` into `s` from `at` on, byte after byte.
+// Kept: no `copy_from_slice`, which is the C library's `memmove` and may begin anywhere: the stores of an append go by rising offset (rule 11.10).
 pub fn put(s: &mut [u8], at: usize, v: &[u8])
     requires { at + length v.now ≤ length s.old }
     ensures { s.new ≡ splice at v.now s.old }
 {
-    s[at..at + v.len()].copy_from_slice(v);
+    for (i, b) in v.iter().enumerate() {
+        s[at + i] = *b;
+    }
 }
 
 // The most bytes that are copied at once.

@@ -14,6 +14,7 @@ use inner::run::PER_LINE;
 // Kept: the number and seven fields as C has them, with a refusal too: `ServesTo` speaks of the eight numbers of an answer.
 // One request: a command of a version judged on an image of that version. It gives the number and the seven reply fields, and leaves the image and
 // the reply buffer as the rules say; every refusal leaves both as they were.
+#[tactic(auto, using(crate::proofs::Line::line_numbers), unfolding(crate::specs::Runs::numbers_of))]
 pub fn answer(
     v: Version,
     image: &mut [u8],

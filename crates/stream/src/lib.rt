@@ -75,12 +75,14 @@ impl<'a> Iterator for Reader<'a> {
 // ---- The walk to the end.
 
 // The byte where the first command of a version that is not whole begins, or the stream's end.
+// Kept: from place to place, and no sum over a reader: the compiler does not see that the sum is the reader's place, and an edit of where the walk
+// begins (`walk_from_one`) is one number here.
 pub fn end_of(v: Version, stream: &[u8]) -> usize
     ensures { result ≡ end_of (format_of v) stream.now }
 {
-    let mut end = 0;
-    for command in Reader::new(v, stream) {
-        end += command.len();
+    let mut at = 0;
+    while let Some(end) = next_at(v, stream, at) {
+        at = end;
     }
-    end
+    at
 }

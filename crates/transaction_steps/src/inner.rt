@@ -1,6 +1,6 @@
 // Steps of the operations, and what asks something of its caller.
-ghost use Rattle.std.specs.Prelude.{◌≡◌, cond, ◌&&◌, ◌+◌, ◌<◌, eqb, leb};
-ghost use Rattle.redo_log.specs.Log.{record_count, records, update_kind, record_card};
+ghost use Rattle.std.specs.Prelude.{◌≡◌, true, cond, ◌&&◌, ◌+◌, ◌<◌, eqb, leb};
+ghost use Rattle.redo_log.specs.Log.{good_log, record_count, records, update_kind, record_card};
 ghost use Rattle.redo_log.specs.inner.Placed.{placed_at};
 ghost use Rattle.redo_log.specs.inner.Shown.{as_record};
 ghost use Rattle.transactions.specs.System.{nothing_due};
@@ -95,7 +95,7 @@ fn with_record(
 }
 
 // What the log says of a card, record by record.
-pub fn survey_of(log: &CheckedLog, card: u16, reach: u16, begun: u32) -> Survey
+pub fn survey_records(log: &CheckedLog, card: u16, reach: u16, begun: u32) -> Survey
     ensures { result ≡ surveyed (records log.now.bytes.now) card reach begun (record_count log.now.bytes.now) }
 {
     let mut found = Survey {
@@ -108,6 +108,15 @@ pub fn survey_of(log: &CheckedLog, card: u16, reach: u16, begun: u32) -> Survey
         found = with_record(log, &record, card, reach, begun, found);
     }
     found
+}
+
+// The same by a log's bytes, of which the caller knows that they are good.
+pub fn survey_of(log: &[u8], card: u16, reach: u16, begun: u32) -> Survey
+    requires { good_log log.now ≡ true }
+    ensures { result ≡ surveyed (records log.now) card reach begun (record_count log.now) }
+{
+    let good = CheckedLog::of(log).unwrap();
+    survey_records(&good, card, reach, begun)
 }
 
 // The step for a card of which something is due.
@@ -140,7 +149,7 @@ pub fn make_ready(desk: u16, seen: LastSeen) -> NextStep
 }
 
 // Whether no record of a log is due.
-pub fn none_due(log: &CheckedLog) -> bool
+pub fn none_is_due(log: &CheckedLog) -> bool
     ensures { result ≡ nothing_due (records log.now.bytes.now) }
 {
     for record in log.records() {
@@ -149,4 +158,13 @@ pub fn none_due(log: &CheckedLog) -> bool
         }
     }
     true
+}
+
+// The same by a log's bytes, of which the caller knows that they are good.
+pub fn none_due(log: &[u8]) -> bool
+    requires { good_log log.now ≡ true }
+    ensures { result ≡ nothing_due (records log.now) }
+{
+    let good = CheckedLog::of(log).unwrap();
+    none_is_due(&good)
 }

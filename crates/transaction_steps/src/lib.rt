@@ -82,7 +82,7 @@ pub fn next_step(log: &[u8], desk: u16, card: u16, going: bool, seen: LastSeen) 
     if !seen.known {
         return NextStep::Look;
     }
-    let found = inner::survey_of(&log, card, seen.reach, log.last);
+    let found = inner::survey_records(&log, card, seen.reach, log.last);
     if found.due {
         return inner::finish(desk, seen.mark, found.line, found.transaction);
     }
@@ -103,7 +103,7 @@ pub fn begin_again(log: &mut [u8]) -> bool
     let Some(good) = CheckedLog::of(log) else {
         return false;
     };
-    if !inner::none_due(&good) {
+    if !inner::none_is_due(&good) {
         return false;
     }
     log[0] = 0;

@@ -1,15 +1,16 @@
 // The table's rows from 3 on, for a command that is well formed.
-ghost use Rattle.std.specs.Prelude.{◌≡◌, cond, ltb};
+ghost use Rattle.std.specs.Prelude.{◌≡◌, true, cond, ltb};
 ghost use Rattle.guard.specs.Judge.{act_rows, entry_rows, judged};
+ghost use Rattle.commands.specs.Command.{update, well_formed};
 ghost use Rattle.lists.specs.Table.{first};
 ghost use Rattle.numbers.specs.Numbers.{REPLY_SHORT};
 ghost use Rattle.numbers.specs.Refusals.{number_of};
 
 use crate::{Entry, Judged, behind};
-use commands::VERIFY;
 use commands::formed::Formed;
+use commands::{Command, VERIFY};
 use numbers::{Refusal, number_of};
-use stamps::{mark_fits, stale, too_far};
+use stamps::{Pair, mark_fits, stale, too_far};
 
 // The edition that no write can raise.
 const LAST_EDITION: u16 = 65535;
@@ -76,11 +77,28 @@ impl Entry {
         self.act_outcome(formed, room, lent)
     }
 
+    // The number of the first row from 3 on that applies, to a well-formed command whose update pair is `new`.
+    pub fn number(self, c: Command, new: Pair, room: u16, lent: usize) -> u8
+        requires { (well_formed c ≡ true) × (new ≡ update c) }
+        ensures { result ≡ first (entry_rows self c room lent) }
+    {
+        let formed = Formed {
+            command: c,
+            pair: new,
+        };
+        number_of(self.outcome(formed, room, lent))
+    }
+
     // The entry judges a command that is well formed.
     #[tactic(auto, using(crate::proofs::Judge::judged_refused, crate::proofs::Judge::judged_raised))]
-    pub fn judge_formed(self, formed: Formed, room: u16, lent: usize) -> Judged
-        ensures { result ≡ judged self formed.command room lent }
+    pub fn judge_formed(self, c: Command, room: u16, lent: usize) -> Judged
+        requires { well_formed c ≡ true }
+        ensures { result ≡ judged self c room lent }
     {
+        let formed = Formed {
+            command: c,
+            pair: c.update(),
+        };
         let outcome = self.outcome(formed, room, lent);
         let number = number_of(outcome);
         if outcome.is_err() {
@@ -91,7 +109,7 @@ impl Entry {
         }
         Judged {
             number,
-            entry: self.raised(formed.command, formed.pair),
+            entry: self.raised(c, formed.pair),
         }
     }
 }

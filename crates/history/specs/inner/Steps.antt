@@ -3,7 +3,7 @@
 -- Assumes nothing.
 use Rattle.std.specs.Prelude.{ℕ, ◌+◌, ◌*◌, ◌≤◌, ◌≡◌, List, [], reverse, Bool, cond, ◌&&◌, ◌||◌, ltb, eqb, length}
 use Rattle.formats.specs.Format.{V1, fixed}
-use Rattle.lists.specs.Parts.{concat_map, splice}
+use Rattle.lists.specs.Parts.{part, concat_map, splice}
 use Rattle.lists.specs.Search.{last}
 use Rattle.lists.specs.Table.{settled}
 use Rattle.commands.specs.declared.Command.{Command}
@@ -28,6 +28,12 @@ pub record Measured (bytes : List ℕ) (end count payloads : ℕ) : Type 0 where
 -- What the last kept command with this act for card k brought along: the text of a language, by the act that writes it.
 unfoldable pub written_by : ℕ → List (List ℕ) → ℕ → List ℕ
 written_by act kept k = last (λ (b : List ℕ). concerns k b && eqb (fields_of V1 b).act act) (payload V1) [] kept
+
+-- Where a text that the bytes keep stands in them: it is the part of them at a place.
+pub record LiesIn (bytes text : List ℕ) : Type 0 where
+  pub place : ℕ
+  pub inside : place + length text ≤ length bytes
+  pub is : part place (length text) bytes ≡ text
 
 -- One well-formed command for an existing card: either limit would be passed with it.
 abbrev pub over_with : List (List ℕ) → Command → Bool

@@ -5,7 +5,7 @@ ghost use Rattle.guard.specs.Judge.{raise, last_edition};
 ghost use Rattle.stream.specs.Stream.{commands};
 ghost use Rattle.history.specs.WorkedOut.{entry_from};
 ghost use Rattle.history.specs.Lent.{history_size};
-ghost use Rattle.history.specs.inner.Steps.{written_by, Measured};
+ghost use Rattle.history.specs.inner.Steps.{written_by, LiesIn, Measured};
 
 use commands::Command;
 use formats::{FIXED_V1 as FIXED, Version};
@@ -60,9 +60,10 @@ pub fn entry_of(kept: &[u8], card: u16) -> Entry
     e
 }
 
-// The text that the last command with this act for this card wrote; empty where there is none.
+// The text that the last command with this act for this card wrote, as a part of the kept bytes; empty where there is none.
 pub fn text_of(kept: &[u8], card: u16, act: u8) -> &[u8]
-    ensures { result.now ≡ written_by act (reverse (commands V1 kept.now)) card }
+    ensures text { result.now ≡ written_by act (reverse (commands V1 kept.now)) card }
+    ensures place { LiesIn kept.now result.now }
 {
     let mut text = &kept[..0];
     for command in Reader::new(Version::V1, kept) {

@@ -1,5 +1,5 @@
 // The lines of the program's output. Each function writes one from `at` on, and hands back the place behind it.
-ghost use Rattle.std.specs.Prelude.{◌+◌, ◌*◌, ◌≤◌, length};
+ghost use Rattle.std.specs.Prelude.{◌≡◌, ◌+◌, ◌*◌, ◌≤◌, length};
 ghost use Rattle.lists.specs.Parts.{concat_map};
 ghost use Rattle.program.specs.Program.{line_by, first_line, last_line, most_line};
 ghost use Rattle.store.specs.Runs.{per_line};
@@ -7,11 +7,10 @@ ghost use Rattle.program.specs.Text.{spaced, most_digits};
 ghost use Rattle.program.specs.inner.Put.{Put};
 
 use crate::inner::text::{put_decimal, put_spaced, put_text};
-use store::inner::run::PER_LINE;
 
 // The numbers of an answer's line, each behind a space.
-fn put_numbers(out: &mut [u8], at: usize, numbers: &[u64; PER_LINE]) -> usize
-    requires { at + per_line * (1 + most_digits) ≤ length out.old }
+fn put_numbers(out: &mut [u8], at: usize, numbers: &[u64]) -> usize
+    requires { (at + per_line * (1 + most_digits) ≤ length out.old) × (length numbers.now ≡ per_line) }
     ensures { Put at (per_line * (1 + most_digits)) (concat_map spaced numbers.now) out.old out.new result }
 {
     let mut to = at;
@@ -22,8 +21,8 @@ fn put_numbers(out: &mut [u8], at: usize, numbers: &[u64; PER_LINE]) -> usize
 }
 
 // The line of an answer: the command's place, then the answer's numbers.
-pub fn put_line(out: &mut [u8], at: usize, place: u64, numbers: &[u64; PER_LINE]) -> usize
-    requires { at + most_line ≤ length out.old }
+pub fn put_line(out: &mut [u8], at: usize, place: u64, numbers: &[u64]) -> usize
+    requires { (at + most_line ≤ length out.old) × (length numbers.now ≡ per_line) }
     ensures { Put at most_line (line_by place numbers.now) out.old out.new result }
 {
     let behind = put_decimal(out, at, place);

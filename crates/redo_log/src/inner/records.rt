@@ -1,6 +1,6 @@
 // A good log and its records: no other crate knows where they stand, and the log is not checked again.
-ghost use Rattle.std.specs.Prelude.{◌≡◌, true, false, ◌+◌, ◌≤◌, ◌<◌, MatchOption};
-ghost use Rattle.redo_log.specs.Log.{good_log, shaped, record_count, start_at, record_at, last_begun, opened};
+ghost use Rattle.std.specs.Prelude.{◌≡◌, true, false, ◌+◌, ◌≤◌, ◌<◌, length, MatchOption};
+ghost use Rattle.redo_log.specs.Log.{good_log, shaped, record_count, start_at, length_at, record_at, last_begun, opened};
 
 use crate::inner::reading::{Front, last_after};
 use crate::{BODIES, MOST_LOG, MOST_RECORDS};
@@ -19,6 +19,52 @@ pub const SUM: usize = 7;
 
 // What an append stores beside the body (rule 11.10): its line, and the count.
 pub const LINE_AND_COUNT: usize = 12;
+
+// ---- Record i of a log that is known to be good, by the log's bytes.
+
+// How many records there are.
+pub fn count(log: &[u8]) -> usize
+    requires { good_log log.now ≡ true }
+    ensures { result ≡ record_count log.now }
+{
+    log[0] as usize
+}
+
+// The kind of record i.
+pub fn kind_at(log: &[u8], i: usize) -> u8
+    requires { (good_log log.now ≡ true) × (i < record_count log.now) }
+    ensures { result ≡ (record_at log.now i).kind }
+{
+    log[TABLE + LINE * i]
+}
+
+// Where the body of record i begins.
+fn place_at(log: &[u8], i: usize) -> usize
+    requires { (good_log log.now ≡ true) × (i < record_count log.now) }
+    ensures { (result ≡ start_at log.now i) × (result + length_at log.now i ≤ length log.now) }
+{
+    le::read_u32(log, TABLE + LINE * i + PLACE) as usize
+}
+
+// The body of record i, as a part of the log.
+pub fn body_at<'a>(log: &'a [u8], i: usize) -> &'a [u8]
+    requires { (good_log log.now ≡ true) × (i < record_count log.now) }
+    ensures { result.now ≡ (record_at log.now i).body }
+{
+    let at = place_at(log, i);
+    let end = at + (le::read_u16(log, TABLE + LINE * i + LENGTH) as usize);
+    &log[at..end]
+}
+
+// The last transaction begun after record i, where `last` is the last begun before it.
+pub fn last_at(log: &[u8], i: usize, last: u32) -> u32
+    requires { (good_log log.now ≡ true) × (i < record_count log.now) × (last ≡ last_begun (record_at log.now) i) }
+    ensures { result ≡ last_begun (record_at log.now) (i + 1) }
+{
+    last_after(kind_at(log, i), body_at(log, i), last)
+}
+
+// ---- A good log as a value, and its records one after another.
 
 // A good log: where the next body begins, the last transaction begun, and whether it is open.
 #[derive(Clone, Copy)]
@@ -93,20 +139,12 @@ impl<'a> CheckedLog<'a> {
         self.bytes[0]
     }
 
-    // Where the body of record i begins.
-    fn place_at(&self, i: u8) -> usize
-        requires { i < record_count self.now.bytes.now }
-        ensures { result ≡ start_at self.now.bytes.now i }
-    {
-        le::read_u32(self.bytes, TABLE + LINE * (i as usize) + PLACE) as usize
-    }
-
     // The kind of record i.
     pub fn kind_at(&self, i: u8) -> u8
         requires { i < record_count self.now.bytes.now }
         ensures { result ≡ (record_at self.now.bytes.now i).kind }
     {
-        self.bytes[TABLE + LINE * (i as usize)]
+        kind_at(self.bytes, i as usize)
     }
 
     // The body of record i, as a part of the log.
@@ -114,9 +152,7 @@ impl<'a> CheckedLog<'a> {
         requires { i < record_count self.now.bytes.now }
         ensures { result.now ≡ (record_at self.now.bytes.now i).body }
     {
-        let at = self.place_at(i);
-        let end = at + (le::read_u16(self.bytes, TABLE + LINE * (i as usize) + LENGTH) as usize);
-        &self.bytes[at..end]
+        body_at(self.bytes, i as usize)
     }
 
     // All records.

@@ -1,6 +1,7 @@
 // What an accepted command makes of a sound image and of the reply buffer.
 ghost use Rattle.std.specs.Prelude.{◌≡◌, true, false, ◌<◌, ◌≤◌, length};
 ghost use Rattle.lists.specs.Parts.{splice};
+ghost use Rattle.commands.specs.Command.{update, well_formed};
 ghost use Rattle.guard.specs.Judge.{editions_spent, raise};
 ghost use Rattle.guard.specs.Replies.{read_length};
 ghost use Rattle.formats.specs.Format.{format_of, translations};
@@ -10,10 +11,11 @@ ghost use Rattle.image.specs.Image.{card_at, sound};
 ghost use Rattle.store.specs.inner.Carried.{act_written};
 ghost use Rattle.store_model.specs.Serve.{text_read};
 
-use commands::VERIFY;
 use commands::formed::Formed;
+use commands::{Command, VERIFY};
 use formats::Version;
 use guard::Entry;
+use stamps::Pair;
 
 // Where a body of card k stands in a sound image.
 fn body_at(v: Version, image: &[u8], k: u16, side: u8) -> usize
@@ -46,23 +48,27 @@ fn done(e: Entry, formed: Formed, length: u16) -> Effect
 }
 
 // Carries out an accepted command, by its act: the text that it reads is copied into the first bytes of the reply buffer, and its payload is written over
-// the text that it writes, with what the entry says of that text. `e` is the entry before; of the raised one the pair and the mark are not yet written.
+// the text that it writes, with what the entry says of that text. `new` is its update pair, `e` the entry before; of the raised one the pair and the mark are not yet written.
 pub fn act(
     v: Version,
     image: &mut [u8],
-    formed: Formed,
+    c: Command,
+    new: Pair,
     e: Entry,
     text: &[u8],
     reply: &mut [u8],
 ) -> Effect
-    requires { let c = formed.command in (sound (format_of v) image.old ≡ true) × (c.card < count_of image.old) × (c.language < translations (format_of v))
+    requires { (sound (format_of v) image.old ≡ true) × (c.card < count_of image.old) × (c.language < translations (format_of v))
         × (e ≡ entry_at (format_of v) image.old c.card c.language) × (read_length e c ≤ length reply.old) × (length text.now ≤ room_of image.old)
-        × (editions_spent e c ≡ false) }
-    ensures told { let c = formed.command in result ≡ record { entry = raise e c; length = read_length e c } }
-    ensures image { let c = formed.command in image.new ≡ act_written (format_of v) image.old c (raise e c) text.now }
-    ensures reply { let c = formed.command in reply.new ≡ splice 0 (text_read (card_at (format_of v) image.old c.card) c) reply.old }
+        × (editions_spent e c ≡ false) × (well_formed c ≡ true) × (new ≡ update c) }
+    ensures told { result ≡ record { entry = raise e c; length = read_length e c } }
+    ensures image { image.new ≡ act_written (format_of v) image.old c (raise e c) text.now }
+    ensures reply { reply.new ≡ splice 0 (text_read (card_at (format_of v) image.old c.card) c) reply.old }
 {
-    let c = formed.command;
+    let formed = Formed {
+        command: c,
+        pair: new,
+    };
     if c.act == VERIFY {
         return done(e, formed, 0);
     }

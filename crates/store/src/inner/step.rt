@@ -1,4 +1,5 @@
 ghost use Rattle.std.specs.Prelude.{◌≡◌, true, ◌<◌, length};
+ghost use Rattle.commands.specs.Command.{update, well_formed};
 ghost use Rattle.formats.specs.Format.{format_of, translations};
 ghost use Rattle.image.specs.Bytes.{count_of};
 ghost use Rattle.image.specs.Image.{sound};
@@ -6,13 +7,21 @@ ghost use Rattle.store.specs.inner.Carried.{carried};
 ghost use Rattle.store.specs.Runs.{numbers_of, ServesTo};
 
 use crate::inner::effects;
+use commands::Command;
 use commands::formed::Formed;
 use formats::Version;
 use guard::{Answer, Judged};
 use numbers::{ACCEPTED, MALFORMED, NO_CARD, UNSOUND, number_of};
+use stamps::Pair;
 
 // A command for an existing card, on a sound image: its entry judges, and an accepted command is carried out.
-pub fn carry(v: Version, image: &mut [u8], formed: Formed, text: &[u8], reply: &mut [u8]) -> Answer
+pub fn carry_formed(
+    v: Version,
+    image: &mut [u8],
+    formed: Formed,
+    text: &[u8],
+    reply: &mut [u8],
+) -> Answer
     requires { (sound (format_of v) image.old ≡ true) × (formed.command.card < count_of image.old) × (formed.command.language < translations (format_of v))
         × (length text.now ≡ formed.command.length) }
     ensures answer { result ≡ (carried (format_of v) image.old formed.command text.now reply.old).answer }
@@ -26,9 +35,31 @@ pub fn carry(v: Version, image: &mut [u8], formed: Formed, text: &[u8], reply: &
         let number = number_of(outcome);
         return guard::reply(Judged { number, entry: e }, c);
     }
-    let effect = effects::act(v, image, formed, e, text, reply);
+    let effect = effects::act(v, image, c, formed.pair, e, text, reply);
     image::inner::write::store_stamps(v, image, c.card, effect.entry);
     guard::inner::told(ACCEPTED, effect.entry, effect.length)
+}
+
+// The same by a command's numbers, of which the caller knows that it keeps its rules, and its update pair `new`.
+pub fn carry(
+    v: Version,
+    image: &mut [u8],
+    c: Command,
+    new: Pair,
+    text: &[u8],
+    reply: &mut [u8],
+) -> Answer
+    requires { (sound (format_of v) image.old ≡ true) × (c.card < count_of image.old) × (c.language < translations (format_of v))
+        × (length text.now ≡ c.length) × (well_formed c ≡ true) × (new ≡ update c) }
+    ensures answer { result ≡ (carried (format_of v) image.old c text.now reply.old).answer }
+    ensures image { image.new ≡ (carried (format_of v) image.old c text.now reply.old).image }
+    ensures reply { reply.new ≡ (carried (format_of v) image.old c text.now reply.old).reply }
+{
+    let formed = Formed {
+        command: c,
+        pair: new,
+    };
+    carry_formed(v, image, formed, text, reply)
 }
 
 // One request on a sound image of a version, which it keeps sound.
@@ -45,7 +76,7 @@ pub fn serve(v: Version, image: &mut [u8], command: &[u8], reply: &mut [u8]) -> 
         return guard::refusal(NO_CARD);
     }
     let start = v.layout().fixed;
-    carry(v, image, formed, &command[start..], reply)
+    carry_formed(v, image, formed, &command[start..], reply)
 }
 
 // One request on an image that has been checked: `checked` says whether it is sound, and does so still of what the request leaves.

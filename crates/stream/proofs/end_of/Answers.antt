@@ -1,24 +1,16 @@
--- The loop: each command that the reader gives is the first of those that it had. Assumes nothing.
-use native.Mathlib.Omega.{arith}
-use native.Mathlib.Nat.{zero-add}
-use mathlib.Core.Path.{◌≡◌, sym, ap, ◌∙◌}
-use lib.ListN.{length}
-use Rattle.formats.specs.Format.{format_of}
-use Rattle.lists.specs.Parts.{concat_map}
-use Rattle.stream.specs.Stream.{end_to_end, unread}
-use Rattle.stream.proofs.Commands.{end_length, paid_in}
-use Rattle.stream.proofs.Walks.{within}
+-- The loop: how far it is to the end from the place that is reached. The measure is what is left of the stream. Assumes nothing.
+use mathlib.Core.Path.{sym, ◌∙◌}
+use Rattle.stream.proofs.Commands.{walked_none, walked_more, walked_done}
 use Rattle.stream.proofs.end_of.Goals as goal
 
-pub loop-command-init : goal.loop-command-init
-loop-command-init c = rw (c.into_iter-command-iterator.ensures.into_iter_gives, c.new-command-items.ensures) (zero-add _ ∙ sym (end_length (format_of c.args.v) c.args.stream.now))
+pub loop-end-init : goal.loop-end-init
+loop-end-init c = walked_none _ _
 
-pub overflow_add-end : goal.overflow_add-end
-overflow_add-end c = let k = paid_in c.in-Some.ensures.steps.first in let w = within (format_of c.args.v) c.args.stream.now in omega (arith, c.well_formed, c.loop-command.invariant)
+pub loop-end-smaller : goal.loop-end-smaller
+loop-end-smaller c = (walked_more _ _ _ _ c.loop-end.invariant (sym c.next_at.ensures ∙ c.in-Some.is)).1
 
-pub loop-command-preserved : goal.loop-command-preserved
-loop-command-preserved c = let k = paid_in c.in-Some.ensures.steps.first in omega (arith, c.loop-command.invariant)
+pub loop-end-preserved : goal.loop-end-preserved
+loop-end-preserved c = (walked_more _ _ _ _ c.loop-end.invariant (sym c.next_at.ensures ∙ c.in-Some.is)).0
 
 pub returns : goal.returns
-unfolding concat_map
-returns c = let k : length (end_to_end (unread c.loop-command.command-iterator)) ≡ 0 = ap (λ cs. length (end_to_end cs)) c.in-None.ensures.steps.first.0 in omega (arith, c.loop-command.invariant)
+returns c = walked_done _ _ _ c.loop-end.invariant (sym c.next_at.ensures ∙ c.in_default.is)

@@ -1,10 +1,12 @@
--- The loop: what has been passed and what the reader has still to give make the whole way. Assumes nothing.
-use Prim.Native.Nat.{◌+◌}
-use mathlib.Core.Path.{◌≡◌}
-use lib.ListN.{length}
+-- The loop: how far it is to the end from the place that is reached. The measure is what is left of the stream. Assumes nothing.
 use Rattle.formats.specs.Format.{format_of}
-use Rattle.stream.specs.Stream.{end_of, end_to_end, unread}
+use Prim.Native.Nat.{◌-◌}
+use lib.ListN.{length}
+use Rattle.stream.proofs.Commands.{Walked}
 use Rattle.stream.proofs.end_of.Given as goal
 
-abbrev pub invariant-loop-command : goal.invariant-loop-command
-invariant-loop-command l = l.end + length (end_to_end (unread l.command-iterator)) ≡ end_of (format_of l.fn.v) l.stream
+abbrev pub invariant-loop-end : goal.invariant-loop-end
+invariant-loop-end l = Walked (format_of l.v) l.stream l.at
+
+abbrev pub decreases-loop-end : goal.decreases-loop-end
+decreases-loop-end l = length l.stream - l.at

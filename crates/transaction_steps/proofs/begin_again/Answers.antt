@@ -16,4 +16,4 @@ bounds-log-0 c = omega (arith, sizes _ (subst (λ (l : List ℕ). good_log l ≡
 pub returns-clause-log : goal.returns-clause-log
 returns-clause-log c =
     (again_done c.args.log.now (subst (λ (l : List ℕ). good_log l ≡ true) c.in-Some.ensures c.in-Some.good.good)
-    (subst (λ (l : List ℕ). nothing_due (records l) ≡ true) c.in-Some.ensures (sym c.none_due.ensures ∙ c.if-not-none_due.false))).1
+    (subst (λ (l : List ℕ). nothing_due (records l) ≡ true) c.in-Some.ensures (sym c.none_is_due.ensures ∙ c.if-not-none_is_due.false))).1

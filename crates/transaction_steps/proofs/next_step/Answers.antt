@@ -25,32 +25,32 @@ pub returns-then-found : goal.returns-then-found
 returns-then-found c =
     c.finish.ensures
     ∙ step_finish c.in-Some.log.bytes.now c.args.desk c.args.card c.args.going c.args.seen
-    (good_desk c.in-Some.log.bytes.now c.args.desk c.in-Some.log.good c.if-desk-eq0.false) c.in-Some.log.last c.in-Some.log.running c.survey_of-found.result
-    (surveys c.in-Some.log.bytes.now c.args.card c.args.seen.reach c.in-Some.log.last c.in-Some.log.running c.survey_of-found.result c.in-Some.log.lasts
-    c.in-Some.log.runs c.survey_of-found.ensures) (not-false _ c.if-not-seen.false) c.if-found.true
+    (good_desk c.in-Some.log.bytes.now c.args.desk c.in-Some.log.good c.if-desk-eq0.false) c.in-Some.log.last c.in-Some.log.running c.survey_records-found.result
+    (surveys c.in-Some.log.bytes.now c.args.card c.args.seen.reach c.in-Some.log.last c.in-Some.log.running c.survey_records-found.result c.in-Some.log.lasts
+    c.in-Some.log.runs c.survey_records-found.ensures) (not-false _ c.if-not-seen.false) c.if-found.true
     ∙ ap (λ (l : List ℕ). next_of l c.args.desk c.args.card c.args.going c.args.seen) c.in-Some.ensures
 
 pub returns-then-going-log : goal.returns-then-going-log
 returns-then-going-log c =
     c.make_ready.ensures
     ∙ step_ready c.in-Some.log.bytes.now c.args.desk c.args.card c.args.going c.args.seen
-    (good_desk c.in-Some.log.bytes.now c.args.desk c.in-Some.log.good c.if-desk-eq0.false) c.in-Some.log.last c.in-Some.log.running c.survey_of-found.result
-    (surveys c.in-Some.log.bytes.now c.args.card c.args.seen.reach c.in-Some.log.last c.in-Some.log.running c.survey_of-found.result c.in-Some.log.lasts
-    c.in-Some.log.runs c.survey_of-found.ensures) (not-false _ c.if-not-seen.false) c.if-found.false c.if-going-log.true
+    (good_desk c.in-Some.log.bytes.now c.args.desk c.in-Some.log.good c.if-desk-eq0.false) c.in-Some.log.last c.in-Some.log.running c.survey_records-found.result
+    (surveys c.in-Some.log.bytes.now c.args.card c.args.seen.reach c.in-Some.log.last c.in-Some.log.running c.survey_records-found.result c.in-Some.log.lasts
+    c.in-Some.log.runs c.survey_records-found.ensures) (not-false _ c.if-not-seen.false) c.if-found.false c.if-going-log.true
     ∙ ap (λ (l : List ℕ). next_of l c.args.desk c.args.card c.args.going c.args.seen) c.in-Some.ensures
 
 pub returns-then-seen-desk : goal.returns-then-seen-desk
 returns-then-seen-desk c =
     step_release c.in-Some.log.bytes.now c.args.desk c.args.card c.args.going c.args.seen
-    (good_desk c.in-Some.log.bytes.now c.args.desk c.in-Some.log.good c.if-desk-eq0.false) c.in-Some.log.last c.in-Some.log.running c.survey_of-found.result
-    (surveys c.in-Some.log.bytes.now c.args.card c.args.seen.reach c.in-Some.log.last c.in-Some.log.running c.survey_of-found.result c.in-Some.log.lasts
-    c.in-Some.log.runs c.survey_of-found.ensures) (not-false _ c.if-not-seen.false) c.if-found.false c.if-going-log.false (eq-eqb _ _ c.if-seen-desk.true)
+    (good_desk c.in-Some.log.bytes.now c.args.desk c.in-Some.log.good c.if-desk-eq0.false) c.in-Some.log.last c.in-Some.log.running c.survey_records-found.result
+    (surveys c.in-Some.log.bytes.now c.args.card c.args.seen.reach c.in-Some.log.last c.in-Some.log.running c.survey_records-found.result c.in-Some.log.lasts
+    c.in-Some.log.runs c.survey_records-found.ensures) (not-false _ c.if-not-seen.false) c.if-found.false c.if-going-log.false (eq-eqb _ _ c.if-seen-desk.true)
     ∙ ap (λ (l : List ℕ). next_of l c.args.desk c.args.card c.args.going c.args.seen) c.in-Some.ensures
 
 pub returns : goal.returns
 returns c =
     step_nothing c.in-Some.log.bytes.now c.args.desk c.args.card c.args.going c.args.seen
-    (good_desk c.in-Some.log.bytes.now c.args.desk c.in-Some.log.good c.if-desk-eq0.false) c.in-Some.log.last c.in-Some.log.running c.survey_of-found.result
-    (surveys c.in-Some.log.bytes.now c.args.card c.args.seen.reach c.in-Some.log.last c.in-Some.log.running c.survey_of-found.result c.in-Some.log.lasts
-    c.in-Some.log.runs c.survey_of-found.ensures) (not-false _ c.if-not-seen.false) c.if-found.false c.if-going-log.false (ne_eqb _ _ c.if-seen-desk.false)
+    (good_desk c.in-Some.log.bytes.now c.args.desk c.in-Some.log.good c.if-desk-eq0.false) c.in-Some.log.last c.in-Some.log.running c.survey_records-found.result
+    (surveys c.in-Some.log.bytes.now c.args.card c.args.seen.reach c.in-Some.log.last c.in-Some.log.running c.survey_records-found.result c.in-Some.log.lasts
+    c.in-Some.log.runs c.survey_records-found.ensures) (not-false _ c.if-not-seen.false) c.if-found.false c.if-going-log.false (ne_eqb _ _ c.if-seen-desk.false)
     ∙ ap (λ (l : List ℕ). next_of l c.args.desk c.args.card c.args.going c.args.seen) c.in-Some.ensures

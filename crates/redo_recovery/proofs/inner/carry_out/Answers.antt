@@ -31,6 +31,8 @@ carry-a-requires c = (
   omega (arith, c.count.ensures),
   c.requires.3,
   c.requires.1,
+  sym c.well_formed-2.ensures ∙ c.if-not-well_formed.false,
+  c.update.ensures,
 )
 
 pub returns : goal.returns

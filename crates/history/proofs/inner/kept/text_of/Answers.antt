@@ -1,6 +1,10 @@
 -- The loop: what is left to look at. Assumes nothing.
 use native.Mathlib.Omega.{arith}
-use Rattle.history.proofs.Walk.{long, working_more, working_done, puts, text_none, put_here, put_other}
+use Prim.Native.Nat.{ℕ}
+use mathlib.Core.Path.{sym, subst}
+use mathlib.Core.List.{List}
+use Rattle.history.specs.inner.Steps.{LiesIn}
+use Rattle.history.proofs.Walk.{long, working_more, working_done, puts, text_none, put_here, put_other, written_lies}
 use Rattle.history.proofs.inner.kept.text_of.Goals as goal
 
 pub loop-command-init : goal.loop-command-init
@@ -24,5 +28,10 @@ loop-command-preserved-then-c-card c = working_more (puts c.args.act c.args.card
 pub loop-command-preserved : goal.loop-command-preserved
 loop-command-preserved c = working_more (puts c.args.act c.args.card) c.loop-command.invariant c.in-Some.ensures.steps.first (put_other _ _ _ _ (rw (← c.fields-c.ensures) c.if-c-card.false))
 
-pub returns : goal.returns
-returns c = working_done (puts c.args.act c.args.card) c.loop-command.invariant c.in-None.ensures.steps.first.0
+pub returns-clause-text : goal.returns-clause-text
+returns-clause-text c = working_done (puts c.args.act c.args.card) c.loop-command.invariant c.in-None.ensures.steps.first.0
+
+pub returns-clause-place : goal.returns-clause-place
+returns-clause-place c =
+    subst (λ (text : List ℕ). LiesIn c.args.kept.now text) (sym (working_done (puts c.args.act c.args.card) c.loop-command.invariant
+    c.in-None.ensures.steps.first.0)) (written_lies c.args.act c.args.card c.args.kept.now)

@@ -7,7 +7,7 @@ use Rattle.program.proofs.inner.lines.put_numbers.Goals as goal
 pub loop-n-preserved : goal.loop-n-preserved
 loop-n-preserved c =
     let p = c.put_spaced-to.ensures in
-    (putting_more _ _ c.loop-n.invariant.0 (numbers_left c.args.numbers.now (omega (arith, c.told-numbers))) p (omega arith), omega (arith, p.few))
+    (putting_more _ _ c.loop-n.invariant.0 (numbers_left c.args.numbers.now (omega (arith, c.requires.1))) p (omega arith), omega (arith, p.few))
 
 pub returns : goal.returns
-returns c = putting_done _ c.loop-n.invariant.0 (numbers_end c.args.numbers.now (omega (arith, c.told-numbers))) (omega arith)
+returns c = putting_done _ c.loop-n.invariant.0 (numbers_end c.args.numbers.now (omega (arith, c.requires.1))) (omega arith)

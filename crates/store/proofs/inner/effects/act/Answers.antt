@@ -17,23 +17,23 @@ use Rattle.store.proofs.inner.effects.act.Goals as goal
 pub returns-then-c-eq-VERIFY : goal.returns-then-c-eq-VERIFY
 returns-then-c-eq-VERIFY c =
     let act = c.if-c-eq-VERIFY.true in record {
-      told = effect_is c.done.ensures (length_none c.args.e c.args.formed.command (other 1 act refl) (other 2 act refl));
-      image = written_none (format_of c.args.v) c.args.image.now c.args.formed.command (raise c.args.e c.args.formed.command) c.args.text.now (other 3 act refl) (other 4 act refl);
-      reply = shows_none_lem (card_at (format_of c.args.v) c.args.image.now c.args.formed.command.card) c.args.formed.command c.args.reply.now (other 1 act refl) (other 2 act refl);
+      told = effect_is c.done.ensures (length_none c.args.e c.args.c (other 1 act refl) (other 2 act refl));
+      image = written_none (format_of c.args.v) c.args.image.now c.args.c (raise c.args.e c.args.c) c.args.text.now (other 3 act refl) (other 4 act refl);
+      reply = shows_none_lem (card_at (format_of c.args.v) c.args.image.now c.args.c.card) c.args.c c.args.reply.now (other 1 act refl) (other 2 act refl);
     }
 
 pub copy_text-requires : goal.copy_text-requires
 copy_text-requires c =
-    original_fits (format_of c.args.v) c.args.image.now c.requires.0 c.args.formed.command c.requires.1 c.requires.2 c.requires.3 (sym
+    original_fits (format_of c.args.v) c.args.image.now c.requires.0 c.args.c c.requires.1 c.requires.2 c.requires.3 (sym
     c.reads_original.ensures ∙ c.if-reads_original.true) c.body_at-from.ensures c.requires.4
 
 pub returns-then-reads_original : goal.returns-then-reads_original
 returns-then-reads_original c =
     let own = sym c.reads_original.ensures ∙ c.if-reads_original.true in
-    let act = eqb-true c.args.formed.command.act 1 own in record {
-      told = effect_is c.done-then-reads_original.ensures (length_original c.args.e c.args.formed.command own);
-      image = written_none (format_of c.args.v) c.args.image.now c.args.formed.command (raise c.args.e c.args.formed.command) c.args.text.now (other 3 act refl) (other 4 act refl);
-      reply = shows_original (format_of c.args.v) c.args.image.now c.requires.0 c.args.formed.command c.requires.1 c.requires.2 c.requires.3 own
+    let act = eqb-true c.args.c.act 1 own in record {
+      told = effect_is c.done-then-reads_original.ensures (length_original c.args.e c.args.c own);
+      image = written_none (format_of c.args.v) c.args.image.now c.args.c (raise c.args.e c.args.c) c.args.text.now (other 3 act refl) (other 4 act refl);
+      reply = shows_original (format_of c.args.v) c.args.image.now c.requires.0 c.args.c c.requires.1 c.requires.2 c.requires.3 own
           c.body_at-from.ensures c.args.reply.now c.copy_text.ensures;
     }
 
@@ -42,7 +42,7 @@ overflow_add-c c = omega (arith, numbers (format_of c.args.v), c.requires.2)
 
 pub copy_text-requires-then-reads_translation : goal.copy_text-requires-then-reads_translation
 copy_text-requires-then-reads_translation c =
-    translation_fits (format_of c.args.v) c.args.image.now c.requires.0 c.args.formed.command c.requires.1 c.requires.2 c.requires.3 (sym
+    translation_fits (format_of c.args.v) c.args.image.now c.requires.0 c.args.c c.requires.1 c.requires.2 c.requires.3 (sym
     c.reads_original.ensures ∙ c.if-reads_original.false) (sym c.reads_translation.ensures ∙ c.if-reads_translation.true)
     c.body_at-from-then-reads_translation.ensures c.requires.4
 
@@ -50,16 +50,16 @@ pub returns-then-reads_translation : goal.returns-then-reads_translation
 returns-then-reads_translation c =
     let first = sym c.reads_original.ensures ∙ c.if-reads_original.false in
     let own = sym c.reads_translation.ensures ∙ c.if-reads_translation.true in
-    let act = eqb-true c.args.formed.command.act 2 own in record {
-      told = effect_is c.done-then-reads_translation.ensures (length_translation c.args.e c.args.formed.command first own);
-      image = written_none (format_of c.args.v) c.args.image.now c.args.formed.command (raise c.args.e c.args.formed.command) c.args.text.now (other 3 act refl) (other 4 act refl);
-      reply = shows_translation (format_of c.args.v) c.args.image.now c.requires.0 c.args.formed.command c.requires.1 c.requires.2
+    let act = eqb-true c.args.c.act 2 own in record {
+      told = effect_is c.done-then-reads_translation.ensures (length_translation c.args.e c.args.c first own);
+      image = written_none (format_of c.args.v) c.args.image.now c.args.c (raise c.args.e c.args.c) c.args.text.now (other 3 act refl) (other 4 act refl);
+      reply = shows_translation (format_of c.args.v) c.args.image.now c.requires.0 c.args.c c.requires.1 c.requires.2
           c.requires.3 first own c.body_at-from-then-reads_translation.ensures c.args.reply.now c.copy_text-then-reads_translation.ensures;
     }
 
 pub store_text-requires : goal.store_text-requires
 store_text-requires c =
-    original_room (format_of c.args.v) c.args.image.now c.requires.0 c.args.formed.command c.requires.1 c.requires.2 c.requires.3
+    original_room (format_of c.args.v) c.args.image.now c.requires.0 c.args.c c.requires.1 c.requires.2 c.requires.3
     c.args.text.now c.requires.5 c.body_at-at.ensures
 
 pub store_original-requires : goal.store_original-requires
@@ -68,12 +68,12 @@ store_original-requires c = omega (arith, entry_lies (format_of c.args.v) c.args
 pub returns-then-writes_original : goal.returns-then-writes_original
 returns-then-writes_original c =
     let own = sym c.writes_original.ensures ∙ c.if-writes_original.true in
-    let act = eqb-true c.args.formed.command.act 3 own in record {
-      told = effect_is c.done-effect.ensures (length_none c.args.e c.args.formed.command (other 1 act refl) (other 2 act refl));
-      image = written_original (format_of c.args.v) c.args.image.now c.requires.0 c.args.formed.command c.requires.1 c.requires.2 c.requires.3
-          c.args.text.now c.requires.5 c.body_at-at.ensures (raise c.args.e c.args.formed.command) (ap (λ (d : Effect). d.entry)
+    let act = eqb-true c.args.c.act 3 own in record {
+      told = effect_is c.done-effect.ensures (length_none c.args.e c.args.c (other 1 act refl) (other 2 act refl));
+      image = written_original (format_of c.args.v) c.args.image.now c.requires.0 c.args.c c.requires.1 c.requires.2 c.requires.3
+          c.args.text.now c.requires.5 c.body_at-at.ensures (raise c.args.e c.args.c) (ap (λ (d : Effect). d.entry)
           c.done-effect.ensures) c.store_text.ensures c.store_original.ensures own;
-      reply = shows_none_lem (card_at (format_of c.args.v) c.args.image.now c.args.formed.command.card) c.args.formed.command c.args.reply.now (other 1 act refl) (other 2 act refl);
+      reply = shows_none_lem (card_at (format_of c.args.v) c.args.image.now c.args.c.card) c.args.c c.args.reply.now (other 1 act refl) (other 2 act refl);
     }
 
 pub overflow_add-c-2 : goal.overflow_add-c-2
@@ -81,7 +81,7 @@ overflow_add-c-2 c = omega (arith, numbers (format_of c.args.v), c.requires.2)
 
 pub store_text-requires-2 : goal.store_text-requires-2
 store_text-requires-2 c =
-    translation_room (format_of c.args.v) c.args.image.now c.requires.0 c.args.formed.command c.requires.1 c.requires.2 c.requires.3
+    translation_room (format_of c.args.v) c.args.image.now c.requires.0 c.args.c c.requires.1 c.requires.2 c.requires.3
     c.args.text.now c.requires.5 c.body_at-at-2.ensures
 
 pub store_translation-requires : goal.store_translation-requires
@@ -92,10 +92,10 @@ returns c =
     let one = sym c.reads_original.ensures ∙ c.if-reads_original.false in
     let two = sym c.reads_translation.ensures ∙ c.if-reads_translation.false in
     let three = sym c.writes_original.ensures ∙ c.if-writes_original.false in
-    let own = last_act c.args.formed.command c.args.formed.by_rules c.if-c-eq-VERIFY.false one two three in record {
-      told = effect_is c.done-effect-2.ensures (length_none c.args.e c.args.formed.command one two);
-      image = written_translation (format_of c.args.v) c.args.image.now c.requires.0 c.args.formed.command c.requires.1 c.requires.2 c.requires.3
-          c.args.text.now c.requires.5 c.body_at-at-2.ensures (raise c.args.e c.args.formed.command) (ap (λ (d : Effect). d.entry)
+    let own = last_act c.args.c c.requires.7 c.if-c-eq-VERIFY.false one two three in record {
+      told = effect_is c.done-effect-2.ensures (length_none c.args.e c.args.c one two);
+      image = written_translation (format_of c.args.v) c.args.image.now c.requires.0 c.args.c c.requires.1 c.requires.2 c.requires.3
+          c.args.text.now c.requires.5 c.body_at-at-2.ensures (raise c.args.e c.args.c) (ap (λ (d : Effect). d.entry)
           c.done-effect-2.ensures) c.store_text-2.ensures c.store_translation.ensures three own;
-      reply = shows_none_lem (card_at (format_of c.args.v) c.args.image.now c.args.formed.command.card) c.args.formed.command c.args.reply.now one two;
+      reply = shows_none_lem (card_at (format_of c.args.v) c.args.image.now c.args.c.card) c.args.c c.args.reply.now one two;
     }

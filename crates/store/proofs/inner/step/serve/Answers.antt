@@ -26,8 +26,8 @@ returns-then-count-formed-clause-served c =
     whole.0 (rw (← whole.1, ← c.count.ensures) (le-ltb _ _ c.if-count-formed.true)))
     c.refusal-then-count-formed.ensures refl refl
 
-pub carry-requires : goal.carry-requires
-carry-requires c =
+pub carry_formed-requires : goal.carry_formed-requires
+carry_formed-requires c =
     let f = format_of c.args.v in
     let command = c.args.command.now in
     let whole = found _ _ _ c.formed.ensures.tests c.formed.ensures.numbers c.in-Some.is in (
@@ -42,7 +42,7 @@ returns c =
     let f = format_of c.args.v in
     let command = c.args.command.now in
     let whole = found _ _ _ c.formed.ensures.tests c.formed.ensures.numbers c.in-Some.is in
-    let done = c.carry.ensures in
+    let done = c.carry_formed.ensures in
     let left = serves (serve_found f c.args.image.now command c.args.reply.now c.requires
     whole.0 whole.1 (behind_place f command c.layout-start.ensures.fixed) (rw (← c.count.ensures) c.if-count-formed.false))
     done.answer done.image done.reply in record {

@@ -11,7 +11,7 @@ use Rattle.store.proofs.Acts.{told_is}
 use Rattle.store.proofs.Kept.{header_in, keeps_parts}
 use Rattle.store.proofs.Step.{exits, refuses, accepts}
 use Rattle.store.specs.declared.inner.effects.Effect.{Effect}
-use Rattle.store.proofs.inner.step.carry.Goals as goal
+use Rattle.store.proofs.inner.step.carry_formed.Goals as goal
 
 pub entry_at-e-requires : goal.entry_at-e-requires
 entry_at-e-requires c = (entry_lies (format_of c.args.v) c.args.image.now (to_T c.requires.0) _ c.requires.1, c.requires.2)
@@ -28,8 +28,17 @@ returns-then-is_err c =
 pub act-effect-requires : goal.act-effect-requires
 act-effect-requires c =
     let left = accepts (format_of c.args.v) c.args.image.now c.args.formed.command c.args.text.now c.args.reply.now
-    c.entry_at-e.ensures c.room.ensures c.args.formed.by_rules _ c.outcome-outcome.ensures (c.is_err.ensures.negation ∙ ap not c.if-is_err.false) in
-    (c.requires.0, c.requires.1, c.requires.2, c.entry_at-e.ensures, left.lent, omega (arith, left.payload, c.requires.3), left.unspent)
+    c.entry_at-e.ensures c.room.ensures c.args.formed.by_rules _ c.outcome-outcome.ensures (c.is_err.ensures.negation ∙ ap not c.if-is_err.false) in (
+      c.requires.0,
+      c.requires.1,
+      c.requires.2,
+      c.entry_at-e.ensures,
+      left.lent,
+      omega (arith, left.payload, c.requires.3),
+      left.unspent,
+      c.args.formed.by_rules,
+      c.args.formed.of_command,
+    )
 
 pub store_stamps-requires : goal.store_stamps-requires
 store_stamps-requires c = omega (arith, entry_lies (format_of c.args.v) c.args.image.now (to_T c.requires.0) _ c.requires.1, c.act-effect.auto.image)

@@ -8,7 +8,7 @@ use Rattle.redo_log.specs.inner.Placed.{Placed, placed_at}
 use Rattle.redo_log.proofs.Placed.{turned, ended}
 use Rattle.transaction_steps.specs.inner.Surveyed.{surveyed}
 use Rattle.transaction_steps.proofs.Laws.{surveyed_none}
-use Rattle.transaction_steps.proofs.inner.survey_of.Goals as goal
+use Rattle.transaction_steps.proofs.inner.survey_records.Goals as goal
 
 pub loop-record-init : goal.loop-record-init
 loop-record-init c =

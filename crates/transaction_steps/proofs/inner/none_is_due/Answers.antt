@@ -12,7 +12,7 @@ use Rattle.redo_log.proofs.ReadBack.{length_records}
 use Rattle.redo_recovery_model.specs.Recovery.{due}
 use Rattle.redo_recovery.specs.inner.Step.{due_by}
 use Rattle.redo_recovery.proofs.Laws.{due_at}
-use Rattle.transaction_steps.proofs.inner.none_due.Goals as goal
+use Rattle.transaction_steps.proofs.inner.none_is_due.Goals as goal
 
 pub loop-record-init : goal.loop-record-init
 loop-record-init c =
